@@ -4,3 +4,4 @@ pub mod Customer
 pub mod Vehicle
 pub mod Refusal
 pub mod Fine
+pub mod Unread

@@ -23,9 +23,13 @@ fixedCostInDistance van = cond (lt zero64 (van .«cost_per_distance»)) (van .«
 abbrev pub limitIf : Bool → Float → Limit
 limitIf present most = cond present (AtMost most) Unlimited
 
+-- the numbers of the van's break
+abbrev pub breakOf : Van → VehicleBreak
+breakOf van = record { earliest = van .earliest; latest = van .latest; duration = van .duration }
+
 -- the van's break, where its flag is on
 abbrev pub restOf : Van → Rest
-restOf van = cond (bit2 (van .flags)) (Break (record { earliest = van .earliest; latest = van .latest; duration = van .duration })) NoBreak
+restOf van = cond (bit2 (van .flags)) (Break (breakOf van)) NoBreak
 
 -- `RouteLimits::of`: 'flags (bit 0 distance limit, bit 1 duration limit, bit 2 break)'
 unfoldable pub limitsOf : Van → RouteLimits
