@@ -16,8 +16,9 @@ use Rattle.numbers.specs.Total.{every, total, sumOf}
 use Rattle.numbers.proofs.Order.{same-test, eq→test, eq-val}
 use Rattle.numbers.proofs.Sign.{round-clear, add-clear, sub-clear, total-clear}
 use Rattle.numbers.proofs.Mono.{plus-le, less-le}
+use Rattle.numbers.proofs.Fold.{every-imp}
 use Rattle.numbers.proofs.Data.{eq-data, eq-bits}
-use Rattle.numbers.proofs.Whole.{add-whole, sub-whole, shift-whole, le-whole, of-int-whole, is-whole-clear, every-imp, total-whole, sum-le}
+use Rattle.numbers.proofs.Whole.{add-whole, sub-whole, shift-whole, le-whole, of-int-whole, is-whole-clear, total-whole, sum-le}
 
 -- ---- one number, one float
 same-value : {x y : Float} {p n c : ℕ} → 0 < c → Val x p n c → Val y p n c → T (eq x y)
