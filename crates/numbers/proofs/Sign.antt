@@ -8,11 +8,11 @@ use native.Mathlib.Nat.{lt-irrefl}
 use native.Mathlib.Omega.{arith}
 use borrow.Author.Tests.{le-ltb}
 use lib.Dec.{T, ltb, eqb·suc-zero, leb→le, ltb→lt}
-use lib.Ieee.{Float, nan, inf, fin, Format, binary64, prec, emax, low, up, down, neg, isNan, le, odd, units, round, sum, add, sub, mul, div}
+use lib.Ieee.{Float, ofBits, nan, inf, fin, Format, binary64, prec, emax, low, up, down, neg, isNan, le, odd, units, round, sum, add, sub, mul, div}
 use lib.Ieee.Scale.{finite}
 use lib.Ieee.Fits.{and-l, and-r}
 use lib.Ieee.Positive.{positive}
-use Rattle.numbers.specs.Value.{ordered, clear, less}
+use Rattle.numbers.specs.Value.{nought, ordered, clear, less}
 use Rattle.numbers.specs.Total.{every, total}
 use Rattle.numbers.proofs.Order.{le-parts}
 
@@ -21,6 +21,10 @@ unfolding isNan
 clear-ordered nan h = h
 clear-ordered (inf s) h = tt
 clear-ordered (fin s m e) h = tt
+
+pub nought-clear : T (clear nought)
+unfolding ofBits
+nought-clear = tt
 
 pub clear-less : (x : Float) → T (clear x) → less x ≡ 0
 clear-less nan h = refl
