@@ -59,8 +59,10 @@ unfolding total
 total-fits [] z h = h
 total-fits (x ∷ xs) z h = total-fits xs (add binary64 z x) (add-fits binary64 z x)
 
-pub total-bits : (b : ℕ) (xs : List Float) (z : Float) (k : ℕ) → T (fits binary64 z) → T (clear z) → Whole z k 0 → T (every (isWhole b) xs) → k + b * length xs ≤ 2 ^ 53
+pub total-bits : (b : ℕ) (xs : List Float) (z : Float) (k : ℕ) → T (fits binary64 z) → T (clear z) → Whole z k 0 → T (every (isWhole b) xs)
+    → k + b * length xs ≤ 2 ^ 53
     → total z xs ≡ ofInt binary64 (pos (sumOf k xs))
 total-bits b xs z k u c h e l =
     let s = sum-le b xs k e in
-    whole-is (total-fits xs z u) (total-clear xs z c (every-imp (isWhole b) clear (is-whole-clear b) xs e)) (total-whole b xs z k 0 h e l (omega arith)) (omega arith)
+    whole-is (total-fits xs z u) (total-clear xs z c (every-imp (isWhole b) clear (is-whole-clear b) xs e)) (total-whole b xs z k 0 h e l (omega arith))
+    (omega arith)

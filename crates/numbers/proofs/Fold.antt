@@ -42,7 +42,8 @@ unfolding every
 every-end t xs i h = rw (drop-of-length-le xs h)
 
 -- ---- a loop that keeps one number
-module _ (g : Float → List Float → Float) (step : Float → Float → Float) (none : (z : Float) → g z [] ≡ z) (more : (z x : Float) (xs : List Float) → g z (x ∷ xs) ≡ g (step z x) xs) where
+module _ (g : Float → List Float → Float) (step : Float → Float → Float) (none : (z : Float) → g z [] ≡ z)
+    (more : (z x : Float) (xs : List Float) → g z (x ∷ xs) ≡ g (step z x) xs) where
   turn : (xs : List Float) (z : Float) (i : ℕ) → i < length xs → g z (drop i xs) ≡ g (step z (getD xs i nan)) (drop (i + 1) xs)
   turn xs z i h = rw (add-one i) (ap (g z) (drop-cons xs i nan h) ∙ more z (getD xs i nan) (drop (suc i) xs))
 
@@ -100,7 +101,8 @@ later xs w (inl p) (inl e) = inl (e ∙ p)
 later xs w (inr p) (inl e) = inr (0, zero-lt-suc (length xs), e ∙ p)
 later xs w s (inr v) = inr (suc (v .0), omega (arith, v .1), v .2)
 
-module _ (g : Float → List Float → Float) (step : Float → Float → Float) (none : (z : Float) → g z [] ≡ z) (more : (z x : Float) (xs : List Float) → g z (x ∷ xs) ≡ g (step z x) xs)
+module _ (g : Float → List Float → Float) (step : Float → Float → Float) (none : (z : Float) → g z [] ≡ z)
+    (more : (z x : Float) (xs : List Float) → g z (x ∷ xs) ≡ g (step z x) xs)
     (one : (z x : Float) → (step z x ≡ z) ⊎ (step z x ≡ x)) where
   pub chosen-is : (xs : List Float) (z : Float) → Chosen z xs (g z xs)
   chosen-is [] z = inl (none z)
@@ -113,23 +115,28 @@ module _ (g : Float → List Float → Float) (step : Float → Float → Float)
   pub chosen-passes : (t : Float → Bool) (xs : List Float) (z : Float) → T (t z) → T (every t xs) → T (t (g z xs))
   unfolding every
   chosen-passes t [] z h e = rw (none z) h
-  chosen-passes t (x ∷ xs) z h e = rw (more z x xs) (chosen-passes t xs (step z x) (step-passes t z x h (and-l (t x) (every t xs) e)) (and-r (t x) (every t xs) e))
+  chosen-passes t (x ∷ xs) z h e =
+      rw (more z x xs) (chosen-passes t xs (step z x) (step-passes t z x h (and-l (t x) (every t xs) e)) (and-r (t x) (every t xs) e))
 
   -- and it is as good as each of them, where a step's result is as good as both
-  module _ (good : Float → Float → Bool) (self : (x : Float) → T (ordered x) → T (good x x)) (through : (x y z : Float) → T (good x y) → T (good y z) → T (good x z))
+  module _ (good : Float → Float → Bool) (self : (x : Float) → T (ordered x) → T (good x x))
+      (through : (x y z : Float) → T (good x y) → T (good y z) → T (good x z))
       (both : (z x : Float) → T (ordered z) → T (ordered x) → T (good (step z x) z) × T (good (step z x) x)) where
     pub chosen-start : (xs : List Float) (z : Float) → T (ordered z) → T (every ordered xs) → T (good (g z xs) z)
     unfolding every
     chosen-start [] z h e = rw (none z) (self z h)
     chosen-start (x ∷ xs) z h e =
         let k = and-l (ordered x) (every ordered xs) e in
-        rw (more z x xs) (through (g (step z x) xs) (step z x) z (chosen-start xs (step z x) (step-passes ordered z x h k) (and-r (ordered x) (every ordered xs) e)) (both z x h k .0))
+        rw (more z x xs) (through (g (step z x) xs) (step z x) z
+        (chosen-start xs (step z x) (step-passes ordered z x h k) (and-r (ordered x) (every ordered xs) e)) (both z x h k .0))
 
     pub chosen-best : (xs : List Float) (z : Float) (i : ℕ) → T (ordered z) → T (every ordered xs) → i < length xs → T (good (g z xs) (getD xs i nan))
     unfolding every
     chosen-best [] z i h e l = absurd (not-suc-le-zero l)
     chosen-best (x ∷ xs) z zero h e l =
         let k = and-l (ordered x) (every ordered xs) e in
-        rw (more z x xs) (through (g (step z x) xs) (step z x) x (chosen-start xs (step z x) (step-passes ordered z x h k) (and-r (ordered x) (every ordered xs) e)) (both z x h k .1))
+        rw (more z x xs) (through (g (step z x) xs) (step z x) x
+        (chosen-start xs (step z x) (step-passes ordered z x h k) (and-r (ordered x) (every ordered xs) e)) (both z x h k .1))
     chosen-best (x ∷ xs) z (suc i) h e l =
-        rw (more z x xs) (chosen-best xs (step z x) i (step-passes ordered z x h (and-l (ordered x) (every ordered xs) e)) (and-r (ordered x) (every ordered xs) e) (le-of-suc-le-suc l))
+        rw (more z x xs) (chosen-best xs (step z x) i (step-passes ordered z x h (and-l (ordered x) (every ordered xs) e))
+        (and-r (ordered x) (every ordered xs) e) (le-of-suc-le-suc l))

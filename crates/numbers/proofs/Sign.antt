@@ -1,4 +1,5 @@
--- Signs: the sum, the product and the quotient of sign-clear numbers is sign-clear, and so is a difference that is not below zero. So no sum of distances is -0.
+-- Signs: the sum, the product and the quotient of sign-clear numbers is sign-clear, and so is a difference that is not below zero. So no sum of distances is
+-- -0.
 -- It is because `round` keeps the sign that it is given, and a sum that is exactly zero has its sign set only where both summands have.
 use mathlib.Core.Path.{_≡_, refl}
 use mathlib.Core.Bool.{Bool, true, false, cond}
@@ -86,7 +87,8 @@ add-clear f (fin false m e) (fin false n d) h k = round-clear f (m * up e * down
 pub total-clear : (xs : List Float) (z : Float) → T (clear z) → T (every clear xs) → T (clear (total z xs))
 unfolding total every
 total-clear [] z h k = h
-total-clear (x ∷ xs) z h k = total-clear xs (add binary64 z x) (add-clear binary64 z x h (and-l (clear x) (every clear xs) k)) (and-r (clear x) (every clear xs) k)
+total-clear (x ∷ xs) z h k =
+    total-clear xs (add binary64 z x) (add-clear binary64 z x h (and-l (clear x) (every clear xs) k)) (and-r (clear x) (every clear xs) k)
 
 difference-clear : (f : Format) (a b c : ℕ) → b ≤ a → T (clear (sum f false a true b c))
 unfolding sum
