@@ -8,7 +8,7 @@ use lib.IntN.{ℤ, pos}
 use lib.Dec.{leb}
 use lib.ListN.{length, getD}
 use lib.Ieee.{Float, nan}
-use Rattle.numbers.specs.Value.{plain}
+use Rattle.numbers.specs.Plain.{plain}
 use Rattle.tests.specs.All.{allBelow, unless}
 use Rattle.day.specs.Day.{Day, dayOf, bit0, bit1, bit2}
 use Rattle.day.specs.Customer.{windowAt}

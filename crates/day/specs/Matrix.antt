@@ -11,7 +11,7 @@ use lib.Seq.{drop-cons}
 use native.Mathlib.Numerals.{add-one}
 use lib.Ieee.{Float, nan, eq}
 use Rattle.numbers.specs.Operations.{zero64}
-use Rattle.numbers.specs.Value.{larger, largest}
+use Rattle.numbers.specs.Total.{larger, largest}
 use Rattle.tests.specs.All.{allBelow}
 
 -- 01: 'Distances: L times L numbers, row = from' (`get`)

@@ -8,7 +8,7 @@ use lib.Signed.{leZ}
 use lib.ListN.{length, getD}
 use lib.Ieee.{Float, nan, fin, lt, le, eq}
 use Rattle.numbers.specs.Operations.{zero64}
-use Rattle.numbers.specs.Value.{plain}
+use Rattle.numbers.specs.Plain.{plain}
 use Rattle.tests.specs.All.{allBelow, unless}
 use Rattle.day.specs.Day.{Day, bit0, bit1, bit2}
 use Rattle.day.specs.Customer.{numDepots}

@@ -1,7 +1,7 @@
 // distance/matrix.rs over lent tables. The infinite answers outside the size can't occur: callers show that both places are locations.
 ghost use mathlib.Core.Path.{_≡_};
 ghost use Prim.Native.Nat.{_<_};
-ghost use Rattle.numbers.specs.Value.{larger};
+ghost use Rattle.numbers.specs.Total.{larger};
 ghost use Rattle.day.specs.Matrix.{leg, travel, scaleOf, mirrored, symmetric, Square, Tables};
 
 // The distance from a location to a location.

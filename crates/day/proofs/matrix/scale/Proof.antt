@@ -4,7 +4,7 @@ use Prim.Native.Nat.{_-_, _≤_}
 use mathlib.Core.Path.{_≡_, refl, sym, _∙_}
 use lib.ListN.{length, drop}
 use lib.Ieee.{ofBits}
-use Rattle.numbers.specs.Value.{largest}
+use Rattle.numbers.specs.Total.{largest}
 use Rattle.day.specs.Matrix.{scaleOf, largest-turn, largest-end}
 use Rattle.day.proofs.matrix.scale.Statement.{statement}
 use Rattle.day.proofs.matrix.scale.Tie as tie

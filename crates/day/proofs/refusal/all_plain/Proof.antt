@@ -5,7 +5,7 @@ use mathlib.Core.Path.{_≡_, sym}
 use mathlib.Core.Bool.{true}
 use lib.ListN.{length, getD}
 use lib.Ieee.{nan}
-use Rattle.numbers.specs.Value.{plain}
+use Rattle.numbers.specs.Plain.{plain}
 use Rattle.tests.specs.All.{allBelow, all-none, all-more, all-fails, all-end, no, yes}
 use Rattle.day.specs.Refusal.{allPlain}
 use Rattle.day.proofs.refusal.all_plain.Statement.{statement}
