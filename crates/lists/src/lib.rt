@@ -1,0 +1,1 @@
+// The flat visit table and its lengths.
