@@ -1,2 +1,3 @@
 pub mod Total
 pub mod Table
+pub mod Refused

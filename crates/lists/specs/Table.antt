@@ -7,6 +7,7 @@ use native.Mathlib.Nat.{zero-add, add-assoc}
 use native.Mathlib.Omega.{arith}
 use lib.ListN.{length, getD, set, take, drop, length-append, length-drop, length-take, take-append-drop}
 use lib.Seq.{take-nil, take-length, set-getD, take-append-seam, drop-append-seam, drop-drop, take-append-add, drop-append-add, length-take-le}
+use borrow.Rule.Slice.PartMut.{putMid, post-is}
 use Rattle.lists.specs.Total.{total, sum, total-append}
 
 -- the lists that the tables hold: each takes its length's worth of the visits that the lists before it leave
@@ -35,6 +36,12 @@ listOf visits lengths r = take (getD lengths r 0) (drop (startOf lengths r) visi
 -- the visits with another list, of any length, in the place of list r
 unfoldable pub withList : List ℕ → List ℕ → ℕ → List ℕ → List ℕ
 withList visits lengths r new = take (startOf lengths r) visits ++ (new ++ drop (startOf lengths r + getD lengths r 0) visits)
+
+-- what every edit of the tables asks, and keeps: at most 16 lists, whose lengths add up to the table, of 16 times 63 visits at most
+pub record Laid (visits lengths : List ℕ) : Type 0 where
+  pub few : length lengths ≤ 16
+  pub add-up : sum lengths ≡ length visits
+  pub size : length visits ≤ 1008
 
 -- ---- laws
 
@@ -117,6 +124,10 @@ start-more [] r = rw take-nil
 start-more (n ∷ lengths) zero = omega arith
 start-more (n ∷ lengths) (suc r) = let rest = start-more lengths r in omega arith
 
+pub start-none : (lengths : List ℕ) → 0 ≡ startOf lengths 0
+unfolding startOf
+start-none lengths = refl
+
 pub start-all : (lengths : List ℕ) → startOf lengths (length lengths) ≡ sum lengths
 unfolding startOf
 start-all lengths = rw take-length
@@ -134,6 +145,15 @@ unfolding startOf
 start-within [] r = rw take-nil (omega arith)
 start-within (n ∷ lengths) zero = omega arith
 start-within (n ∷ lengths) (suc r) = let rest = start-within lengths r in omega arith
+
+-- the part from a start to that start and the list's length is the list; and the part given back as `new` is that list in its place
+pub part-is : (visits lengths : List ℕ) (r a : ℕ) → a ≡ startOf lengths r → take (a + getD lengths r 0 - a) (drop a visits) ≡ listOf visits lengths r
+unfolding listOf
+part-is visits lengths r a e = let n : a + getD lengths r 0 - a ≡ getD lengths r 0 = omega arith in rw (n, e)
+
+pub put-is : (visits lengths new : List ℕ) (r a : ℕ) → a ≡ startOf lengths r → putMid a (a + getD lengths r 0 - a) visits new ≡ withList visits lengths r new
+unfolding withList
+put-is visits lengths new r a e = rw (post-is a (a + getD lengths r 0) visits (omega arith), e)
 
 -- ---- laws of two tables whose lengths add up
 
