@@ -1,11 +1,13 @@
 -- What is refused of the lists: document 01's table, 8 to 10, in its order. Assumes nothing.
-use Prim.Native.Nat.{ℕ}
+use Prim.Native.Nat.{ℕ, _-_, _≤_, _<_}
+use mathlib.Core.Logic.{_≢_}
 use mathlib.Core.List.{List}
 use mathlib.Core.Bool.{Bool, not, _&&_}
 use lib.Dec.{eqb, leb, ltb}
 use lib.ListN.{length, getD}
 use Rattle.tests.specs.All.{allBelow, unless}
 use Rattle.lists.specs.Total.{sum}
+use Rattle.lists.specs.Table.{Laid}
 
 -- 01, refused 8: 'any list longer than 63'
 unfoldable pub allShort : List ℕ → Bool
@@ -37,3 +39,20 @@ tableRefusal depots l visits lengths =
 -- the same of an entry that asks for a list, by 8's last clause: 'a list asked for by a number (from 0) not below their count'
 unfoldable pub listsRefusal : ℕ → ℕ → List ℕ → List ℕ → ℕ → ℕ
 listsRefusal depots l visits lengths asked = unless (ltb asked (length lengths)) 8 (tableRefusal depots l visits lengths)
+
+-- what lists that aren't refused tell, of an entry that asks for no list (proofs/Fine.antt has the laws)
+pub record TableFine (depots l : ℕ) (visits lengths : List ℕ) : Type 0 where
+  -- at most 16 lists, whose lengths add up to the table
+  pub laid : Laid visits lengths
+  pub short : (r : ℕ) → getD lengths r 0 ≤ 63
+  -- each visit is an office
+  pub office : (k : ℕ) → k < length visits → depots ≤ getD visits k 0
+  pub below : (k : ℕ) → k < length visits → getD visits k 0 < l
+  -- no two positions hold the same, so that there are no more visits than offices
+  pub apart : (i j : ℕ) → i < j → j < length visits → getD visits i 0 ≢ getD visits j 0
+  pub at-most : length visits ≤ l - depots
+
+-- and of one that asks for a list
+pub record ListsFine (depots l : ℕ) (visits lengths : List ℕ) (asked : ℕ) : Type 0 where
+  pub table : TableFine depots l visits lengths
+  pub there : asked < length lengths
