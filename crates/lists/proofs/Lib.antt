@@ -1,2 +1,3 @@
 pub mod Pigeonhole
 pub mod Fine
+pub mod Packing

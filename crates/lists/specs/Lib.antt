@@ -1,3 +1,4 @@
 pub mod Total
 pub mod Table
 pub mod Refused
+pub mod Edits

@@ -1,10 +1,12 @@
 // The lists of a call: one table of visits, the lists one after another, and one of their lengths. What is refused of them (document 01's table, 8 to 10),
 // where a list lies, and the edits of both tables in place. Each edit equals its definition on a list of lists (specs/Table.antt says how the two go together).
 ghost use mathlib.Core.Path.{_≡_};
+ghost use mathlib.Core.List.{[], _∷_};
 ghost use Prim.Native.Nat.{_≤_, _<_};
 ghost use lib.ListN.{length};
 ghost use Rattle.lists.specs.Table.{Laid, startOf, listOf};
 ghost use Rattle.lists.specs.Refused.{allShort, shapeOk, visitOk, visitsOk, newAt, distinct, tableRefusal, listsRefusal};
+ghost use Rattle.lists.specs.Edits.{nonzero, packed};
 
 // Where list r starts in the table of visits: sixteen lengths can't wrap.
 pub fn start_of(lengths: &[u16], r: usize) -> usize
@@ -137,4 +139,32 @@ pub fn lists_refusal(depots: usize, l: usize, visits: &[u16], lengths: &[u16], a
         return 8;
     }
     table_refusal(depots, l, visits, lengths)
+}
+
+// 1 for a list that has a visit, 0 for an empty one.
+fn one_if_filled(n: u16) -> usize
+    ensures { λ r. ⌜ r ≡ length (nonzero (n ∷ [])) ⌝ }
+{
+    if n == 0 {
+        return 0;
+    }
+    1
+}
+
+// Drops the empty lists: their lengths go to the end, the others keep their order, and the answer is how many these are. Behind the `kept` that are
+// packed there are only zeros up to i, so that the length at i changes places with the first of them.
+pub fn drop_empty(lengths: &mut [u16]) -> usize
+    ensures count { λ r. ⌜ r ≡ length (nonzero (now (lengths .entry))) ⌝ }
+    ensures lengths { λ _. ⌜ now (lengths .exit) ≡ packed (now (lengths .entry)) ⌝ }
+{
+    let mut kept: usize = 0;
+    let mut i = 0;
+    while i < lengths.len() {
+        let n = lengths[i];
+        lengths[i] = 0;
+        lengths[kept] = n;
+        kept += one_if_filled(n);
+        i += 1;
+    }
+    kept
 }
