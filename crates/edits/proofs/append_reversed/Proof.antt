@@ -1,70 +1,60 @@
+-- `edits::append_reversed` meets its contract. The invariant: the first i visits of the reversed part stand behind the first `count`.
+use native.Mathlib.Omega.{arith}
+use Prim.Native.Nat.{_-_}
+use mathlib.Core.List.{reverse}
 use borrow.Author.Needs.{needs}
+use lib.ListN.{length, length-reverse}
+use Rattle.edits.proofs.Chain.{Storing, storing-none, storing-more, storing-all, getD-reverse}
 use Rattle.edits.proofs.append_reversed.Statement.{statement}
 use Rattle.edits.proofs.append_reversed.Tie as tie
-use Rattle.edits.proofs.append_reversed.Reads as reads
-use Rattle.edits.proofs.append_reversed.Lts as lts
 
 abbrev Inv-loop : tie.InvT-loop
-Inv-loop buffer₀ count part i₀ buffer i = ?
+Inv-loop buffer₀ count part i₀ buffer i = Storing count (reverse part) buffer₀ i buffer
 
 abbrev μ-loop : tie.MeasureT-loop
-μ-loop buffer₀ count part i₀ buffer i = ?
+μ-loop buffer₀ count part i₀ buffer i = length part - i
 
--- src/lib.rt:100:5
 loop-holds : tie.Need-loop-holds Inv-loop μ-loop
-loop-holds c = search needs
+loop-holds c = storing-none _ _ _
 
--- src/lib.rt:101:34
 sub-buffer : tie.Need-sub-buffer Inv-loop μ-loop
 sub-buffer c = search needs
 
--- src/lib.rt:101:34
 sub-buffer-2 : tie.Need-sub-buffer-2 Inv-loop μ-loop
 sub-buffer-2 c = search needs
 
--- src/lib.rt:101:29
 mul-buffer : tie.Need-mul-buffer Inv-loop μ-loop
 mul-buffer c = search needs
 
--- src/lib.rt:101:29
 shared-slice-read-buffer : tie.Need-shared-slice-read-buffer Inv-loop μ-loop
 shared-slice-read-buffer c = search needs
 
--- src/lib.rt:101:16
 add-buffer : tie.Need-add-buffer Inv-loop μ-loop
 add-buffer c = search needs
 
--- src/lib.rt:101:9
 mul-buffer-2 : tie.Need-mul-buffer-2 Inv-loop μ-loop
 mul-buffer-2 c = search needs
 
--- src/lib.rt:101:9
 slice-write-buffer : tie.Need-slice-write-buffer Inv-loop μ-loop
 slice-write-buffer c = search needs
 
--- src/lib.rt:102:9
 add-i : tie.Need-add-i Inv-loop μ-loop
 add-i c = search needs
 
--- src/lib.rt:100:5
 loop-less : tie.Need-loop-less Inv-loop μ-loop
 loop-less c = search needs
 
--- src/lib.rt:100:5
 loop-again : tie.Need-loop-again Inv-loop μ-loop
-loop-again c = search needs
+loop-again c = storing-more _ _ _ _ _ _ (rw length-reverse (c .before .before .before .pre)) (rw length-reverse (c .before .loop-test .taken)) (getD-reverse _ _ (c .before .loop-test .taken)) (c .before .before .loop .inv)
 
--- src/lib.rt:104:5
 add-result : tie.Need-add-result Inv-loop μ-loop
 add-result c = search needs
 
--- src/lib.rt:95:1
 same-length : tie.Need-same-length Inv-loop μ-loop
-same-length c = search needs
+same-length c = c .before .loop .inv .same-length
 
--- src/lib.rt:95:1
 returns : tie.Need-returns Inv-loop μ-loop
-returns c = search needs
+returns c = storing-all _ _ _ _ _ (rw length-reverse (c .before .before .pre)) (rw length-reverse (c .loop-test .left)) (c .before .loop .inv)
 
 pub append-reversed-spec : {M : Type 1} → statement M
 append-reversed-spec =

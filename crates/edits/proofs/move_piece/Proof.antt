@@ -1,37 +1,32 @@
+-- `edits::move_piece` meets its contract: the piece and the visits between it and its new place are neighbours, which change places.
+use mathlib.Core.Path.{sym, _∙_}
+use mathlib.Core.Logic.{⊎-elim}
+use native.Mathlib.Omega.{arith}
 use borrow.Author.Needs.{needs}
+use Rattle.edits.proofs.Turns.{put-earlier, put-later}
 use Rattle.edits.proofs.move_piece.Statement.{statement}
 use Rattle.edits.proofs.move_piece.Tie as tie
-use Rattle.edits.proofs.move_piece.Reads as reads
-use Rattle.edits.proofs.move_piece.Lts as lts
-use Rattle.edits.proofs.exchange_stretches.Reads as exchange-stretches-reads
 
--- src/lib.rt:61:18
 add-behind : tie.Need-add-behind
 add-behind c = search needs
 
--- src/lib.rt:63:9
 exchange-stretches-requires : tie.Need-exchange-stretches-requires
 exchange-stretches-requires c κs = search needs
 
--- src/lib.rt:64:9
 same-length : tie.Need-same-length
 same-length c = search needs
 
--- src/lib.rt:64:9
 returns : tie.Need-returns
-returns c = search needs
+returns c = c .before .before .exchange-stretches .ensures ∙ sym (put-earlier _ _ _ _ (c .before .before .before .before .if1 .taken))
 
--- src/lib.rt:66:5
 exchange-stretches-requires-2 : tie.Need-exchange-stretches-requires-2
-exchange-stretches-requires-2 c κs = search needs
+exchange-stretches-requires-2 c κs = ⊎-elim (λ earlier. search needs) (λ later. search needs) (c .before .before .before .pre .2)
 
--- src/lib.rt:55:1
 same-length-2 : tie.Need-same-length-2
 same-length-2 c = search needs
 
--- src/lib.rt:55:1
 returns-2 : tie.Need-returns-2
-returns-2 c = search needs
+returns-2 c = c .before .before .exchange-stretches2 .ensures ∙ sym (put-later _ _ _ _ (c .before .before .before .before .if1 .left))
 
 pub move-piece-spec : {M : Type 1} → statement M
 move-piece-spec =
