@@ -48,7 +48,7 @@ loop-again : tie.Need-loop-again Inv-loop μ-loop
 loop-again c = storing-more _ _ _ _ _ _ (rw length-reverse (c .before .before .before .pre)) (rw length-reverse (c .before .loop-test .taken)) (getD-reverse _ _ (c .before .loop-test .taken)) (c .before .before .loop .inv)
 
 add-result : tie.Need-add-result Inv-loop μ-loop
-add-result c = search needs
+add-result c = omega (arith, length-reverse (c .before .before .args .part .now))
 
 same-length : tie.Need-same-length Inv-loop μ-loop
 same-length c = c .before .loop .inv .same-length

@@ -17,7 +17,12 @@ same-length : tie.Need-same-length
 same-length c = search needs
 
 returns : tie.Need-returns
-returns c = rw (c .before .before .reverse3 .ensures, c .before .before .before .before .before .before .reverse2 .ensures, c .before .before .before .before .before .before .before .before .before .before .reverse .ensures) (exchanged-by-reversals _ _ _ _ (c .before .before .before .before .before .before .before .before .before .before .before .before .before .pre .0 .0) (c .before .before .before .before .before .before .before .before .before .before .before .before .before .pre .0 .1) (c .before .before .before .before .before .before .before .before .before .before .before .before .before .pre .1))
+returns c =
+    let second = c .before .before .before .before in
+    let first = second .before .before .before .before in
+    let start = first .before .before .before .before .before in
+    rw (c .before .before .reverse3 .ensures, second .before .before .reverse2 .ensures, first .before .before .reverse .ensures)
+    (exchanged-by-reversals _ _ _ _ (start .pre .0 .0) (start .pre .0 .1) (start .pre .1))
 
 pub exchange-stretches-spec : {M : Type 1} → statement M
 exchange-stretches-spec =

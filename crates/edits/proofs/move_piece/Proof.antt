@@ -20,7 +20,7 @@ returns : tie.Need-returns
 returns c = c .before .before .exchange-stretches .ensures ∙ sym (put-earlier _ _ _ _ (c .before .before .before .before .if1 .taken))
 
 exchange-stretches-requires-2 : tie.Need-exchange-stretches-requires-2
-exchange-stretches-requires-2 c κs = ⊎-elim (λ earlier. search needs) (λ later. search needs) (c .before .before .before .pre .2)
+exchange-stretches-requires-2 c κs = ⊎-elim (λ earlier. search needs) (λ later. search needs) (c .before .before .before .pre .1 .1)
 
 same-length-2 : tie.Need-same-length-2
 same-length-2 c = search needs
