@@ -45,7 +45,11 @@ loop-less : tie.Need-loop-less Inv-loop μ-loop
 loop-less c = search needs
 
 loop-again : tie.Need-loop-again Inv-loop μ-loop
-loop-again c = storing-more _ _ _ _ _ _ (rw length-reverse (c .before .before .before .pre)) (rw length-reverse (c .before .loop-test .taken)) (getD-reverse _ _ (c .before .loop-test .taken)) (c .before .before .loop .inv)
+loop-again c =
+    let loop = c .before .before in
+    let part = loop .before .args .part .now in
+    let below = c .before .loop-test .taken in
+    storing-more _ _ _ _ _ _ (rw length-reverse (loop .before .pre)) (rw length-reverse below) (getD-reverse part (loop .loop .i) below) (loop .loop .inv)
 
 add-result : tie.Need-add-result Inv-loop μ-loop
 add-result c = omega (arith, length-reverse (c .before .before .args .part .now))
