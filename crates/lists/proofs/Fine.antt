@@ -9,8 +9,7 @@ use borrow.Author.Tests.{eqb-true, eqb-false, leb-true, ltb-true, ltb-false, not
 use lib.Dec.{eqb, leb, ltb}
 use lib.ListN.{length, getD, List·getD-eq-default}
 use Rattle.tests.specs.All.{allBelow, all-at, unless, passed, and-first, and-second}
-use Rattle.lists.specs.Total.{sum}
-use Rattle.lists.specs.Table.{Laid}
+use Rattle.lists.specs.Table.{Laid, sum}
 use Rattle.lists.specs.Refused.{allShort, shapeOk, visitOk, visitsOk, newAt, distinct, tableRefusal, listsRefusal, TableFine, ListsFine}
 use Rattle.lists.proofs.Pigeonhole.{pigeonhole}
 

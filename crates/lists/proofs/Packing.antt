@@ -8,8 +8,8 @@ use native.Mathlib.Numerals.{add-one}
 use native.Mathlib.Omega.{arith}
 use lib.ListN.{length, getD, set, take, drop, replicate, length-append, length-replicate, length-drop, length-set}
 use lib.Seq.{drop-drop, take-suc, drop-cons, set-at, take-at, take-length, drop-length, append-snoc, set-append-seam, take-append-add, getD-at, length-take-le}
-use Rattle.lists.specs.Total.{sum, total-append}
-use Rattle.lists.specs.Table.{Laid, lists, length-lists}
+use Rattle.edits.specs.Total.{total-append}
+use Rattle.lists.specs.Table.{Laid, sum, lists, length-lists}
 use Rattle.lists.specs.Edits.{filled, nonzero, packed}
 
 -- ---- the lengths

@@ -1,4 +1,3 @@
-pub mod Total
 pub mod Table
 pub mod Refused
 pub mod Edits

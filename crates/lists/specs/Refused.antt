@@ -6,8 +6,7 @@ use mathlib.Core.Bool.{Bool, not, _&&_}
 use lib.Dec.{eqb, leb, ltb}
 use lib.ListN.{length, getD}
 use Rattle.tests.specs.All.{allBelow, unless}
-use Rattle.lists.specs.Total.{sum}
-use Rattle.lists.specs.Table.{Laid}
+use Rattle.lists.specs.Table.{Laid, sum}
 
 -- 01, refused 8: 'any list longer than 63'
 unfoldable pub allShort : List ℕ → Bool

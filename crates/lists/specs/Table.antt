@@ -8,7 +8,11 @@ use native.Mathlib.Omega.{arith}
 use lib.ListN.{length, getD, set, take, drop, length-append, length-drop, length-take, take-append-drop}
 use lib.Seq.{take-nil, take-length, set-getD, take-append-seam, drop-append-seam, drop-drop, take-append-add, drop-append-add, length-take-le}
 use borrow.Rule.Slice.PartMut.{putMid, post-is}
-use Rattle.lists.specs.Total.{total, sum, total-append}
+use Rattle.edits.specs.Total.{total, total-append}
+
+-- numbers added up
+abbrev pub sum : List ℕ → ℕ
+sum xs = total (λ x. x) xs
 
 -- the lists that the tables hold: each takes its length's worth of the visits that the lists before it leave
 unfoldable pub lists : List ℕ → List ℕ → List (List ℕ)
