@@ -1,7 +1,7 @@
 // distance/matrix.rs over lent tables. The infinite answers outside the size can't occur: callers show that both places are locations.
+use numbers::larger_of;
 ghost use mathlib.Core.Path.{_≡_};
 ghost use Prim.Native.Nat.{_<_};
-ghost use Rattle.numbers.specs.Total.{larger};
 ghost use Rattle.day.specs.Matrix.{leg, travel, scaleOf, mirrored, symmetric, Square, Tables};
 
 // The distance from a location to a location.
@@ -21,15 +21,6 @@ pub fn travel_time(l: usize, distances: &[f64], times: &[f64], from: usize, to: 
         return get(l, distances, from, to);
     }
     get(l, times, from, to)
-}
-
-fn larger_of(a: f64, b: f64) -> f64
-    ensures { λ r. ⌜ r ≡ larger a b ⌝ }
-{
-    if a < b {
-        return b;
-    }
-    a
 }
 
 // The largest distance, from 0.0.

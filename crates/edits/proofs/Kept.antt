@@ -1,0 +1,59 @@
+-- What every edit keeps: every total over the visits, whatever is added up. So how often each office stands in the list, its load, and its length.
+-- An edit only arranges the pieces of a list anew, and a total of pieces is the sum of their totals. Assumes nothing.
+use mathlib.Core.Path.{_≡_, sym, ap, _∙_}
+use mathlib.Core.Logic.{_⊎_, inl, inr}
+use mathlib.Core.List.{List, _++_}
+use Prim.Native.Nat.{ℕ, _+_, _<_, _≤_}
+use native.Mathlib.Omega.{arith}
+use lib.Dec.{eqb}
+use lib.ListN.{length}
+use Rattle.edits.specs.Total.{total, bit, count, SameVisits, sums, total-one}
+use Rattle.edits.specs.Edits.{reversed, exchanged, putBefore, outerExchanged}
+use Rattle.edits.proofs.Cuts.{cut, cut4, cut5}
+use Rattle.edits.proofs.Turns.{put-earlier, put-later}
+
+pub same-length : (xs ys : List ℕ) → SameVisits xs ys → length ys ≡ length xs
+same-length xs ys same = sym (total-one ys) ∙ same (λ x. 1) ∙ total-one xs
+
+pub same-reversed : (from to : ℕ) (xs : List ℕ) → from ≤ to → SameVisits xs (reversed from to xs)
+unfolding reversed
+same-reversed from to xs h f =
+    let whole = simp sums at (ap (total f) (cut xs from to h)) in
+    simp sums whole
+
+pub same-exchanged : (from middle to : ℕ) (xs : List ℕ) → from ≤ middle → middle ≤ to → SameVisits xs (exchanged from middle to xs)
+unfolding exchanged
+same-exchanged from middle to xs h k f =
+    let whole = simp sums at (ap (total f) (cut4 xs from middle to h k)) in
+    simp sums (omega arith)
+
+pub same-outerExchanged : (from a b to : ℕ) (xs : List ℕ) → from ≤ a → a ≤ b → b ≤ to → SameVisits xs (outerExchanged from a b to xs)
+unfolding outerExchanged
+same-outerExchanged from a b to xs h₁ h₂ h₃ f =
+    let whole = simp sums at (ap (total f) (cut5 xs from a b to h₁ h₂ h₃)) in
+    simp sums (omega arith)
+
+pub same-putBefore : (from size to : ℕ) (xs : List ℕ) → ((to < from) ⊎ (from + size ≤ to)) → SameVisits xs (putBefore from size to xs)
+same-putBefore from size to xs (inl earlier) f = rw (put-earlier from size to xs earlier) (same-exchanged to from (from + size) xs (omega arith) (omega arith) f)
+same-putBefore from size to xs (inr later) f = rw (put-later from size to xs (omega arith)) (same-exchanged from (from + size) to xs (omega arith) later f)
+
+-- how often an office stands in the list is such a total
+pub same-count : (office : ℕ) (xs ys : List ℕ) → SameVisits xs ys → count office ys ≡ count office xs
+same-count office xs ys same = same (λ visit. bit (eqb office visit))
+
+-- one edit after another
+pub same-on : (xs ys zs : List ℕ) → SameVisits xs ys → SameVisits ys zs → SameVisits xs zs
+same-on xs ys zs first second f = second f ∙ first f
+
+-- each edit keeps the length
+pub length-reversed : (from to : ℕ) (xs : List ℕ) → from ≤ to → length (reversed from to xs) ≡ length xs
+length-reversed from to xs h = same-length xs (reversed from to xs) (same-reversed from to xs h)
+
+pub length-exchanged : (from middle to : ℕ) (xs : List ℕ) → from ≤ middle → middle ≤ to → length (exchanged from middle to xs) ≡ length xs
+length-exchanged from middle to xs h k = same-length xs (exchanged from middle to xs) (same-exchanged from middle to xs h k)
+
+pub length-putBefore : (from size to : ℕ) (xs : List ℕ) → ((to < from) ⊎ (from + size ≤ to)) → length (putBefore from size to xs) ≡ length xs
+length-putBefore from size to xs h = same-length xs (putBefore from size to xs) (same-putBefore from size to xs h)
+
+pub length-outerExchanged : (from a b to : ℕ) (xs : List ℕ) → from ≤ a → a ≤ b → b ≤ to → length (outerExchanged from a b to xs) ≡ length xs
+length-outerExchanged from a b to xs h₁ h₂ h₃ = same-length xs (outerExchanged from a b to xs) (same-outerExchanged from a b to xs h₁ h₂ h₃)

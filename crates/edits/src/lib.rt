@@ -1,0 +1,114 @@
+// The edits of one list of visits, in place, and the building of a list in a lent buffer.
+//
+// Each function's contract equates its slice at exit with the edit of specs/Edits.antt at entry. All edits but the exchange of two
+// visits are reversals: reversing two neighbours and then the whole exchanges them, and each visit is moved twice at most.
+ghost use mathlib.Core.Path.{_≡_};
+ghost use mathlib.Core.Logic.{_⊎_};
+ghost use mathlib.Core.List.{[], _∷_, reverse};
+ghost use Prim.Native.Nat.{_+_, _<_, _≤_};
+ghost use lib.ListN.{length};
+ghost use Rattle.edits.specs.Edits.{swapped, reversed, exchanged, putBefore, outerExchanged, Appended};
+
+// Exchanges the visits at places i and j.
+fn swap(list: &mut [u16], i: usize, j: usize)
+    requires { ⌜ i < length (now list) ⌝ }
+    requires { ⌜ j < length (now list) ⌝ }
+    ensures { λ _. ⌜ now (list .exit) ≡ swapped i j (now (list .entry)) ⌝ }
+{
+    let x = list[i];
+    let y = list[j];
+    list[i] = y;
+    list[j] = x;
+}
+
+// Reverses the visits from place `from` up to, not including, place `to`. `left` is the length of the stretch still to reverse,
+// between i and j, so the loop stops before they meet.
+pub fn reverse(list: &mut [u16], from: usize, to: usize)
+    requires { ⌜ from ≤ to ⌝ }
+    requires { ⌜ to ≤ length (now list) ⌝ }
+    ensures { λ _. ⌜ now (list .exit) ≡ reversed from to (now (list .entry)) ⌝ }
+{
+    let mut i = from;
+    let mut j = to;
+    let mut left = to - from;
+    while 1 < left {
+        j = j - 1;
+        swap(list, i, j);
+        i = i + 1;
+        left = left - 2;
+    }
+}
+
+// Exchanges the neighbouring stretches from..middle and middle..to: each is reversed, and then both together.
+pub fn exchange_stretches(list: &mut [u16], from: usize, middle: usize, to: usize)
+    requires { ⌜ (from ≤ middle) × (middle ≤ to) ⌝ }
+    requires { ⌜ to ≤ length (now list) ⌝ }
+    ensures { λ _. ⌜ now (list .exit) ≡ exchanged from middle to (now (list .entry)) ⌝ }
+{
+    reverse(list, from, middle);
+    reverse(list, middle, to);
+    reverse(list, from, to);
+}
+
+// Or-opt's move: the piece of `size` visits at `from` goes before the visit at place `to` of the original list, which is not in it.
+// The piece and what lies between it and that place are neighbours.
+pub fn move_piece(list: &mut [u16], from: usize, size: usize, to: usize)
+    requires { ⌜ from + size ≤ length (now list) ⌝ }
+    requires { ⌜ to ≤ length (now list) ⌝ }
+    requires { ⌜ ((to < from) ⊎ (from + size ≤ to)) ⌝ }
+    ensures { λ _. ⌜ now (list .exit) ≡ putBefore from size to (now (list .entry)) ⌝ }
+{
+    let behind = from + size;
+    if to < from {
+        exchange_stretches(list, to, from, behind);
+        return;
+    }
+    exchange_stretches(list, from, behind, to);
+}
+
+// Exchanges the stretches from..a and b..to round the stretch a..b: each of the three is reversed, and then all together.
+pub fn exchange_outer(list: &mut [u16], from: usize, a: usize, b: usize, to: usize)
+    requires { ⌜ (from ≤ a) × (a ≤ b) × (b ≤ to) ⌝ }
+    requires { ⌜ to ≤ length (now list) ⌝ }
+    ensures { λ _. ⌜ now (list .exit) ≡ outerExchanged from a b to (now (list .entry)) ⌝ }
+{
+    reverse(list, from, a);
+    reverse(list, a, b);
+    reverse(list, b, to);
+    reverse(list, from, to);
+}
+
+// Appends `part` to the first `count` visits of the buffer, and returns how many are in use now.
+pub fn append(buffer: &mut [u16], count: usize, part: &[u16]) -> usize
+    requires { ⌜ count + length (now part) ≤ length (now buffer) ⌝ }
+    ensures { λ r. ⌜ Appended count (now (part .entry)) (now (buffer .entry)) r (now (buffer .exit)) ⌝ }
+{
+    let mut i = 0;
+    while i < part.len() {
+        buffer[count + i] = part[i];
+        i += 1;
+    }
+    count + i
+}
+
+// Appends `part` in the opposite order.
+pub fn append_reversed(buffer: &mut [u16], count: usize, part: &[u16]) -> usize
+    requires { ⌜ count + length (now part) ≤ length (now buffer) ⌝ }
+    ensures { λ r. ⌜ Appended count (reverse (now (part .entry))) (now (buffer .entry)) r (now (buffer .exit)) ⌝ }
+{
+    let mut i = 0;
+    while i < part.len() {
+        buffer[count + i] = part[part.len() - 1 - i];
+        i += 1;
+    }
+    count + i
+}
+
+// Appends one visit.
+pub fn append_one(buffer: &mut [u16], count: usize, visit: u16) -> usize
+    requires { ⌜ count < length (now buffer) ⌝ }
+    ensures { λ r. ⌜ Appended count (visit ∷ []) (now (buffer .entry)) r (now (buffer .exit)) ⌝ }
+{
+    buffer[count] = visit;
+    count + 1
+}

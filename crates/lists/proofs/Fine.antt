@@ -1,0 +1,87 @@
+-- What lists tell that were not refused: each test of the table's 8 to 10 that passed is a fact. Assumes nothing.
+use mathlib.Core.Path.{_≡_, refl, sym, ap, _∙_}
+use mathlib.Core.Logic.{_≢_}
+use mathlib.Core.List.{List, [], _∷_}
+use mathlib.Core.Bool.{Bool, true, false, not}
+use Prim.Native.Nat.{ℕ, zero, suc, _-_, _+_, _*_, _≤_, _<_}
+use native.Mathlib.Omega.{arith}
+use borrow.Author.Tests.{eqb-true, eqb-false, leb-true, ltb-true, ltb-false, not-true}
+use lib.Dec.{eqb, leb, ltb}
+use lib.ListN.{length, getD, List·getD-eq-default}
+use Rattle.tests.specs.All.{allBelow, all-at, unless, passed, and-first, and-second}
+use Rattle.lists.specs.Table.{Laid, sum}
+use Rattle.lists.specs.Refused.{allShort, shapeOk, visitOk, visitsOk, newAt, distinct, tableRefusal, listsRefusal, TableFine, ListsFine}
+use Rattle.lists.proofs.Pigeonhole.{pigeonhole}
+
+-- ---- 8
+
+short-of : (lengths : List ℕ) → allShort lengths ≡ true → (r : ℕ) → getD lengths r 0 ≤ 63
+unfolding allShort
+short-of lengths h r = at (ltb r (length lengths)) refl
+  where
+    at : (b : Bool) → ltb r (length lengths) ≡ b → getD lengths r 0 ≤ 63
+    at true e = leb-true _ _ (all-at (λ k. leb (getD lengths k 0) 63) (length lengths) r (ltb-true _ _ e) h)
+    at false e = rw (List·getD-eq-default lengths 0 (ltb-false r (length lengths) e)) (omega arith)
+
+sum-short : (lengths : List ℕ) → ((r : ℕ) → getD lengths r 0 ≤ 63) → sum lengths ≤ 63 * length lengths
+sum-short [] h = omega arith
+sum-short (n ∷ lengths) h = let rest = sum-short lengths (λ r. h (suc r)) in let first : n ≤ 63 = h 0 in omega arith
+
+shape-short : (visits lengths : List ℕ) → shapeOk visits lengths ≡ true → allShort lengths ≡ true
+unfolding shapeOk
+shape-short visits lengths h =
+    and-second (eqb (sum lengths) (length visits)) (allShort lengths) (and-second (leb (length lengths) 16) _ h)
+
+laid-of : (visits lengths : List ℕ) → shapeOk visits lengths ≡ true → Laid visits lengths
+unfolding shapeOk
+laid-of visits lengths h =
+    let few : length lengths ≤ 16 = leb-true _ _ (and-first (leb (length lengths) 16) _ h) in
+    let rest = and-second (leb (length lengths) 16) _ h in
+    let add-up : sum lengths ≡ length visits = eqb-true _ _ (and-first (eqb (sum lengths) (length visits)) _ rest) in
+    let most = sum-short lengths (short-of lengths (shape-short visits lengths h)) in
+    record { few = few; add-up = add-up; size = omega arith }
+
+-- ---- 9 and 10
+
+new-of : (visits : List ℕ) (j : ℕ) → newAt visits j ≡ true → (i : ℕ) → i < j → getD visits i 0 ≢ getD visits j 0
+unfolding newAt
+new-of visits j h i lt = eqb-false _ _ (not-true _ (all-at (λ k. not (eqb (getD visits k 0) (getD visits j 0))) j i lt h))
+
+apart-of : (visits : List ℕ) → distinct visits ≡ true → (i j : ℕ) → i < j → j < length visits → getD visits i 0 ≢ getD visits j 0
+unfolding distinct
+apart-of visits h i j lt there = new-of visits j (all-at (λ k. newAt visits k) (length visits) j there h) i lt
+
+office-of : (depots l : ℕ) (visits : List ℕ) → visitsOk depots l visits ≡ true
+    → (k : ℕ) → k < length visits → (depots ≤ getD visits k 0) × (getD visits k 0 < l)
+unfolding visitsOk visitOk
+office-of depots l visits h k lt =
+    let here = all-at (λ k. visitOk depots l (getD visits k 0)) (length visits) k lt h in
+    let v = getD visits k 0 in
+    (leb-true _ _ (and-first (leb depots v) (ltb v l) here), ltb-true _ _ (and-second (leb depots v) (ltb v l) here))
+
+-- ---- the laws
+
+pub table-fine : (depots l : ℕ) (visits lengths : List ℕ) → tableRefusal depots l visits lengths ≡ 0 → TableFine depots l visits lengths
+unfolding tableRefusal
+table-fine depots l visits lengths h =
+    let eight = passed _ _ _ h tt in
+    let nine = passed _ _ _ (eight .1) tt in
+    let ten = passed _ _ _ (nine .1) tt in
+    let office : (k : ℕ) → k < length visits → (depots ≤ getD visits k 0) × (getD visits k 0 < l) = office-of depots l visits (nine .0) in
+    let apart : (i j : ℕ) → i < j → j < length visits → getD visits i 0 ≢ getD visits j 0 = apart-of visits (ten .0) in
+    record {
+      laid = laid-of visits lengths (eight .0);
+      short = short-of lengths (shape-short visits lengths (eight .0));
+      office = λ k lt. office k lt .0;
+      below = λ k lt. office k lt .1;
+      apart = apart;
+      at-most =
+          pigeonhole (l - depots) (length visits) (λ k. getD visits k 0 - depots) (λ k lt. omega (arith, office k lt .0, office k lt .1))
+          (λ i j lt there e. apart i j lt there (omega (arith, office i (omega arith) .0, office j there .0)));
+    }
+
+pub lists-fine : (depots l : ℕ) (visits lengths : List ℕ) (asked : ℕ) → listsRefusal depots l visits lengths asked ≡ 0 → ListsFine depots l visits lengths asked
+unfolding listsRefusal
+lists-fine depots l visits lengths asked h =
+    let eight = passed _ _ _ h tt in
+    record { table = table-fine depots l visits lengths (eight .1); there = ltb-true _ _ (eight .0) }

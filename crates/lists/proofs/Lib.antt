@@ -1,0 +1,4 @@
+pub mod Pigeonhole
+pub mod Fine
+pub mod Packing
+pub mod Two

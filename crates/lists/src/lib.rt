@@ -1,0 +1,170 @@
+// The lists of a call: one table of visits, the lists one after another, and one of their lengths. What is refused of them (document 01's table, 8 to 10),
+// where a list lies, and the edits of both tables in place. Each edit equals its definition on a list of lists (specs/Table.antt says how the two go together).
+ghost use mathlib.Core.Path.{_≡_};
+ghost use mathlib.Core.List.{[], _∷_};
+ghost use Prim.Native.Nat.{_≤_, _<_};
+ghost use lib.ListN.{length};
+ghost use Rattle.lists.specs.Table.{Laid, startOf, listOf};
+ghost use Rattle.lists.specs.Refused.{allShort, shapeOk, visitOk, visitsOk, newAt, distinct, tableRefusal, listsRefusal};
+ghost use Rattle.lists.specs.Edits.{nonzero, packed};
+
+// Where list r starts in the table of visits: sixteen lengths can't wrap.
+pub fn start_of(lengths: &[u16], r: usize) -> usize
+    requires { ⌜ (r ≤ length (now lengths)) × (r ≤ 16) ⌝ }
+    ensures { λ x. ⌜ x ≡ startOf (now (lengths .entry)) r ⌝ }
+{
+    let mut sum: usize = 0;
+    let mut i = 0;
+    while i < r {
+        sum += lengths[i] as usize;
+        i += 1;
+    }
+    sum
+}
+
+// List r, as the caller's own part of the table.
+pub fn list_of<'a>(visits: &'a [u16], lengths: &[u16], r: usize) -> &'a [u16]
+    requires { ⌜ Laid (now visits) (now lengths) × (r < length (now lengths)) ⌝ }
+    ensures { λ x. ⌜ now x ≡ listOf (now (visits .entry)) (now (lengths .entry)) r ⌝ }
+{
+    let start = start_of(lengths, r);
+    let n = lengths[r] as usize;
+    let end = start + n;
+    &visits[start..end]
+}
+
+// Whether no list is longer than 63.
+fn all_short(lengths: &[u16]) -> bool
+    ensures { λ r. ⌜ r ≡ allShort (now (lengths .entry)) ⌝ }
+{
+    let mut i = 0;
+    while i < lengths.len() {
+        if lengths[i] > 63 {
+            return false;
+        }
+        i += 1;
+    }
+    true
+}
+
+// Whether 8 holds of no list: few enough, as long in all as the table, and none too long.
+fn shape_ok(visits: &[u16], lengths: &[u16]) -> bool
+    ensures { λ r. ⌜ r ≡ shapeOk (now (visits .entry)) (now (lengths .entry)) ⌝ }
+{
+    let n = lengths.len();
+    if n > 16 {
+        return false;
+    }
+    if start_of(lengths, n) != visits.len() {
+        return false;
+    }
+    all_short(lengths)
+}
+
+// Whether a visit is an office of the day.
+fn visit_ok(depots: usize, l: usize, visit: u16) -> bool
+    ensures { λ r. ⌜ r ≡ visitOk depots l visit ⌝ }
+{
+    let office = visit as usize;
+    if office < depots {
+        return false;
+    }
+    office < l
+}
+
+// Whether each visit is.
+fn visits_ok(depots: usize, l: usize, visits: &[u16]) -> bool
+    ensures { λ r. ⌜ r ≡ visitsOk depots l (now (visits .entry)) ⌝ }
+{
+    let mut i = 0;
+    while i < visits.len() {
+        if !visit_ok(depots, l, visits[i]) {
+            return false;
+        }
+        i += 1;
+    }
+    true
+}
+
+// Whether the office at j stands at no earlier position.
+fn new_at(visits: &[u16], j: usize) -> bool
+    requires { ⌜ j < length (now visits) ⌝ }
+    ensures { λ r. ⌜ r ≡ newAt (now (visits .entry)) j ⌝ }
+{
+    let mut i = 0;
+    while i < j {
+        if visits[i] == visits[j] {
+            return false;
+        }
+        i += 1;
+    }
+    true
+}
+
+// Whether no office stands twice: it stops at the first that does.
+fn all_distinct(visits: &[u16]) -> bool
+    ensures { λ r. ⌜ r ≡ distinct (now (visits .entry)) ⌝ }
+{
+    let mut j = 0;
+    while j < visits.len() {
+        if !new_at(visits, j) {
+            return false;
+        }
+        j += 1;
+    }
+    true
+}
+
+// The first refusal of the lists, 8 to 10, and 0 where there is none, of an entry that asks for no list. Depots are the locations below `depots`.
+pub fn table_refusal(depots: usize, l: usize, visits: &[u16], lengths: &[u16]) -> u8
+    ensures { λ r. ⌜ r ≡ tableRefusal depots l (now (visits .entry)) (now (lengths .entry)) ⌝ }
+{
+    if !shape_ok(visits, lengths) {
+        return 8;
+    }
+    if !visits_ok(depots, l, visits) {
+        return 9;
+    }
+    if !all_distinct(visits) {
+        return 10;
+    }
+    0
+}
+
+// The same of an entry that asks for a list: 8 as well where its number isn't below their count.
+pub fn lists_refusal(depots: usize, l: usize, visits: &[u16], lengths: &[u16], asked: usize) -> u8
+    ensures { λ r. ⌜ r ≡ listsRefusal depots l (now (visits .entry)) (now (lengths .entry)) asked ⌝ }
+{
+    if asked >= lengths.len() {
+        return 8;
+    }
+    table_refusal(depots, l, visits, lengths)
+}
+
+// 1 for a list that has a visit, 0 for an empty one.
+fn one_if_filled(n: u16) -> usize
+    ensures { λ r. ⌜ r ≡ length (nonzero (n ∷ [])) ⌝ }
+{
+    if n == 0 {
+        return 0;
+    }
+    1
+}
+
+// Drops the empty lists: their lengths go to the end, the others keep their order, and the answer is how many these are. Behind the `kept` that are
+// packed there are only zeros up to i, so that the length at i changes places with the first of them.
+pub fn drop_empty(lengths: &mut [u16]) -> usize
+    ensures count { λ r. ⌜ r ≡ length (nonzero (now (lengths .entry))) ⌝ }
+    ensures lengths { λ _. ⌜ now (lengths .exit) ≡ packed (now (lengths .entry)) ⌝ }
+{
+    let mut kept: usize = 0;
+    let mut i = 0;
+    while i < lengths.len() {
+        let n = lengths[i];
+        lengths[i] = 0;
+        lengths[kept] = n;
+        kept += one_if_filled(n);
+        i += 1;
+    }
+    kept
+}
