@@ -1,14 +1,14 @@
 -- The exchanges as reversals: pieces that are turned round each, and then all together, stand in the opposite order, each as it was.
 -- Assumes nothing.
-use mathlib.Core.Path.{_≡_, refl, sym, ap, _∙_}
-use mathlib.Core.List.{List, [], _∷_, _++_, reverse, append-assoc, append-nil, reverse-append, reverse-reverse}
+use mathlib.Core.Path.{_≡_, sym, ap, _∙_}
+use mathlib.Core.List.{List, _++_, reverse, append-assoc, append-nil, reverse-append, reverse-reverse}
 use Prim.Native.Nat.{ℕ, _+_, _-_, _<_, _≤_}
 use native.Mathlib.Omega.{arith}
 use borrow.Author.Tests.{lt-ltb, le-ltb}
-use lib.ListN.{length, take, drop, length-append, length-reverse, take-append-drop}
+use lib.ListN.{length, take, drop, length-append, length-reverse}
 use lib.Seq.{slice, slice-empty, length-take-le, length-slice}
 use Rattle.edits.specs.Edits.{reversed, exchanged, putBefore, outerExchanged}
-use Rattle.edits.proofs.Cuts.{cut, cut4, cut5}
+use Rattle.edits.proofs.Cuts.{cut, cut5}
 use Rattle.edits.proofs.Pieces.{reversed-at}
 
 -- the piece B that comes next, behind the pieces A
@@ -51,23 +51,10 @@ outer-by-reversals from a b to xs h₁ h₂ h₃ k =
     ap (λ (l : List ℕ). reversed from to (reversed b to (reversed a b (reversed from a l)))) pieces
     ∙ four-reversals (take from xs) (slice from a xs) (slice a b xs) (slice b to xs) (drop to xs) from a b to at-from (omega arith) (omega arith) (omega arith)
 
--- an empty stretch reversed
-reversed-none : (i : ℕ) (xs : List ℕ) → reversed i i xs ≡ xs
-unfolding reversed
-reversed-none i xs = rw (slice-empty i xs, append-nil, take-append-drop i xs)
-
 -- neighbouring stretches are outer stretches with nothing between them
 pub outer-none : (from middle to : ℕ) (xs : List ℕ) → outerExchanged from middle middle to xs ≡ exchanged from middle to xs
 unfolding outerExchanged exchanged
 outer-none from middle to xs = rw (slice-empty middle xs, append-nil)
-
--- neighbouring stretches exchanged, by three reversals
-pub exchanged-by-reversals : (from middle to : ℕ) (xs : List ℕ) → from ≤ middle → middle ≤ to → to ≤ length xs
-    → reversed from to (reversed middle to (reversed from middle xs)) ≡ exchanged from middle to xs
-exchanged-by-reversals from middle to xs h k l =
-    ap (λ (ys : List ℕ). reversed from to (reversed middle to ys)) (sym (reversed-none middle (reversed from middle xs)))
-    ∙ outer-by-reversals from middle middle to xs h (omega arith) k l
-    ∙ outer-none from middle to xs
 
 -- Or-opt's move to an earlier place, and to a later one, exchanges the piece with the visits between
 pub put-earlier : (from size to : ℕ) (xs : List ℕ) → to < from → putBefore from size to xs ≡ exchanged to from (from + size) xs

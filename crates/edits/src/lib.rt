@@ -1,7 +1,7 @@
 // The edits of one list of visits, in place, and the building of a list in a lent buffer.
 //
-// Each function's contract equates its slice at exit with the edit of specs/Edits.antt at entry. All edits but the exchange of two
-// visits are reversals: reversing two neighbours and then the whole exchanges them, and each visit is moved twice at most.
+// Each function's contract equates its slice at exit with the edit of specs/Edits.antt at entry. Every edit is made of reversals, so
+// it needs no second list, and each visit is moved twice at most.
 ghost use mathlib.Core.Path.{_≡_};
 ghost use mathlib.Core.Logic.{_⊎_};
 ghost use mathlib.Core.List.{[], _∷_, reverse};
@@ -39,15 +39,26 @@ pub fn reverse(list: &mut [u16], from: usize, to: usize)
     }
 }
 
-// Exchanges the neighbouring stretches from..middle and middle..to: each is reversed, and then both together.
+// Exchanges the stretches from..a and b..to round the stretch a..b: each of the three is reversed, and then all
+// together, which puts them in the opposite order, each as it was.
+pub fn exchange_outer(list: &mut [u16], from: usize, a: usize, b: usize, to: usize)
+    requires { ⌜ (from ≤ a) × (a ≤ b) × (b ≤ to) ⌝ }
+    requires { ⌜ to ≤ length (now list) ⌝ }
+    ensures { λ _. ⌜ now (list .exit) ≡ outerExchanged from a b to (now (list .entry)) ⌝ }
+{
+    reverse(list, from, a);
+    reverse(list, a, b);
+    reverse(list, b, to);
+    reverse(list, from, to);
+}
+
+// Exchanges the neighbouring stretches from..middle and middle..to: outer stretches with nothing between them.
 pub fn exchange_stretches(list: &mut [u16], from: usize, middle: usize, to: usize)
     requires { ⌜ (from ≤ middle) × (middle ≤ to) ⌝ }
     requires { ⌜ to ≤ length (now list) ⌝ }
     ensures { λ _. ⌜ now (list .exit) ≡ exchanged from middle to (now (list .entry)) ⌝ }
 {
-    reverse(list, from, middle);
-    reverse(list, middle, to);
-    reverse(list, from, to);
+    exchange_outer(list, from, middle, middle, to);
 }
 
 // Or-opt's move: the piece of `size` visits at `from` goes before the visit at place `to` of the original list, which is not in it.
@@ -64,18 +75,6 @@ pub fn move_piece(list: &mut [u16], from: usize, size: usize, to: usize)
         return;
     }
     exchange_stretches(list, from, behind, to);
-}
-
-// Exchanges the stretches from..a and b..to round the stretch a..b: each of the three is reversed, and then all together.
-pub fn exchange_outer(list: &mut [u16], from: usize, a: usize, b: usize, to: usize)
-    requires { ⌜ (from ≤ a) × (a ≤ b) × (b ≤ to) ⌝ }
-    requires { ⌜ to ≤ length (now list) ⌝ }
-    ensures { λ _. ⌜ now (list .exit) ≡ outerExchanged from a b to (now (list .entry)) ⌝ }
-{
-    reverse(list, from, a);
-    reverse(list, a, b);
-    reverse(list, b, to);
-    reverse(list, from, to);
 }
 
 // Appends `part` to the first `count` visits of the buffer, and returns how many are in use now.
