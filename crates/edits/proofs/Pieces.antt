@@ -30,13 +30,13 @@ module _ (A B C D : List ℕ) (i j e : ℕ) (at-i : length A ≡ i) (at-j : leng
   pub exchanged-at : exchanged i j e (A ++ B ++ C ++ D) ≡ A ++ C ++ B ++ D
   unfolding exchanged
   exchanged-at =
-    let all : length A + length (B ++ C) ≡ e = omega (arith, length-append B C) in
-    let two : length (A ++ B) ≡ j = length-append A B ∙ at-j in
-    let three : length (A ++ B) + length C ≡ e = omega arith in
-    let one : A ++ B ++ C ++ D ≡ A ++ B ++ (C ++ D) = append-assoc (A ++ B) C D in
-    let B-is : slice i j (A ++ B ++ C ++ D) ≡ B = ap (slice i j) one ∙ middle A B (C ++ D) i j at-i at-j in
-    let A-is : take i (A ++ B ++ C ++ D) ≡ A = ap (take i) one ∙ front A B (C ++ D) i j at-i at-j in
-    λ k. A-is k ++ middle (A ++ B) C D j e two three k ++ B-is k ++ back (A ++ B) C D j e two three k
+      let all : length A + length (B ++ C) ≡ e = omega (arith, length-append B C) in
+      let two : length (A ++ B) ≡ j = length-append A B ∙ at-j in
+      let three : length (A ++ B) + length C ≡ e = omega arith in
+      let one : A ++ B ++ C ++ D ≡ A ++ B ++ (C ++ D) = append-assoc (A ++ B) C D in
+      let B-is : slice i j (A ++ B ++ C ++ D) ≡ B = ap (slice i j) one ∙ middle A B (C ++ D) i j at-i at-j in
+      let A-is : take i (A ++ B ++ C ++ D) ≡ A = ap (take i) one ∙ front A B (C ++ D) i j at-i at-j in
+      λ k. A-is k ++ middle (A ++ B) C D j e two three k ++ B-is k ++ back (A ++ B) C D j e two three k
 
 -- five pieces: B and D exchanged round C
 module _ (A B C D E : List ℕ) (i j k e : ℕ) (at-i : length A ≡ i) (at-j : length A + length B ≡ j) (at-k : length A + length B + length C ≡ k)
@@ -44,13 +44,13 @@ module _ (A B C D E : List ℕ) (i j k e : ℕ) (at-i : length A ≡ i) (at-j : 
   pub outerExchanged-at : outerExchanged i j k e (A ++ B ++ C ++ D ++ E) ≡ A ++ D ++ C ++ B ++ E
   unfolding outerExchanged
   outerExchanged-at =
-    let two : length (A ++ B) ≡ j = length-append A B ∙ at-j in
-    let three : length (A ++ B) + length C ≡ k = omega arith in
-    let three′ : length (A ++ B ++ C) ≡ k = length-append (A ++ B) C ∙ three in
-    let four : length (A ++ B ++ C) + length D ≡ e = omega arith in
-    let right : A ++ B ++ C ++ D ++ E ≡ A ++ B ++ C ++ (D ++ E) = append-assoc (A ++ B ++ C) D E in
-    let further : A ++ B ++ C ++ D ++ E ≡ A ++ B ++ (C ++ (D ++ E)) = right ∙ append-assoc (A ++ B) C (D ++ E) in
-    let A-is : take i (A ++ B ++ C ++ D ++ E) ≡ A = ap (take i) further ∙ front A B (C ++ (D ++ E)) i j at-i at-j in
-    let B-is : slice i j (A ++ B ++ C ++ D ++ E) ≡ B = ap (slice i j) further ∙ middle A B (C ++ (D ++ E)) i j at-i at-j in
-    let C-is : slice j k (A ++ B ++ C ++ D ++ E) ≡ C = ap (slice j k) right ∙ middle (A ++ B) C (D ++ E) j k two three in
-    λ t. A-is t ++ middle (A ++ B ++ C) D E k e three′ four t ++ C-is t ++ B-is t ++ back (A ++ B ++ C) D E k e three′ four t
+      let two : length (A ++ B) ≡ j = length-append A B ∙ at-j in
+      let three : length (A ++ B) + length C ≡ k = omega arith in
+      let three′ : length (A ++ B ++ C) ≡ k = length-append (A ++ B) C ∙ three in
+      let four : length (A ++ B ++ C) + length D ≡ e = omega arith in
+      let right : A ++ B ++ C ++ D ++ E ≡ A ++ B ++ C ++ (D ++ E) = append-assoc (A ++ B ++ C) D E in
+      let further : A ++ B ++ C ++ D ++ E ≡ A ++ B ++ (C ++ (D ++ E)) = right ∙ append-assoc (A ++ B) C (D ++ E) in
+      let A-is : take i (A ++ B ++ C ++ D ++ E) ≡ A = ap (take i) further ∙ front A B (C ++ (D ++ E)) i j at-i at-j in
+      let B-is : slice i j (A ++ B ++ C ++ D ++ E) ≡ B = ap (slice i j) further ∙ middle A B (C ++ (D ++ E)) i j at-i at-j in
+      let C-is : slice j k (A ++ B ++ C ++ D ++ E) ≡ C = ap (slice j k) right ∙ middle (A ++ B) C (D ++ E) j k two three in
+      λ t. A-is t ++ middle (A ++ B ++ C) D E k e three′ four t ++ C-is t ++ B-is t ++ back (A ++ B ++ C) D E k e three′ four t

@@ -28,8 +28,8 @@ four-reversals A B C D E i j k e at-i at-j at-k at-e =
     let at-e′ : length (A ++ reverse B ++ reverse C) + length D ≡ e = omega arith in
     let all : length A + length (reverse B ++ reverse C ++ reverse D) ≡ e = simp (length-append, length-reverse) (omega arith) in
     let three = ap (λ (l : List ℕ). reversed k e (reversed j k l)) (next A B (C ++ (D ++ E)) i j at-i at-j)
-        ∙ ap (reversed k e) (next (A ++ reverse B) C (D ++ E) j k to-j at-k′)
-        ∙ next (A ++ reverse B ++ reverse C) D E k e to-k at-e′ in
+    ∙ ap (reversed k e) (next (A ++ reverse B) C (D ++ E) j k to-j at-k′)
+    ∙ next (A ++ reverse B ++ reverse C) D E k e to-k at-e′ in
     let group : A ++ reverse B ++ reverse C ++ reverse D ++ E ≡ A ++ (reverse B ++ reverse C ++ reverse D) ++ E = simp append-assoc in
     let back : reverse (reverse B ++ reverse C ++ reverse D) ≡ D ++ (C ++ B) = simp (reverse-append, reverse-reverse) in
     ap (reversed i e) (three ∙ group)

@@ -5,8 +5,9 @@
 ghost use mathlib.Core.Path.{_≡_};
 ghost use mathlib.Core.Logic.{_⊎_};
 ghost use mathlib.Core.List.{[], _∷_, reverse};
-ghost use Prim.Native.Nat.{_+_, _<_, _≤_};
+ghost use Prim.Native.Nat.{_+_, _-_, _<_, _≤_};
 ghost use lib.ListN.{length};
+ghost use lib.Seq.{slice};
 ghost use Rattle.edits.specs.Edits.{swapped, reversed, exchanged, putBefore, outerExchanged, Appended};
 
 // Exchanges the visits at places i and j.
@@ -101,6 +102,38 @@ pub fn append_reversed(buffer: &mut [u16], count: usize, part: &[u16]) -> usize
         i += 1;
     }
     count + i
+}
+
+// Appends the visits of `list` from place `from` up to, not including, place `to`.
+pub fn append_stretch(
+    buffer: &mut [u16],
+    count: usize,
+    list: &[u16],
+    from: usize,
+    to: usize,
+) -> usize
+    requires { ⌜ (from ≤ to) × (to ≤ length (now list)) ⌝ }
+    requires { ⌜ count + (to - from) ≤ length (now buffer) ⌝ }
+    ensures { λ r. ⌜ r ≡ count + (to - from) ⌝ }
+    ensures { λ r. ⌜ Appended count (slice from to (now (list .entry))) (now (buffer .entry)) r (now (buffer .exit)) ⌝ }
+{
+    append(buffer, count, &list[from..to])
+}
+
+// Appends the same visits in the opposite order.
+pub fn append_stretch_reversed(
+    buffer: &mut [u16],
+    count: usize,
+    list: &[u16],
+    from: usize,
+    to: usize,
+) -> usize
+    requires { ⌜ (from ≤ to) × (to ≤ length (now list)) ⌝ }
+    requires { ⌜ count + (to - from) ≤ length (now buffer) ⌝ }
+    ensures { λ r. ⌜ r ≡ count + (to - from) ⌝ }
+    ensures { λ r. ⌜ Appended count (reverse (slice from to (now (list .entry)))) (now (buffer .entry)) r (now (buffer .exit)) ⌝ }
+{
+    append_reversed(buffer, count, &list[from..to])
 }
 
 // Appends one visit.
