@@ -14,6 +14,10 @@ pub appended-on : {count : ℕ} {part before : List ℕ} {end : ℕ} {after held
     → Appended count part before end after → take count before ≡ held → take end after ≡ held ++ part
 appended-on {part = part} new old = new .filled ∙ ap (λ (l : List ℕ). l ++ part) old
 
+-- a whole list overwritten: a part as long as the buffer, appended to nothing
+pub appended-whole : {part before : List ℕ} {end : ℕ} {after : List ℕ} → Appended 0 part before end after → length part ≡ length before → after ≡ part
+appended-whole {end = end} {after = after} new all = sym (take-all end after (omega (arith, new .ends, new .same-length))) ∙ new .filled
+
 -- a loop that has stored i visits of the part behind the first `count`
 pub record Storing (count : ℕ) (part before : List ℕ) (i : ℕ) (now : List ℕ) : Type 0 where
   pub stored : now ≡ paste before count part i

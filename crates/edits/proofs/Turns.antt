@@ -8,8 +8,8 @@ use borrow.Author.Tests.{lt-ltb, le-ltb}
 use lib.ListN.{length, take, drop, length-append, length-reverse}
 use lib.Seq.{slice, slice-empty, length-take-le, length-slice}
 use Rattle.edits.specs.Edits.{reversed, exchanged, putBefore, outerExchanged}
-use Rattle.edits.proofs.Cuts.{cut, cut5}
-use Rattle.edits.proofs.Pieces.{reversed-at}
+use Rattle.edits.proofs.Cuts.{cut, cut4, cut5}
+use Rattle.edits.proofs.Pieces.{reversed-at, exchanged-at}
 
 -- the piece B that comes next, behind the pieces A
 next : (A B C : List ℕ) (i e : ℕ) → length A ≡ i → length A + length B ≡ e → reversed i e (A ++ (B ++ C)) ≡ A ++ reverse B ++ C
@@ -73,3 +73,14 @@ reversed-twice from to xs h k =
     let of-B : length (slice from to xs) ≡ to - from = length-slice from to xs k in
     let of-B′ : length (reverse (slice from to xs)) ≡ length (slice from to xs) = length-reverse (slice from to xs) in
     reversed-at (take from xs) (reverse (slice from to xs)) (drop to xs) from to at-from (omega arith) ∙ rw reverse-reverse (cut xs from to h)
+
+-- stretches exchanged and exchanged back leave the list as it was
+pub exchanged-back : (from middle to : ℕ) (xs : List ℕ) → from ≤ middle → middle ≤ to → to ≤ length xs
+    → exchanged from (from + (to - middle)) to (exchanged from middle to xs) ≡ xs
+unfolding exchanged
+exchanged-back from middle to xs h k l =
+    let at-from : length (take from xs) ≡ from = length-take-le from xs (omega arith) in
+    let of-B : length (slice from middle xs) ≡ middle - from = length-slice from middle xs (omega arith) in
+    let of-C : length (slice middle to xs) ≡ to - middle = length-slice middle to xs l in
+    exchanged-at (take from xs) (slice middle to xs) (slice from middle xs) (drop to xs) from (from + (to - middle)) to at-from (omega arith) (omega arith)
+    ∙ cut4 xs from middle to h k
