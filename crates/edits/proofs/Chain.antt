@@ -5,7 +5,7 @@ use Prim.Native.Nat.{ℕ, suc, _+_, _-_, _<_, _≤_}
 use native.Mathlib.Numerals.{add-one}
 use native.Mathlib.Omega.{arith}
 use lib.ListN.{length, take, drop, getD, set, length-drop, length-reverse, length-set}
-use lib.Seq.{slice, length-slice, paste, paste-zero, paste-suc, length-paste, take-paste, drop-paste, take-all, split-at, getD-at, take-suc-set, drop-set-lt}
+use lib.Seq.{slice, length-slice, paste, paste-zero, paste-suc, take-paste, drop-paste, take-all, split-at, getD-at, take-suc-set, drop-set-lt}
 use Rattle.edits.specs.Edits.{Appended}
 use Rattle.edits.proofs.Cuts.{lent}
 

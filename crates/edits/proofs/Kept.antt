@@ -3,7 +3,7 @@
 use mathlib.Core.Path.{_≡_, refl, sym, ap, _∙_}
 use mathlib.Core.Logic.{_⊎_, inl, inr}
 use mathlib.Core.Bool.{Bool, true, false, not}
-use mathlib.Core.List.{List, _++_}
+use mathlib.Core.List.{List}
 use Prim.Native.Nat.{ℕ, _+_, _<_, _≤_}
 use native.Mathlib.Omega.{arith}
 use lib.Dec.{eqb}
@@ -35,8 +35,10 @@ same-outerExchanged from a b to xs h₁ h₂ h₃ f =
     simp sums (omega arith)
 
 pub same-putBefore : (from size to : ℕ) (xs : List ℕ) → ((to < from) ⊎ (from + size ≤ to)) → SameVisits xs (putBefore from size to xs)
-same-putBefore from size to xs (inl earlier) f = rw (put-earlier from size to xs earlier) (same-exchanged to from (from + size) xs (omega arith) (omega arith) f)
-same-putBefore from size to xs (inr later) f = rw (put-later from size to xs (omega arith)) (same-exchanged from (from + size) to xs (omega arith) later f)
+same-putBefore from size to xs (inl earlier) f =
+    rw (put-earlier from size to xs earlier) (same-exchanged to from (from + size) xs (omega arith) (omega arith) f)
+same-putBefore from size to xs (inr later) f =
+    rw (put-later from size to xs (omega arith)) (same-exchanged from (from + size) to xs (omega arith) later f)
 
 -- how often an office stands in the list is such a total
 pub same-count : (office : ℕ) (xs ys : List ℕ) → SameVisits xs ys → count office ys ≡ count office xs
