@@ -1,5 +1,4 @@
--- Signs: the sum, the product and the quotient of sign-clear numbers is sign-clear, and so is a difference that is not below zero. So no sum of distances is
--- -0.
+-- The sum, the product and the quotient of sign-clear numbers is sign-clear, and so is a difference not below zero: no sum of distances is -0.
 -- It is because `round` keeps the sign that it is given, and a sum that is exactly zero has its sign set only where both summands have.
 use mathlib.Core.Path.{_≡_, refl}
 use mathlib.Core.Bool.{Bool, true, false, cond}
