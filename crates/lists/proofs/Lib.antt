@@ -2,3 +2,4 @@ pub mod Pigeonhole
 pub mod Fine
 pub mod Packing
 pub mod Two
+pub mod Across

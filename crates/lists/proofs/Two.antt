@@ -114,7 +114,7 @@ module _ (ls : List (List ℕ)) (one other : ℕ) (before : one < other) (there 
 
   pub moved-later : (position place : ℕ) → position < length (at ls one) → place ≤ length (at ls other)
       → exchanged (startOf (lengthsOf ls) one + position) (startOf (lengthsOf ls) one + position + 1) (startOf (lengthsOf ls) other + place) (flat ls)
-          ≡ flat (relocated ls one position other place)
+      ≡ flat (relocated ls one position other place)
   unfolding relocated
   moved-later position place h k =
       let X = at ls one in
@@ -124,15 +124,15 @@ module _ (ls : List (List ℕ)) (one other : ℕ) (before : one < other) (there 
       let p = startOf (lengthsOf ls) one + position in
       let q = startOf (lengthsOf ls) other + place in
       let pieces : flat ls ≡ front ls one ++ (take position X ++ getD X position 0 ∷ drop (suc position) X) ++ between ls one other ++ (take place Y ++ drop place Y) ++ back ls other
-            = whole ∙ (λ t. front ls one ++ split t ++ between ls one other ++ sym (take-append-drop place Y) t ++ back ls other) in
+      = whole ∙ (λ t. front ls one ++ split t ++ between ls one other ++ sym (take-append-drop place Y) t ++ back ls other) in
       ap (exchanged p (p + 1) q) pieces
       ∙ later-pieces (front ls one) (take position X) (drop (suc position) X) (between ls one other) (take place Y) (drop place Y) (back ls other)
-        (getD X position 0) p q (in-first position (omega arith)) (rw (← split) (in-second place k))
+      (getD X position 0) p q (in-first position (omega arith)) (rw (← split) (in-second place k))
       ∙ sym (two-lists ls one other before there (giver ls one position) (receiver ls one position other place))
 
   pub moved-earlier : (position place : ℕ) → position < length (at ls other) → place ≤ length (at ls one)
       → exchanged (startOf (lengthsOf ls) one + place) (startOf (lengthsOf ls) other + position) (startOf (lengthsOf ls) other + position + 1) (flat ls)
-          ≡ flat (relocated ls other position one place)
+      ≡ flat (relocated ls other position one place)
   unfolding relocated
   moved-earlier position place h k =
       let X = at ls one in
@@ -142,17 +142,17 @@ module _ (ls : List (List ℕ)) (one other : ℕ) (before : one < other) (there 
       let q = startOf (lengthsOf ls) one + place in
       let whole : take place X ++ drop place X ≡ X = take-append-drop place X in
       let pieces : flat ls ≡ front ls one ++ (take place X ++ drop place X) ++ between ls one other ++ (take position Y ++ getD Y position 0 ∷ drop (suc position) Y) ++ back ls other
-            = as-they-are ls one other before there ∙ (λ t. front ls one ++ sym whole t ++ between ls one other ++ split t ++ back ls other) in
+      = as-they-are ls one other before there ∙ (λ t. front ls one ++ sym whole t ++ between ls one other ++ split t ++ back ls other) in
       ap (exchanged q p (p + 1)) pieces
       ∙ earlier-pieces (front ls one) (take position Y) (drop (suc position) Y) (between ls one other) (take place X) (drop place X) (back ls other)
-        (getD Y position 0) p q (in-first place k) (rw whole (in-second position (omega arith)))
+      (getD Y position 0) p q (in-first place k) (rw whole (in-second position (omega arith)))
       ∙ sym (ap flat (set-comm ls other one (giver ls other position) (receiver ls other position one place) (λ e. omega arith))
-        ∙ two-lists ls one other before there (receiver ls other position one place) (giver ls other position))
+      ∙ two-lists ls one other before there (receiver ls other position one place) (giver ls other position))
 
   pub tails-made : (cut1 cut2 : ℕ) → cut1 ≤ length (at ls one) → cut2 ≤ length (at ls other)
       → outerExchanged (startOf (lengthsOf ls) one + cut1) (startOf (lengthsOf ls) one + length (at ls one))
-            (startOf (lengthsOf ls) other + cut2) (startOf (lengthsOf ls) other + length (at ls other)) (flat ls)
-          ≡ flat (tailsExchanged ls one other cut1 cut2)
+      (startOf (lengthsOf ls) other + cut2) (startOf (lengthsOf ls) other + length (at ls other)) (flat ls)
+      ≡ flat (tailsExchanged ls one other cut1 cut2)
   unfolding tailsExchanged
   tails-made cut1 cut2 h k =
       let X = at ls one in
@@ -161,8 +161,8 @@ module _ (ls : List (List ℕ)) (one other : ℕ) (before : one < other) (there 
       let whole2 : take cut2 Y ++ drop cut2 Y ≡ Y = take-append-drop cut2 Y in
       let start : length (front ls one) + length X ≡ startOf (lengthsOf ls) one + length X = rw (at-front ls one other before there) in
       let end : length (front ls one) + length X + length (between ls one other) + length Y ≡ startOf (lengthsOf ls) other + length Y
-            = rw (at-second ls one other before there) in
+      = rw (at-second ls one other before there) in
       ap (outerExchanged _ _ _ _) (as-they-are ls one other before there ∙ (λ t. front ls one ++ sym whole t ++ between ls one other ++ sym whole2 t ++ back ls other))
       ∙ tail-pieces (front ls one) (take cut1 X) (drop cut1 X) (between ls one other) (take cut2 Y) (drop cut2 Y) (back ls other) _ _ _ _
-        (in-first cut1 h) (rw whole start) (rw whole (in-second cut2 k)) (rw (whole, whole2) end)
+      (in-first cut1 h) (rw whole start) (rw whole (in-second cut2 k)) (rw (whole, whole2) end)
       ∙ sym (two-lists ls one other before there (joined X cut1 Y cut2) (joined Y cut2 X cut1))

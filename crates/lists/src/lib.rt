@@ -3,10 +3,10 @@
 ghost use mathlib.Core.Path.{_≡_};
 ghost use mathlib.Core.List.{[], _∷_};
 ghost use Prim.Native.Nat.{_≤_, _<_};
-ghost use lib.ListN.{length};
-ghost use Rattle.lists.specs.Table.{Laid, startOf, listOf};
+ghost use lib.ListN.{length, getD, set};
+ghost use Rattle.lists.specs.Table.{Laid, lists, startOf, listOf};
 ghost use Rattle.lists.specs.Refused.{allShort, shapeOk, visitOk, visitsOk, newAt, distinct, tableRefusal, listsRefusal};
-ghost use Rattle.lists.specs.Edits.{nonzero, packed};
+ghost use Rattle.lists.specs.Edits.{nonzero, packed, Edited, Relocates, relocated, movedOne, lengthMoved, Cuts, tailsExchanged};
 
 // Where list r starts in the table of visits: sixteen lengths can't wrap.
 pub fn start_of(lengths: &[u16], r: usize) -> usize
@@ -167,4 +167,49 @@ pub fn drop_empty(lengths: &mut [u16]) -> usize
         i += 1;
     }
     kept
+}
+
+// Puts the visit at place p of the table before the one at place q: it changes places with what lies between.
+fn move_one(visits: &mut [u16], p: usize, q: usize)
+    requires { ⌜ (p < length (now visits)) × (q ≤ length (now visits)) ⌝ }
+    ensures { λ _. ⌜ now (visits .exit) ≡ movedOne p q (now (visits .entry)) ⌝ }
+{
+    let behind = p + 1;
+    if p < q {
+        edits::exchange_stretches(visits, p, behind, q);
+        return;
+    }
+    edits::exchange_stretches(visits, q, p, behind);
+}
+
+// One visit less for list `from`, and one more for list `to`.
+fn move_length(lengths: &mut [u16], from: usize, to: usize)
+    requires { ⌜ (from < length (now lengths)) × (to < length (now lengths)) ⌝ }
+    requires { ⌜ (0 < getD (now lengths) from 0) × (getD (now lengths) to 0 < 65535) ⌝ }
+    ensures { λ _. ⌜ now (lengths .exit) ≡ lengthMoved from to (now (lengths .entry)) ⌝ }
+{
+    let less = lengths[from] - 1;
+    let more = lengths[to] + 1;
+    lengths[from] = less;
+    lengths[to] = more;
+}
+
+// Relocates the visit at `position` of list `from` to `place` of list `to`, in both tables.
+pub fn move_visit(
+    visits: &mut [u16],
+    lengths: &mut [u16],
+    from: usize,
+    position: usize,
+    to: usize,
+    place: usize,
+)
+    requires { ⌜ Laid (now visits) (now lengths) ⌝ }
+    requires { ⌜ Relocates (now lengths) from position to place ⌝ }
+    ensures { λ _. ⌜ Edited (now (visits .entry)) (now (lengths .entry)) (now (visits .exit)) (now (lengths .exit))
+        (relocated (lists (now (visits .entry)) (now (lengths .entry))) from position to place) ⌝ }
+{
+    let p = start_of(lengths, from) + position;
+    let q = start_of(lengths, to) + place;
+    move_one(visits, p, q);
+    move_length(lengths, from, to);
 }

@@ -1,0 +1,149 @@
+-- The edits across lists, of both tables at once: what they make of the table and of the lengths are the tables of the lists that they are to make.
+-- Assumes nothing.
+use mathlib.Core.Path.{_≡_, refl, sym, ap, _∙_}
+use mathlib.Core.Logic.{_≢_, _⊎_, inl, inr}
+use mathlib.Core.Bool.{Bool, true, false}
+use mathlib.Core.List.{List, [], _∷_, _++_}
+use Prim.Native.Nat.{ℕ, zero, suc, _+_, _-_, _≤_, _<_}
+use native.Mathlib.Omega.{arith}
+use borrow.Author.Tests.{lt-ltb, le-ltb, ltb-true, ltb-false}
+use lib.Dec.{ltb}
+use lib.ListN.{length, getD, set, take, drop, length-append, length-set, length-drop}
+use lib.Seq.{length-take-le}
+use Rattle.edits.specs.Total.{total, SameVisits}
+use Rattle.edits.specs.Edits.{exchanged, outerExchanged}
+use Rattle.edits.proofs.Kept.{same-length, same-exchanged, same-outerExchanged}
+use Rattle.tests.specs.Pick.{picked, other}
+use Rattle.lists.specs.Table.{Laid, sum, lists, flat, lengthsOf, startOf, length-flat, length-lengths, at-lengths, length-lists, flat-lists, lengths-lists, lengths-set, lists-are, start-later, start-within}
+use Rattle.lists.specs.Edits.{Edited, at, giver, receiver, relocated, Relocates, movedOne, lengthMoved, joined, tailsExchanged, tailLengths, Cuts}
+use Rattle.lists.proofs.Two.{moved-later, moved-earlier, tails-made}
+
+-- tables that are those of lists, with the same visits as before
+edited-by : (visits lengths visits′ lengths′ : List ℕ) (ls : List (List ℕ)) → Laid visits lengths → visits′ ≡ flat ls → lengths′ ≡ lengthsOf ls
+    → length ls ≡ length lengths → SameVisits visits visits′ → Edited visits lengths visits′ lengths′ ls
+edited-by visits lengths visits′ lengths′ ls laid v n number same =
+    let many : length lengths′ ≡ length lengths = rw n (length-lengths ls ∙ number) in
+    record {
+      holds = lists-are visits′ lengths′ ls v n;
+      number = many;
+      laid = record {
+        few = rw many (laid .few);
+        add-up = rw (n, v) (sym (length-flat ls));
+        size = rw (same-length visits visits′ same) (laid .size);
+      };
+      same = same;
+    }
+
+-- ---- a relocation
+
+lengths-relocated : (ls : List (List ℕ)) (from position to place : ℕ) → position < length (at ls from) → place ≤ length (at ls to)
+    → lengthMoved from to (lengthsOf ls) ≡ lengthsOf (relocated ls from position to place)
+unfolding lengthMoved relocated
+lengths-relocated ls from position to place h k =
+    let less : length (giver ls from position) ≡ length (at ls from) - 1
+    = simp (length-append, length-drop) (omega (arith, length-take-le position (at ls from) (omega arith))) in
+    let more : length (receiver ls from position to place) ≡ length (at ls to) + 1
+    = simp (length-append, length-drop) (omega (arith, length-take-le place (at ls to) k)) in
+    rw (lengths-set, lengths-set, less, more, at-lengths, at-lengths)
+
+pub moved-on : (p q : ℕ) (xs : List ℕ) → p < q → exchanged p (p + 1) q xs ≡ movedOne p q xs
+unfolding movedOne
+moved-on p q xs h = picked (ltb p q) _ _ _ (lt-ltb p q h) refl
+
+pub moved-back : (p q : ℕ) (xs : List ℕ) → q ≤ p → exchanged q p (p + 1) xs ≡ movedOne p q xs
+unfolding movedOne
+moved-back p q xs h = other (ltb p q) _ _ _ (le-ltb p q h) refl
+
+moved-same : (p q : ℕ) (xs : List ℕ) → SameVisits xs (movedOne p q xs)
+moved-same p q xs f = at-least (ltb p q) refl
+  where
+    at-least : (b : Bool) → ltb p q ≡ b → total f (movedOne p q xs) ≡ total f xs
+    at-least true e = let h = ltb-true p q e in rw (← moved-on p q xs h) (same-exchanged p (p + 1) q xs (omega arith) (omega arith) f)
+    at-least false e = let h = ltb-false p q e in rw (← moved-back p q xs h) (same-exchanged q p (p + 1) xs h (omega arith) f)
+
+module _ (ls : List (List ℕ)) (from position to place : ℕ) (r : Relocates (lengthsOf ls) from position to place) where
+  gives : from < length ls
+  gives = rw length-lengths at (r .gives)
+
+  takes : to < length ls
+  takes = rw length-lengths at (r .takes)
+
+  visit-there : position < length (at ls from)
+  visit-there = rw at-lengths at (r .visit-there)
+
+  place-there : place ≤ length (at ls to)
+  place-there = rw at-lengths at (r .place-there)
+
+  moved-table : movedOne (startOf (lengthsOf ls) from + position) (startOf (lengthsOf ls) to + place) (flat ls) ≡ flat (relocated ls from position to place)
+  moved-table = by-order (ltb from to) refl
+    where
+      p : ℕ
+      p = startOf (lengthsOf ls) from + position
+
+      q : ℕ
+      q = startOf (lengthsOf ls) to + place
+
+      by-order : (b : Bool) → ltb from to ≡ b → movedOne p q (flat ls) ≡ flat (relocated ls from position to place)
+      by-order true e =
+          let before = ltb-true from to e in
+          let h : p < q = omega (arith, start-later (lengthsOf ls) from to before, r .visit-there) in
+          rw (← moved-on p q (flat ls) h) (moved-later ls from to before takes position place visit-there place-there)
+      by-order false e =
+          let before : to < from = omega (arith, ltb-false from to e, r .apart) in
+          let h : q ≤ p = omega (arith, start-later (lengthsOf ls) to from before, r .place-there) in
+          rw (← moved-back p q (flat ls) h) (moved-earlier ls to from before gives position place visit-there place-there)
+
+length-relocated : (ls : List (List ℕ)) (from position to place : ℕ) → length (relocated ls from position to place) ≡ length ls
+unfolding relocated
+length-relocated ls from position to place = simp length-set
+
+-- of two tables: p and q are the places in the table
+pub relocate-edited : (visits lengths : List ℕ) (from position to place p q : ℕ) → Laid visits lengths → Relocates lengths from position to place
+    → p ≡ startOf lengths from + position → q ≡ startOf lengths to + place
+    → Edited visits lengths (movedOne p q visits) (lengthMoved from to lengths) (relocated (lists visits lengths) from position to place)
+relocate-edited visits lengths from position to place p q laid r at-p at-q =
+    let ls = lists visits lengths in
+    let v : flat ls ≡ visits = flat-lists visits lengths (laid .add-up) in
+    let n : lengthsOf ls ≡ lengths = lengths-lists visits lengths (laid .add-up) in
+    let r′ : Relocates (lengthsOf ls) from position to place = rw n r in
+    let table = rw (n, v) at (moved-table ls from position to place r′) in
+    let long = lengths-relocated ls from position to place (visit-there ls from position to place r′) (place-there ls from position to place r′) in
+    edited-by visits lengths _ _ (relocated ls from position to place) laid (rw (at-p, at-q) table) (rw n at long)
+    (length-relocated ls from position to place ∙ length-lists visits lengths) (moved-same p q visits)
+
+-- ---- a tail exchange
+
+lengths-tails : (ls : List (List ℕ)) (one two cut1 cut2 : ℕ) → cut1 ≤ length (at ls one) → cut2 ≤ length (at ls two)
+    → tailLengths one two cut1 cut2 (lengthsOf ls) ≡ lengthsOf (tailsExchanged ls one two cut1 cut2)
+unfolding tailLengths tailsExchanged
+lengths-tails ls one two cut1 cut2 h k =
+    let first : length (joined (at ls one) cut1 (at ls two) cut2) ≡ cut1 + (length (at ls two) - cut2)
+    = simp (length-append, length-drop) (omega (arith, length-take-le cut1 (at ls one) h)) in
+    let second : length (joined (at ls two) cut2 (at ls one) cut1) ≡ cut2 + (length (at ls one) - cut1)
+    = simp (length-append, length-drop) (omega (arith, length-take-le cut2 (at ls two) k)) in
+    rw (lengths-set, lengths-set, first, second, at-lengths ls one, at-lengths ls two)
+
+length-tails : (ls : List (List ℕ)) (one two cut1 cut2 : ℕ) → length (tailsExchanged ls one two cut1 cut2) ≡ length ls
+unfolding tailsExchanged
+length-tails ls one two cut1 cut2 = simp length-set
+
+-- of two tables: from a to b and from c to e lie the tails
+pub tails-edited : (visits lengths : List ℕ) (one two cut1 cut2 a b c e : ℕ) → Laid visits lengths → Cuts lengths one two cut1 cut2
+    → a ≡ startOf lengths one + cut1 → b ≡ startOf lengths one + getD lengths one 0
+    → c ≡ startOf lengths two + cut2 → e ≡ startOf lengths two + getD lengths two 0
+    → Edited visits lengths (outerExchanged a b c e visits) (tailLengths one two cut1 cut2 lengths) (tailsExchanged (lists visits lengths) one two cut1 cut2)
+tails-edited visits lengths one two cut1 cut2 a b c e laid r at-a at-b at-c at-e =
+    let ls = lists visits lengths in
+    let v : flat ls ≡ visits = flat-lists visits lengths (laid .add-up) in
+    let n : lengthsOf ls ≡ lengths = lengths-lists visits lengths (laid .add-up) in
+    let there : two < length ls = rw length-lists (r .there) in
+    let n1 : length (at ls one) ≡ getD lengths one 0 = sym (at-lengths ls one) ∙ ap (λ z. getD z one 0) n in
+    let n2 : length (at ls two) ≡ getD lengths two 0 = sym (at-lengths ls two) ∙ ap (λ z. getD z two 0) n in
+    let within1 : cut1 ≤ length (at ls one) = rw n1 (r .within1) in
+    let within2 : cut2 ≤ length (at ls two) = rw n2 (r .within2) in
+    let table = rw (n1, n2, n, v) at (tails-made ls one two (r .before) there cut1 cut2 within1 within2) in
+    let long = lengths-tails ls one two cut1 cut2 within1 within2 in
+    let behind = start-later lengths one two (r .before) in
+    edited-by visits lengths _ _ (tailsExchanged ls one two cut1 cut2) laid (rw (at-a, at-b, at-c, at-e) table) (rw n at long)
+    (length-tails ls one two cut1 cut2 ∙ length-lists visits lengths)
+    (same-outerExchanged a b c e visits (omega (arith, r .within1)) (omega arith) (omega (arith, r .within2)))
