@@ -15,7 +15,7 @@ use Rattle.edits.specs.Edits.{exchanged, outerExchanged}
 use Rattle.edits.proofs.Kept.{same-length, same-exchanged, same-outerExchanged}
 use Rattle.tests.specs.Pick.{picked, other}
 use Rattle.lists.specs.Table.{Laid, sum, lists, flat, lengthsOf, startOf, length-flat, length-lengths, at-lengths, length-lists, flat-lists, lengths-lists, lengths-set, lists-are, start-later, start-within}
-use Rattle.lists.specs.Edits.{Edited, at, giver, receiver, relocated, Relocates, movedOne, lengthMoved, joined, tailsExchanged, tailLengths, Cuts}
+use Rattle.lists.specs.Edits.{Edited, at, giver, receiver, relocated, Relocates, movedOne, lengthMoved, joined, tailsExchanged, Cuts}
 use Rattle.lists.proofs.Two.{moved-later, moved-earlier, tails-made}
 
 -- tables that are those of lists, with the same visits as before
@@ -114,25 +114,26 @@ relocate-edited visits lengths from position to place p q laid r at-p at-q =
 -- ---- a tail exchange
 
 lengths-tails : (ls : List (List ℕ)) (one two cut1 cut2 : ℕ) → cut1 ≤ length (at ls one) → cut2 ≤ length (at ls two)
-    → tailLengths one two cut1 cut2 (lengthsOf ls) ≡ lengthsOf (tailsExchanged ls one two cut1 cut2)
-unfolding tailLengths tailsExchanged
+    → set (set (lengthsOf ls) one (cut1 + (length (at ls two) - cut2))) two (cut2 + (length (at ls one) - cut1)) ≡ lengthsOf (tailsExchanged ls one two cut1 cut2)
+unfolding tailsExchanged
 lengths-tails ls one two cut1 cut2 h k =
     let first : length (joined (at ls one) cut1 (at ls two) cut2) ≡ cut1 + (length (at ls two) - cut2)
     = simp (length-append, length-drop) (omega (arith, length-take-le cut1 (at ls one) h)) in
     let second : length (joined (at ls two) cut2 (at ls one) cut1) ≡ cut2 + (length (at ls one) - cut1)
     = simp (length-append, length-drop) (omega (arith, length-take-le cut2 (at ls two) k)) in
-    rw (lengths-set, lengths-set, first, second, at-lengths ls one, at-lengths ls two)
+    rw (lengths-set, lengths-set, first, second)
 
 length-tails : (ls : List (List ℕ)) (one two cut1 cut2 : ℕ) → length (tailsExchanged ls one two cut1 cut2) ≡ length ls
 unfolding tailsExchanged
 length-tails ls one two cut1 cut2 = simp length-set
 
--- of two tables: from a to b and from c to e lie the tails
-pub tails-edited : (visits lengths : List ℕ) (one two cut1 cut2 a b c e : ℕ) → Laid visits lengths → Cuts lengths one two cut1 cut2
-    → a ≡ startOf lengths one + cut1 → b ≡ startOf lengths one + getD lengths one 0
-    → c ≡ startOf lengths two + cut2 → e ≡ startOf lengths two + getD lengths two 0
-    → Edited visits lengths (outerExchanged a b c e visits) (tailLengths one two cut1 cut2 lengths) (tailsExchanged (lists visits lengths) one two cut1 cut2)
-tails-edited visits lengths one two cut1 cut2 a b c e laid r at-a at-b at-c at-e =
+tails-laid : (visits lengths : List ℕ) (one two cut1 cut2 : ℕ) → Laid visits lengths → Cuts lengths one two cut1 cut2
+    → Edited visits lengths
+    (outerExchanged (startOf lengths one + cut1) (startOf lengths one + getD lengths one 0)
+    (startOf lengths two + cut2) (startOf lengths two + getD lengths two 0) visits)
+    (set (set lengths one (cut1 + (getD lengths two 0 - cut2))) two (cut2 + (getD lengths one 0 - cut1)))
+    (tailsExchanged (lists visits lengths) one two cut1 cut2)
+tails-laid visits lengths one two cut1 cut2 laid r =
     let ls = lists visits lengths in
     let v : flat ls ≡ visits = flat-lists visits lengths (laid .add-up) in
     let n : lengthsOf ls ≡ lengths = lengths-lists visits lengths (laid .add-up) in
@@ -142,8 +143,34 @@ tails-edited visits lengths one two cut1 cut2 a b c e laid r at-a at-b at-c at-e
     let within1 : cut1 ≤ length (at ls one) = rw n1 (r .within1) in
     let within2 : cut2 ≤ length (at ls two) = rw n2 (r .within2) in
     let table = rw (n1, n2, n, v) at (tails-made ls one two (r .before) there cut1 cut2 within1 within2) in
-    let long = lengths-tails ls one two cut1 cut2 within1 within2 in
+    let long = rw (n1, n2, n) at (lengths-tails ls one two cut1 cut2 within1 within2) in
     let behind = start-later lengths one two (r .before) in
-    edited-by visits lengths _ _ (tailsExchanged ls one two cut1 cut2) laid (rw (at-a, at-b, at-c, at-e) table) (rw n at long)
+    edited-by visits lengths _ _ (tailsExchanged ls one two cut1 cut2) laid table long
     (length-tails ls one two cut1 cut2 ∙ length-lists visits lengths)
-    (same-outerExchanged a b c e visits (omega (arith, r .within1)) (omega arith) (omega (arith, r .within2)))
+    (same-outerExchanged _ _ _ _ visits (omega (arith, r .within1)) (omega arith) (omega (arith, r .within2)))
+
+-- the same in the code's numbers: where the two lists start, and how long they are
+pub tails-edited : (visits lengths : List ℕ) (one two cut1 cut2 s1 s2 n1 n2 : ℕ) → Laid visits lengths → Cuts lengths one two cut1 cut2
+    → s1 ≡ startOf lengths one → s2 ≡ startOf lengths two → n1 ≡ getD lengths one 0 → n2 ≡ getD lengths two 0
+    → Edited visits lengths (outerExchanged (s1 + cut1) (s1 + n1) (s2 + cut2) (s2 + n2) visits)
+    (set (set lengths one (cut1 + (n2 - cut2))) two (cut2 + (n1 - cut1))) (tailsExchanged (lists visits lengths) one two cut1 cut2)
+tails-edited visits lengths one two cut1 cut2 s1 s2 n1 n2 laid r at-s1 at-s2 at-n1 at-n2 =
+    rw (at-s1, at-s2, at-n1, at-n2) (tails-laid visits lengths one two cut1 cut2 laid r)
+
+-- the two tails lie in the table, the first before the second list
+pub record TailsRoom (visits lengths : List ℕ) (one two cut1 cut2 : ℕ) : Type 0 where
+  pub within1 : cut1 ≤ getD lengths one 0
+  pub within2 : cut2 ≤ getD lengths two 0
+  pub before : startOf lengths one + getD lengths one 0 ≤ startOf lengths two
+  pub inside : startOf lengths two + getD lengths two 0 ≤ length visits
+  pub size : length visits ≤ 1008
+
+pub tails-room : (visits lengths : List ℕ) (one two cut1 cut2 : ℕ) → Laid visits lengths → Cuts lengths one two cut1 cut2
+    → TailsRoom visits lengths one two cut1 cut2
+tails-room visits lengths one two cut1 cut2 laid r = record {
+  within1 = r .within1;
+  within2 = r .within2;
+  before = start-later lengths one two (r .before);
+  inside = omega (arith, start-within lengths two, laid .add-up);
+  size = laid .size;
+}

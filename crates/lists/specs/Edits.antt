@@ -68,11 +68,6 @@ pub record Cuts (lengths : List ℕ) (one other cut1 cut2 : ℕ) : Type 0 where
   pub within1 : cut1 ≤ getD lengths one 0
   pub within2 : cut2 ≤ getD lengths other 0
 
--- the lengths of the two: what each keeps, and the other's tail
-unfoldable pub tailLengths : ℕ → ℕ → ℕ → ℕ → List ℕ → List ℕ
-tailLengths one other cut1 cut2 lengths =
-    set (set lengths one (cut1 + (getD lengths other 0 - cut2))) other (cut2 + (getD lengths one 0 - cut1))
-
 -- ---- 01: 'empty lists dropped in order. [..] Dropped places leave length 0 [..] at the end'
 
 -- the lists that have a visit, in their order

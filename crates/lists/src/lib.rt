@@ -22,14 +22,21 @@ pub fn start_of(lengths: &[u16], r: usize) -> usize
     sum
 }
 
+// How many visits list r has.
+pub fn length_of(lengths: &[u16], r: usize) -> usize
+    requires { ⌜ r < length (now lengths) ⌝ }
+    ensures { λ n. ⌜ n ≡ getD (now (lengths .entry)) r 0 ⌝ }
+{
+    lengths[r] as usize
+}
+
 // List r, as the caller's own part of the table.
 pub fn list_of<'a>(visits: &'a [u16], lengths: &[u16], r: usize) -> &'a [u16]
     requires { ⌜ Laid (now visits) (now lengths) × (r < length (now lengths)) ⌝ }
     ensures { λ x. ⌜ now x ≡ listOf (now (visits .entry)) (now (lengths .entry)) r ⌝ }
 {
     let start = start_of(lengths, r);
-    let n = lengths[r] as usize;
-    let end = start + n;
+    let end = start + length_of(lengths, r);
     &visits[start..end]
 }
 
@@ -212,4 +219,43 @@ pub fn move_visit(
     let q = start_of(lengths, to) + place;
     move_one(visits, p, q);
     move_length(lengths, from, to);
+}
+
+// New lengths for two lists.
+fn store_two(lengths: &mut [u16], one: usize, first: u16, other: usize, second: u16)
+    requires { ⌜ (one < length (now lengths)) × (other < length (now lengths)) ⌝ }
+    ensures { λ _. ⌜ now (lengths .exit) ≡ set (set (now (lengths .entry)) one first) other second ⌝ }
+{
+    lengths[one] = first;
+    lengths[other] = second;
+}
+
+// Exchanges the tails of lists `one` and `other`, of which these keep `cut1` and `cut2` visits, in both tables.
+pub fn exchange_tails(
+    visits: &mut [u16],
+    lengths: &mut [u16],
+    one: usize,
+    other: usize,
+    cut1: usize,
+    cut2: usize,
+)
+    requires { ⌜ Laid (now visits) (now lengths) ⌝ }
+    requires { ⌜ Cuts (now lengths) one other cut1 cut2 ⌝ }
+    ensures { λ _. ⌜ Edited (now (visits .entry)) (now (lengths .entry)) (now (visits .exit)) (now (lengths .exit))
+        (tailsExchanged (lists (now (visits .entry)) (now (lengths .entry))) one other cut1 cut2) ⌝ }
+{
+    let start1 = start_of(lengths, one);
+    let start2 = start_of(lengths, other);
+    let n1 = length_of(lengths, one);
+    let n2 = length_of(lengths, other);
+    edits::exchange_outer(
+        visits,
+        start1 + cut1,
+        start1 + n1,
+        start2 + cut2,
+        start2 + n2,
+    );
+    let first = cut1 + (n2 - cut2);
+    let second = cut2 + (n1 - cut1);
+    store_two(lengths, one, first as u16, other, second as u16);
 }

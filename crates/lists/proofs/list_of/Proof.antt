@@ -8,20 +8,14 @@ use Rattle.lists.proofs.list_of.Tie as tie
 start-of-requires : tie.Need-start-of-requires
 start-of-requires c κs = search needs
 
-mul-n : tie.Need-mul-n
-mul-n c = search needs
-
-shared-slice-read-n : tie.Need-shared-slice-read-n
-shared-slice-read-n c = search needs
-
-cast-n : tie.Need-cast-n
-cast-n c = omega (arith, c .shared-slice-known3 .given (c .before .before .before .before .args .r))
+length-of-requires : tie.Need-length-of-requires
+length-of-requires c κs = search needs
 
 add-end : tie.Need-add-end
-add-end c = omega (arith, start-within (c .before .before .before .before .args .lengths .now) (c .before .before .before .before .args .r), c .before .start-of .ensures)
+add-end c = omega (arith, start-within (c .before .before .before .before .args .lengths .now) (c .before .before .before .before .args .r), c .before .start-of .ensures, c .length-of .ensures)
 
 mul-result : tie.Need-mul-result
-mul-result c = omega (arith, start-within (c .before .before .before .before .args .lengths .now) (c .before .before .before .before .args .r), c .before .start-of .ensures)
+mul-result c = omega (arith, start-within (c .before .before .before .before .args .lengths .now) (c .before .before .before .before .args .r), c .before .start-of .ensures, c .length-of .ensures)
 
 sub-result : tie.Need-sub-result
 sub-result c = search needs
@@ -30,19 +24,17 @@ part-result-start : tie.Need-part-result-start
 part-result-start c = search needs
 
 part-result-end : tie.Need-part-result-end
-part-result-end c = omega (arith, start-within (c .before .before .before .before .args .lengths .now) (c .before .before .before .before .args .r), c .before .start-of .ensures)
+part-result-end c = omega (arith, start-within (c .before .before .before .before .args .lengths .now) (c .before .before .before .before .args .r), c .before .start-of .ensures, c .length-of .ensures)
 
 returns : tie.Need-returns
-returns c = part-is _ _ _ _ (c .before .before .start-of .ensures)
+returns c = rw (c .before .length-of .ensures) (part-is _ _ _ _ (c .before .before .start-of .ensures))
 
 pub list-of-spec : {M : Type 1} → statement M
 list-of-spec =
     tie.close
     (tie.spec
     start-of-requires
-    mul-n
-    shared-slice-read-n
-    cast-n
+    length-of-requires
     add-end
     mul-result
     sub-result
