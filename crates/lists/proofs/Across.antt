@@ -16,23 +16,8 @@ use Rattle.edits.proofs.Kept.{same-length, same-exchanged, same-outerExchanged}
 use Rattle.tests.specs.Pick.{picked, other}
 use Rattle.lists.specs.Table.{Laid, sum, lists, flat, lengthsOf, startOf, length-flat, length-lengths, at-lengths, length-lists, flat-lists, lengths-lists, lengths-set, lists-are, start-later, start-within}
 use Rattle.lists.specs.Edits.{Edited, at, giver, receiver, relocated, Relocates, movedOne, lengthMoved, joined, tailsExchanged, Cuts}
+use Rattle.lists.proofs.Edited.{edited-by}
 use Rattle.lists.proofs.Two.{moved-later, moved-earlier, tails-made}
-
--- tables that are those of lists, with the same visits as before
-edited-by : (visits lengths visits′ lengths′ : List ℕ) (ls : List (List ℕ)) → Laid visits lengths → visits′ ≡ flat ls → lengths′ ≡ lengthsOf ls
-    → length ls ≡ length lengths → SameVisits visits visits′ → Edited visits lengths visits′ lengths′ ls
-edited-by visits lengths visits′ lengths′ ls laid v n number same =
-    let many : length lengths′ ≡ length lengths = rw n (length-lengths ls ∙ number) in
-    record {
-      holds = lists-are visits′ lengths′ ls v n;
-      number = many;
-      laid = record {
-        few = rw many (laid .few);
-        add-up = rw (n, v) (sym (length-flat ls));
-        size = rw (same-length visits visits′ same) (laid .size);
-      };
-      same = same;
-    }
 
 -- ---- a relocation
 

@@ -150,14 +150,15 @@ start-within [] r = rw take-nil (omega arith)
 start-within (n ∷ lengths) zero = omega arith
 start-within (n ∷ lengths) (suc r) = let rest = start-within lengths r in omega arith
 
--- the part from a start to that start and the list's length is the list; and the part given back as `new` is that list in its place
-pub part-is : (visits lengths : List ℕ) (r a : ℕ) → a ≡ startOf lengths r → take (a + getD lengths r 0 - a) (drop a visits) ≡ listOf visits lengths r
-unfolding listOf
-part-is visits lengths r a e = let n : a + getD lengths r 0 - a ≡ getD lengths r 0 = omega arith in rw (n, e)
+-- the caller's part from where list r starts to where it ends is the list; and the part given back as `new` is that list in its place
+module _ (visits lengths : List ℕ) (r start end : ℕ) (starts : start ≡ startOf lengths r) (ends : end ≡ start + getD lengths r 0) where
+  pub part-is : take (end - start) (drop start visits) ≡ listOf visits lengths r
+  unfolding listOf
+  part-is = let n : end - start ≡ getD lengths r 0 = omega arith in rw (n, starts)
 
-pub put-is : (visits lengths new : List ℕ) (r a : ℕ) → a ≡ startOf lengths r → putMid a (a + getD lengths r 0 - a) visits new ≡ withList visits lengths r new
-unfolding withList
-put-is visits lengths new r a e = rw (post-is a (a + getD lengths r 0) visits (omega arith), e)
+  pub put-is : (new : List ℕ) → putMid start (end - start) visits new ≡ withList visits lengths r new
+  unfolding withList
+  put-is new = rw (post-is start end visits (omega arith), ends, starts)
 
 -- ---- laws of two tables whose lengths add up
 

@@ -1,4 +1,6 @@
 -- `lists::list_of` meets its contract: list r ends within the table, since the lengths add up to it. Assumes nothing.
+use Prim.Native.Nat.{_+_}
+use mathlib.Core.Path.{ap}
 use native.Mathlib.Omega.{arith}
 use borrow.Author.Needs.{needs}
 use Rattle.lists.specs.Table.{start-within, part-is}
@@ -27,7 +29,7 @@ part-result-end : tie.Need-part-result-end
 part-result-end c = omega (arith, start-within (c .before .before .before .before .args .lengths .now) (c .before .before .before .before .args .r), c .before .start-of .ensures, c .length-of .ensures)
 
 returns : tie.Need-returns
-returns c = rw (c .before .length-of .ensures) (part-is _ _ _ _ (c .before .before .start-of .ensures))
+returns c = part-is _ _ _ _ _ (c .before .before .start-of .ensures) (ap (λ z. c .before .before .start-of .result + z) (c .before .length-of .ensures))
 
 pub list-of-spec : {M : Type 1} → statement M
 list-of-spec =
