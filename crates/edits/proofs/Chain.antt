@@ -5,13 +5,18 @@ use Prim.Native.Nat.{ℕ, suc, _+_, _-_, _<_, _≤_}
 use native.Mathlib.Numerals.{add-one}
 use native.Mathlib.Omega.{arith}
 use lib.ListN.{length, take, drop, getD, set, length-drop, length-reverse, length-set}
-use lib.Seq.{paste, paste-zero, paste-suc, length-paste, take-paste, drop-paste, take-all, split-at, getD-at, take-suc-set, drop-set-lt}
+use lib.Seq.{slice, length-slice, paste, paste-zero, paste-suc, take-paste, drop-paste, take-all, split-at, getD-at, take-suc-set, drop-set-lt}
 use Rattle.edits.specs.Edits.{Appended}
+use Rattle.edits.proofs.Cuts.{lent}
 
 -- what was in use, and then the part; a chain of appends starts at 0, where `take 0 before` is `[]`
-pub appended-on : (count : ℕ) (part before : List ℕ) (end : ℕ) (after held : List ℕ)
+pub appended-on : {count : ℕ} {part before : List ℕ} {end : ℕ} {after held : List ℕ}
     → Appended count part before end after → take count before ≡ held → take end after ≡ held ++ part
-appended-on count part before end after held new old = new .filled ∙ ap (λ (l : List ℕ). l ++ part) old
+appended-on {part = part} new old = new .filled ∙ ap (λ (l : List ℕ). l ++ part) old
+
+-- a whole list overwritten: a part as long as the buffer, appended to nothing
+pub appended-whole : {part before : List ℕ} {end : ℕ} {after : List ℕ} → Appended 0 part before end after → length part ≡ length before → after ≡ part
+appended-whole {end = end} {after = after} new all = sym (take-all end after (omega (arith, new .ends, new .same-length))) ∙ new .filled
 
 -- a loop that has stored i visits of the part behind the first `count`
 pub record Storing (count : ℕ) (part before : List ℕ) (i : ℕ) (now : List ℕ) : Type 0 where
@@ -62,3 +67,11 @@ getD-reverse xs i h =
     ∙ append-assoc (reverse (drop (suc k) xs)) (visit ∷ []) (reverse (take k xs)) in
     let long : length (reverse (drop (suc k) xs)) ≡ i = rw (length-reverse, length-drop) (omega arith) in
     sym (ap (λ (l : List ℕ). getD l i 0) back ∙ getD-at (reverse (drop (suc k) xs)) visit (reverse (take k xs)) 0 i long)
+
+-- a part lent from a list is the list's stretch, as it is or turned round: g keeps the length
+pub stretch : (g : List ℕ → List ℕ) → ((l : List ℕ) → length (g l) ≡ length l) → (xs : List ℕ) (from to : ℕ) → from ≤ to → to ≤ length xs
+    → {count : ℕ} {before : List ℕ} {end : ℕ} {after : List ℕ} → Appended count (g (take (to - from) (drop from xs))) before end after
+    → (end ≡ count + (to - from)) × Appended count (g (slice from to xs)) before end after
+stretch g keeps xs from to h k new =
+    let here = rw (lent from to xs h) at new in
+    (omega (arith, here .ends, keeps (slice from to xs), length-slice from to xs k), here)

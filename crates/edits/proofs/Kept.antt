@@ -1,13 +1,14 @@
 -- What every edit keeps: every total over the visits, whatever is added up. So how often each office stands in the list, its load, and its length.
 -- An edit only arranges the pieces of a list anew, and a total of pieces is the sum of their totals. Assumes nothing.
-use mathlib.Core.Path.{_≡_, sym, ap, _∙_}
+use mathlib.Core.Path.{_≡_, refl, sym, ap, _∙_}
 use mathlib.Core.Logic.{_⊎_, inl, inr}
-use mathlib.Core.List.{List, _++_}
+use mathlib.Core.Bool.{Bool, true, false, not}
+use mathlib.Core.List.{List}
 use Prim.Native.Nat.{ℕ, _+_, _<_, _≤_}
 use native.Mathlib.Omega.{arith}
 use lib.Dec.{eqb}
-use lib.ListN.{length}
-use Rattle.edits.specs.Total.{total, bit, count, SameVisits, sums, total-one}
+use lib.ListN.{length, getD}
+use Rattle.edits.specs.Total.{total, bit, count, SameVisits, sums, total-one, total-none, part-le}
 use Rattle.edits.specs.Edits.{reversed, exchanged, putBefore, outerExchanged}
 use Rattle.edits.proofs.Cuts.{cut, cut4, cut5}
 use Rattle.edits.proofs.Turns.{put-earlier, put-later}
@@ -34,12 +35,28 @@ same-outerExchanged from a b to xs h₁ h₂ h₃ f =
     simp sums (omega arith)
 
 pub same-putBefore : (from size to : ℕ) (xs : List ℕ) → ((to < from) ⊎ (from + size ≤ to)) → SameVisits xs (putBefore from size to xs)
-same-putBefore from size to xs (inl earlier) f = rw (put-earlier from size to xs earlier) (same-exchanged to from (from + size) xs (omega arith) (omega arith) f)
-same-putBefore from size to xs (inr later) f = rw (put-later from size to xs (omega arith)) (same-exchanged from (from + size) to xs (omega arith) later f)
+same-putBefore from size to xs (inl earlier) f =
+    rw (put-earlier from size to xs earlier) (same-exchanged to from (from + size) xs (omega arith) (omega arith) f)
+same-putBefore from size to xs (inr later) f =
+    rw (put-later from size to xs (omega arith)) (same-exchanged from (from + size) to xs (omega arith) later f)
 
 -- how often an office stands in the list is such a total
 pub same-count : (office : ℕ) (xs ys : List ℕ) → SameVisits xs ys → count office ys ≡ count office xs
 same-count office xs ys same = same (λ visit. bit (eqb office visit))
+
+-- what held at every place still does, as that a visit is below a bound: where it fails counts 1, and that total is 0
+pub same-each : (ok : ℕ → Bool) (xs ys : List ℕ) → SameVisits xs ys
+    → ((k : ℕ) → k < length xs → ok (getD xs k 0) ≡ true) → (k : ℕ) → k < length ys → ok (getD ys k 0) ≡ true
+same-each ok xs ys same held k h =
+    let wrong : ℕ → ℕ = λ visit. bit (not (ok visit)) in
+    let none : total wrong xs ≡ 0 = total-none wrong xs 0 (λ i below. ap (λ (b : Bool). bit (not b)) (held i below)) in
+    let here : wrong (getD ys k 0) ≤ total wrong ys = part-le wrong ys k 0 h in
+    let zero-here : wrong (getD ys k 0) ≡ 0 = omega (arith, same wrong) in
+    right (ok (getD ys k 0)) zero-here
+  where
+    right : (b : Bool) → bit (not b) ≡ 0 → b ≡ true
+    right true e = refl
+    right false e = absurd (omega arith)
 
 -- one edit after another
 pub same-on : (xs ys zs : List ℕ) → SameVisits xs ys → SameVisits ys zs → SameVisits xs zs

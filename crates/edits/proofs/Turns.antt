@@ -1,15 +1,15 @@
 -- The exchanges as reversals: pieces that are turned round each, and then all together, stand in the opposite order, each as it was.
 -- Assumes nothing.
-use mathlib.Core.Path.{_≡_, refl, sym, ap, _∙_}
-use mathlib.Core.List.{List, [], _∷_, _++_, reverse, append-assoc, append-nil, reverse-append, reverse-reverse}
+use mathlib.Core.Path.{_≡_, sym, ap, _∙_}
+use mathlib.Core.List.{List, _++_, reverse, append-assoc, append-nil, reverse-append, reverse-reverse}
 use Prim.Native.Nat.{ℕ, _+_, _-_, _<_, _≤_}
 use native.Mathlib.Omega.{arith}
 use borrow.Author.Tests.{lt-ltb, le-ltb}
-use lib.ListN.{length, take, drop, length-append, length-reverse, take-append-drop}
+use lib.ListN.{length, take, drop, length-append, length-reverse}
 use lib.Seq.{slice, slice-empty, length-take-le, length-slice}
 use Rattle.edits.specs.Edits.{reversed, exchanged, putBefore, outerExchanged}
 use Rattle.edits.proofs.Cuts.{cut, cut4, cut5}
-use Rattle.edits.proofs.Pieces.{reversed-at}
+use Rattle.edits.proofs.Pieces.{reversed-at, exchanged-at}
 
 -- the piece B that comes next, behind the pieces A
 next : (A B C : List ℕ) (i e : ℕ) → length A ≡ i → length A + length B ≡ e → reversed i e (A ++ (B ++ C)) ≡ A ++ reverse B ++ C
@@ -51,23 +51,10 @@ outer-by-reversals from a b to xs h₁ h₂ h₃ k =
     ap (λ (l : List ℕ). reversed from to (reversed b to (reversed a b (reversed from a l)))) pieces
     ∙ four-reversals (take from xs) (slice from a xs) (slice a b xs) (slice b to xs) (drop to xs) from a b to at-from (omega arith) (omega arith) (omega arith)
 
--- an empty stretch reversed
-reversed-none : (i : ℕ) (xs : List ℕ) → reversed i i xs ≡ xs
-unfolding reversed
-reversed-none i xs = rw (slice-empty i xs, append-nil, take-append-drop i xs)
-
 -- neighbouring stretches are outer stretches with nothing between them
 pub outer-none : (from middle to : ℕ) (xs : List ℕ) → outerExchanged from middle middle to xs ≡ exchanged from middle to xs
 unfolding outerExchanged exchanged
 outer-none from middle to xs = rw (slice-empty middle xs, append-nil)
-
--- neighbouring stretches exchanged, by three reversals
-pub exchanged-by-reversals : (from middle to : ℕ) (xs : List ℕ) → from ≤ middle → middle ≤ to → to ≤ length xs
-    → reversed from to (reversed middle to (reversed from middle xs)) ≡ exchanged from middle to xs
-exchanged-by-reversals from middle to xs h k l =
-    ap (λ (ys : List ℕ). reversed from to (reversed middle to ys)) (sym (reversed-none middle (reversed from middle xs)))
-    ∙ outer-by-reversals from middle middle to xs h (omega arith) k l
-    ∙ outer-none from middle to xs
 
 -- Or-opt's move to an earlier place, and to a later one, exchanges the piece with the visits between
 pub put-earlier : (from size to : ℕ) (xs : List ℕ) → to < from → putBefore from size to xs ≡ exchanged to from (from + size) xs
@@ -86,3 +73,14 @@ reversed-twice from to xs h k =
     let of-B : length (slice from to xs) ≡ to - from = length-slice from to xs k in
     let of-B′ : length (reverse (slice from to xs)) ≡ length (slice from to xs) = length-reverse (slice from to xs) in
     reversed-at (take from xs) (reverse (slice from to xs)) (drop to xs) from to at-from (omega arith) ∙ rw reverse-reverse (cut xs from to h)
+
+-- stretches exchanged and exchanged back leave the list as it was
+pub exchanged-back : (from middle to : ℕ) (xs : List ℕ) → from ≤ middle → middle ≤ to → to ≤ length xs
+    → exchanged from (from + (to - middle)) to (exchanged from middle to xs) ≡ xs
+unfolding exchanged
+exchanged-back from middle to xs h k l =
+    let at-from : length (take from xs) ≡ from = length-take-le from xs (omega arith) in
+    let of-B : length (slice from middle xs) ≡ middle - from = length-slice from middle xs (omega arith) in
+    let of-C : length (slice middle to xs) ≡ to - middle = length-slice middle to xs l in
+    exchanged-at (take from xs) (slice middle to xs) (slice from middle xs) (drop to xs) from (from + (to - middle)) to at-from (omega arith) (omega arith)
+    ∙ cut4 xs from middle to h k

@@ -1,8 +1,8 @@
 -- The edits of one list of visits, as lists: what the functions of src/ make of their slice, for the contracts and for the engines above.
 -- Places count from 0; a stretch goes from a place up to, not including, another. Assumes nothing.
 use mathlib.Core.Path.{_≡_}
-use mathlib.Core.Bool.{Bool, true, false}
-use mathlib.Core.List.{List, [], _∷_, _++_, reverse}
+use mathlib.Core.Bool.{true, false}
+use mathlib.Core.List.{List, _++_, reverse}
 use Prim.Native.Nat.{ℕ, _+_}
 use lib.Dec.{ltb}
 use lib.ListN.{length, take, drop, getD, set}

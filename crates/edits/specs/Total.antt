@@ -2,10 +2,10 @@
 use mathlib.Core.Path.{_≡_, refl}
 use mathlib.Core.Bool.{Bool, true, false}
 use mathlib.Core.List.{List, [], _∷_, _++_, reverse, reverse-cons}
-use Prim.Native.Nat.{ℕ, _+_}
+use Prim.Native.Nat.{ℕ, zero, suc, _+_, _≤_, _<_, suc-le-suc}
 use native.Mathlib.Omega.{arith}
 use lib.Dec.{eqb}
-use lib.ListN.{length}
+use lib.ListN.{length, getD, set}
 
 -- what f gives for each entry of a list, added up (01: 'a list's load, its visits' demands added up', with the demand for f)
 abbrev pub total : {A : Type 0} → (A → ℕ) → List A → ℕ
@@ -43,5 +43,31 @@ total-reverse f (x ∷ xs) =
 pub total-one : {A : Type 0} (xs : List A) → total (λ x. 1) xs ≡ length xs
 total-one [] = refl
 total-one (x ∷ xs) = let ih = total-one xs in omega arith
+
+-- one entry stored anew: what it had goes, what it has comes
+pub total-set : {A : Type 0} (f : A → ℕ) (xs : List A) (i : ℕ) (y z : A) → i < length xs
+    → total f (set xs i y) + f (getD xs i z) ≡ total f xs + f y
+total-set f [] i y z h = omega arith
+total-set f (x ∷ xs) zero y z h = omega arith
+total-set f (x ∷ xs) (suc i) y z h = let ih : total f (set xs i y) + f (getD xs i z) ≡ total f xs + f y = total-set f xs i y z (omega arith) in omega arith
+
+-- measures that agree have one total
+pub total-cong : {A : Type 0} (f g : A → ℕ) (xs : List A) → ((x : A) → f x ≡ g x) → total f xs ≡ total g xs
+total-cong f g [] e = refl
+total-cong f g (x ∷ xs) e = let ih = total-cong f g xs e in omega (arith, e x)
+
+-- no part is more than the whole
+pub part-le : {A : Type 0} (f : A → ℕ) (xs : List A) (i : ℕ) (z : A) → i < length xs → f (getD xs i z) ≤ total f xs
+part-le f [] i z h = absurd (omega arith)
+part-le f (x ∷ xs) zero z h = omega arith
+part-le f (x ∷ xs) (suc i) z h = let ih = part-le f xs i z (omega arith) in omega arith
+
+-- a total of nothing but 0 is 0
+pub total-none : {A : Type 0} (f : A → ℕ) (xs : List A) (z : A) → ((i : ℕ) → i < length xs → f (getD xs i z) ≡ 0) → total f xs ≡ 0
+total-none f [] z h = refl
+total-none f (x ∷ xs) z h =
+    let first : f x ≡ 0 = h 0 (omega arith) in
+    let ih = total-none f xs z (λ i k. h (suc i) (suc-le-suc k)) in
+    omega arith
 
 pub ruleset sums = (total-append, total-reverse)

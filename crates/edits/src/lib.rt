@@ -1,12 +1,13 @@
 // The edits of one list of visits, in place, and the building of a list in a lent buffer.
 //
-// Each function's contract equates its slice at exit with the edit of specs/Edits.antt at entry. All edits but the exchange of two
-// visits are reversals: reversing two neighbours and then the whole exchanges them, and each visit is moved twice at most.
+// Each function's contract equates its slice at exit with the edit of specs/Edits.antt at entry. Every edit is made of reversals, so
+// it needs no second list, and each visit is moved twice at most.
 ghost use mathlib.Core.Path.{_≡_};
 ghost use mathlib.Core.Logic.{_⊎_};
 ghost use mathlib.Core.List.{[], _∷_, reverse};
-ghost use Prim.Native.Nat.{_+_, _<_, _≤_};
+ghost use Prim.Native.Nat.{_+_, _-_, _<_, _≤_};
 ghost use lib.ListN.{length};
+ghost use lib.Seq.{slice};
 ghost use Rattle.edits.specs.Edits.{swapped, reversed, exchanged, putBefore, outerExchanged, Appended};
 
 // Exchanges the visits at places i and j.
@@ -39,15 +40,26 @@ pub fn reverse(list: &mut [u16], from: usize, to: usize)
     }
 }
 
-// Exchanges the neighbouring stretches from..middle and middle..to: each is reversed, and then both together.
+// Exchanges the stretches from..a and b..to round the stretch a..b: each of the three is reversed, and then all
+// together, which puts them in the opposite order, each as it was.
+pub fn exchange_outer(list: &mut [u16], from: usize, a: usize, b: usize, to: usize)
+    requires { ⌜ (from ≤ a) × (a ≤ b) × (b ≤ to) ⌝ }
+    requires { ⌜ to ≤ length (now list) ⌝ }
+    ensures { λ _. ⌜ now (list .exit) ≡ outerExchanged from a b to (now (list .entry)) ⌝ }
+{
+    reverse(list, from, a);
+    reverse(list, a, b);
+    reverse(list, b, to);
+    reverse(list, from, to);
+}
+
+// Exchanges the neighbouring stretches from..middle and middle..to: outer stretches with nothing between them.
 pub fn exchange_stretches(list: &mut [u16], from: usize, middle: usize, to: usize)
     requires { ⌜ (from ≤ middle) × (middle ≤ to) ⌝ }
     requires { ⌜ to ≤ length (now list) ⌝ }
     ensures { λ _. ⌜ now (list .exit) ≡ exchanged from middle to (now (list .entry)) ⌝ }
 {
-    reverse(list, from, middle);
-    reverse(list, middle, to);
-    reverse(list, from, to);
+    exchange_outer(list, from, middle, middle, to);
 }
 
 // Or-opt's move: the piece of `size` visits at `from` goes before the visit at place `to` of the original list, which is not in it.
@@ -64,18 +76,6 @@ pub fn move_piece(list: &mut [u16], from: usize, size: usize, to: usize)
         return;
     }
     exchange_stretches(list, from, behind, to);
-}
-
-// Exchanges the stretches from..a and b..to round the stretch a..b: each of the three is reversed, and then all together.
-pub fn exchange_outer(list: &mut [u16], from: usize, a: usize, b: usize, to: usize)
-    requires { ⌜ (from ≤ a) × (a ≤ b) × (b ≤ to) ⌝ }
-    requires { ⌜ to ≤ length (now list) ⌝ }
-    ensures { λ _. ⌜ now (list .exit) ≡ outerExchanged from a b to (now (list .entry)) ⌝ }
-{
-    reverse(list, from, a);
-    reverse(list, a, b);
-    reverse(list, b, to);
-    reverse(list, from, to);
 }
 
 // Appends `part` to the first `count` visits of the buffer, and returns how many are in use now.
@@ -102,6 +102,38 @@ pub fn append_reversed(buffer: &mut [u16], count: usize, part: &[u16]) -> usize
         i += 1;
     }
     count + i
+}
+
+// Appends the visits of `list` from place `from` up to, not including, place `to`.
+pub fn append_stretch(
+    buffer: &mut [u16],
+    count: usize,
+    list: &[u16],
+    from: usize,
+    to: usize,
+) -> usize
+    requires { ⌜ (from ≤ to) × (to ≤ length (now list)) ⌝ }
+    requires { ⌜ count + (to - from) ≤ length (now buffer) ⌝ }
+    ensures { λ r. ⌜ r ≡ count + (to - from) ⌝ }
+    ensures { λ r. ⌜ Appended count (slice from to (now (list .entry))) (now (buffer .entry)) r (now (buffer .exit)) ⌝ }
+{
+    append(buffer, count, &list[from..to])
+}
+
+// Appends the same visits in the opposite order.
+pub fn append_stretch_reversed(
+    buffer: &mut [u16],
+    count: usize,
+    list: &[u16],
+    from: usize,
+    to: usize,
+) -> usize
+    requires { ⌜ (from ≤ to) × (to ≤ length (now list)) ⌝ }
+    requires { ⌜ count + (to - from) ≤ length (now buffer) ⌝ }
+    ensures { λ r. ⌜ r ≡ count + (to - from) ⌝ }
+    ensures { λ r. ⌜ Appended count (reverse (slice from to (now (list .entry)))) (now (buffer .entry)) r (now (buffer .exit)) ⌝ }
+{
+    append_reversed(buffer, count, &list[from..to])
 }
 
 // Appends one visit.

@@ -1,5 +1,4 @@
 -- `edits::append` meets its contract. The invariant: the first i visits of the part stand behind the first `count`.
-use native.Mathlib.Omega.{arith}
 use Prim.Native.Nat.{_-_}
 use mathlib.Core.Path.{refl}
 use borrow.Author.Needs.{needs}

@@ -21,11 +21,12 @@ same-length c = search needs
 
 returns : tie.Need-returns
 returns c =
-    let third = c .before .before .before .before in
+    let fourth = c .before .before in
+    let third = fourth .before .before .before .before in
     let second = third .before .before .before .before in
     let first = second .before .before .before .before in
-    let start = first .before .before .before .before .before in
-    rw (c .before .before .reverse4 .ensures, third .before .before .reverse3 .ensures, second .before .before .reverse2 .ensures, first .before .before .reverse .ensures)
+    let start = first .before .before .before in
+    rw (fourth .reverse4 .ensures, third .reverse3 .ensures, second .reverse2 .ensures, first .reverse .ensures)
     (outer-by-reversals _ _ _ _ _ (start .pre .0 .0) (start .pre .0 .1) (start .pre .0 .2) (start .pre .1))
 
 pub exchange-outer-spec : {M : Type 1} → statement M

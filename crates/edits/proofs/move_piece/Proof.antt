@@ -1,7 +1,6 @@
 -- `edits::move_piece` meets its contract: the piece and the visits between it and its new place are neighbours, which change places.
 use mathlib.Core.Path.{sym, _∙_}
 use mathlib.Core.Logic.{⊎-elim}
-use native.Mathlib.Omega.{arith}
 use borrow.Author.Needs.{needs}
 use Rattle.edits.proofs.Turns.{put-earlier, put-later}
 use Rattle.edits.proofs.move_piece.Statement.{statement}

@@ -42,14 +42,14 @@ loop-again c =
     let at-swap = c .before .before in
     let at-test = at-swap .before .before in
     let at-loop = at-test .before in
-    let M = mid-step _ _ _ _ _ (at-loop .loop .inv .3) (at-test .loop-test .taken) (at-loop .loop .inv .0) in
+    let M = mid-step _ _ _ _ _ (at-loop .loop .inv .3) (omega arith) (at-loop .loop .inv .0) in
     (omega arith, omega arith, ap length (at-swap .swap .ensures) ∙ simp length-swapped (at-loop .loop .inv .2), rw (at-swap .swap .ensures) M)
 
 same-length : tie.Need-same-length Inv-loop μ-loop
 same-length c = c .before .loop .inv .2
 
 returns : tie.Need-returns Inv-loop μ-loop
-returns c = mid-done _ _ _ _ (c .before .loop .inv .3) (c .loop-test .left)
+returns c = mid-done _ _ _ _ (c .before .loop .inv .3) (omega arith)
 
 pub reverse-spec : {M : Type 1} → statement M
 reverse-spec =
