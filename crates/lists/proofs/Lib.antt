@@ -6,3 +6,4 @@ pub mod Packing
 pub mod Edited
 pub mod Two
 pub mod Across
+pub mod StillFine
