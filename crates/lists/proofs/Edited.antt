@@ -60,7 +60,7 @@ module _ (visits lengths : List ℕ) (laid : Laid visits lengths) where
   with-total r xs ys same f = simp total-append (omega (arith, same f))
 
   -- the caller's part of list r, given back as `new`
-  pub put-edited : (r start end : ℕ) (new : List ℕ) → r < length lengths → start ≡ startOf lengths r → end ≡ start + getD lengths r 0
+  pub put-edited : (r start end : ℕ) (new : List ℕ) → r < length lengths → start ≡ startOf lengths r → end ≡ startOf lengths r + getD lengths r 0
       → SameVisits (listOf visits lengths r) new
       → Edited visits lengths (putMid start (end - start) visits new) lengths (set (lists visits lengths) r new)
   put-edited r start end new h starts ends same =

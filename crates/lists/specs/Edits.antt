@@ -35,8 +35,9 @@ receiver ls from position to place = take place (at ls to) ++ getD (at ls from) 
 unfoldable pub relocated : List (List ℕ) → ℕ → ℕ → ℕ → ℕ → List (List ℕ)
 relocated ls from position to place = set (set ls from (giver ls from position)) to (receiver ls from position to place)
 
--- what a call asks of these four: a visit of one list, and a place of another
-pub record Relocates (lengths : List ℕ) (from position to place : ℕ) : Type 0 where
+-- what a call asks: a visit of one list, and a place of another
+pub record Relocates (visits lengths : List ℕ) (from position to place : ℕ) : Type 0 where
+  pub laid : Laid visits lengths
   pub gives : from < length lengths
   pub takes : to < length lengths
   pub apart : from ≢ to
@@ -62,11 +63,17 @@ tailsExchanged ls one other cut1 cut2 =
     set (set ls one (joined (at ls one) cut1 (at ls other) cut2)) other (joined (at ls other) cut2 (at ls one) cut1)
 
 -- what a call asks: two lists in their order, and a cut of each
-pub record Cuts (lengths : List ℕ) (one other cut1 cut2 : ℕ) : Type 0 where
+pub record Cuts (visits lengths : List ℕ) (one other cut1 cut2 : ℕ) : Type 0 where
+  pub laid : Laid visits lengths
   pub before : one < other
   pub there : other < length lengths
   pub within1 : cut1 ≤ getD lengths one 0
   pub within2 : cut2 ≤ getD lengths other 0
+
+-- the lengths of the two: what each keeps, and the other's tail
+unfoldable pub tailLengths : ℕ → ℕ → ℕ → ℕ → List ℕ → List ℕ
+tailLengths one other cut1 cut2 lengths =
+    set (set lengths one (cut1 + (getD lengths other 0 - cut2))) other (cut2 + (getD lengths one 0 - cut1))
 
 -- ---- 01: 'empty lists dropped in order. [..] Dropped places leave length 0 [..] at the end'
 

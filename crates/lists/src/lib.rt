@@ -2,32 +2,48 @@
 // where a list lies, and the edits of both tables in place. Each edit equals its definition on a list of lists (specs/Table.antt says how the two go together).
 ghost use mathlib.Core.Path.{_≡_};
 ghost use mathlib.Core.List.{[], _∷_};
-ghost use Prim.Native.Nat.{_≤_, _<_};
-ghost use lib.ListN.{length, getD, set};
+ghost use Prim.Native.Nat.{_+_, _≤_, _<_};
+ghost use lib.ListN.{length, getD};
 ghost use Rattle.lists.specs.Table.{Laid, lists, startOf, listOf};
 ghost use Rattle.lists.specs.Refused.{allShort, shapeOk, visitOk, visitsOk, newAt, distinct, tableRefusal, listsRefusal};
-ghost use Rattle.lists.specs.Edits.{nonzero, packed, Edited, Relocates, relocated, movedOne, lengthMoved, Cuts, tailsExchanged};
+ghost use Rattle.lists.specs.Edits.{nonzero, packed, Edited, Relocates, relocated, movedOne, lengthMoved, Cuts, tailsExchanged, tailLengths};
 
-// Where list r starts in the table of visits: sixteen lengths can't wrap.
-pub fn start_of(lengths: &[u16], r: usize) -> usize
-    requires { ⌜ (r ≤ length (now lengths)) × (r ≤ 16) ⌝ }
-    ensures { λ x. ⌜ x ≡ startOf (now (lengths .entry)) r ⌝ }
+// Where the visit at `position` of list r stands in the table: behind the lists before r. Sixteen lengths can't wrap.
+pub fn place_of(lengths: &[u16], r: usize, position: usize) -> usize
+    requires { ⌜ (r ≤ length (now lengths)) × (r ≤ 16) × (position ≤ 65535) ⌝ }
+    ensures { λ p. ⌜ p ≡ startOf (now (lengths .entry)) r + position ⌝ }
 {
-    let mut sum: usize = 0;
+    let mut place = position;
     let mut i = 0;
     while i < r {
-        sum += lengths[i] as usize;
+        place += lengths[i] as usize;
         i += 1;
     }
-    sum
+    place
+}
+
+// Where list r starts.
+pub fn start_of(lengths: &[u16], r: usize) -> usize
+    requires { ⌜ (r ≤ length (now lengths)) × (r ≤ 16) ⌝ }
+    ensures { λ p. ⌜ p ≡ startOf (now (lengths .entry)) r ⌝ }
+{
+    place_of(lengths, r, 0)
 }
 
 // How many visits list r has.
 pub fn length_of(lengths: &[u16], r: usize) -> usize
     requires { ⌜ r < length (now lengths) ⌝ }
-    ensures { λ n. ⌜ n ≡ getD (now (lengths .entry)) r 0 ⌝ }
+    ensures { λ n. ⌜ (n ≡ getD (now (lengths .entry)) r 0) × (n ≤ 65535) ⌝ }
 {
     lengths[r] as usize
+}
+
+// Where list r ends.
+pub fn end_of(lengths: &[u16], r: usize) -> usize
+    requires { ⌜ (r < length (now lengths)) × (r ≤ 16) ⌝ }
+    ensures { λ p. ⌜ p ≡ startOf (now (lengths .entry)) r + getD (now (lengths .entry)) r 0 ⌝ }
+{
+    place_of(lengths, r, length_of(lengths, r))
 }
 
 // List r, as the caller's own part of the table.
@@ -36,7 +52,7 @@ pub fn list_of<'a>(visits: &'a [u16], lengths: &[u16], r: usize) -> &'a [u16]
     ensures { λ x. ⌜ now x ≡ listOf (now (visits .entry)) (now (lengths .entry)) r ⌝ }
 {
     let start = start_of(lengths, r);
-    let end = start + length_of(lengths, r);
+    let end = end_of(lengths, r);
     &visits[start..end]
 }
 
@@ -98,12 +114,12 @@ fn new_at(visits: &[u16], j: usize) -> bool
     requires { ⌜ j < length (now visits) ⌝ }
     ensures { λ r. ⌜ r ≡ newAt (now (visits .entry)) j ⌝ }
 {
-    let mut i = 0;
-    while i < j {
-        if visits[i] == visits[j] {
+    let mut earlier = 0;
+    while earlier < j {
+        if visits[earlier] == visits[j] {
             return false;
         }
-        i += 1;
+        earlier += 1;
     }
     true
 }
@@ -210,24 +226,27 @@ pub fn move_visit(
     to: usize,
     place: usize,
 )
-    requires { ⌜ Laid (now visits) (now lengths) ⌝ }
-    requires { ⌜ Relocates (now lengths) from position to place ⌝ }
+    requires { ⌜ Relocates (now visits) (now lengths) from position to place ⌝ }
     ensures { λ _. ⌜ Edited (now (visits .entry)) (now (lengths .entry)) (now (visits .exit)) (now (lengths .exit))
         (relocated (lists (now (visits .entry)) (now (lengths .entry))) from position to place) ⌝ }
 {
-    let p = start_of(lengths, from) + position;
-    let q = start_of(lengths, to) + place;
+    let p = place_of(lengths, from, position);
+    let q = place_of(lengths, to, place);
     move_one(visits, p, q);
     move_length(lengths, from, to);
 }
 
-// New lengths for two lists.
-fn store_two(lengths: &mut [u16], one: usize, first: u16, other: usize, second: u16)
+// The lengths of two lists that keep `cut1` and `cut2` visits and exchange the rest.
+fn exchange_lengths(lengths: &mut [u16], one: usize, other: usize, cut1: usize, cut2: usize)
     requires { ⌜ (one < length (now lengths)) × (other < length (now lengths)) ⌝ }
-    ensures { λ _. ⌜ now (lengths .exit) ≡ set (set (now (lengths .entry)) one first) other second ⌝ }
+    requires { ⌜ (cut1 ≤ getD (now lengths) one 0) × (cut2 ≤ getD (now lengths) other 0) ⌝ }
+    requires { ⌜ getD (now lengths) one 0 + getD (now lengths) other 0 ≤ 65535 ⌝ }
+    ensures { λ _. ⌜ now (lengths .exit) ≡ tailLengths one other cut1 cut2 (now (lengths .entry)) ⌝ }
 {
-    lengths[one] = first;
-    lengths[other] = second;
+    let first = cut1 + (length_of(lengths, other) - cut2);
+    let second = cut2 + (length_of(lengths, one) - cut1);
+    lengths[one] = first as u16;
+    lengths[other] = second as u16;
 }
 
 // Exchanges the tails of lists `one` and `other`, of which these keep `cut1` and `cut2` visits, in both tables.
@@ -239,23 +258,14 @@ pub fn exchange_tails(
     cut1: usize,
     cut2: usize,
 )
-    requires { ⌜ Laid (now visits) (now lengths) ⌝ }
-    requires { ⌜ Cuts (now lengths) one other cut1 cut2 ⌝ }
+    requires { ⌜ Cuts (now visits) (now lengths) one other cut1 cut2 ⌝ }
     ensures { λ _. ⌜ Edited (now (visits .entry)) (now (lengths .entry)) (now (visits .exit)) (now (lengths .exit))
         (tailsExchanged (lists (now (visits .entry)) (now (lengths .entry))) one other cut1 cut2) ⌝ }
 {
-    let start1 = start_of(lengths, one);
-    let start2 = start_of(lengths, other);
-    let n1 = length_of(lengths, one);
-    let n2 = length_of(lengths, other);
-    edits::exchange_outer(
-        visits,
-        start1 + cut1,
-        start1 + n1,
-        start2 + cut2,
-        start2 + n2,
-    );
-    let first = cut1 + (n2 - cut2);
-    let second = cut2 + (n1 - cut1);
-    store_two(lengths, one, first as u16, other, second as u16);
+    let from = place_of(lengths, one, cut1);
+    let a = end_of(lengths, one);
+    let b = place_of(lengths, other, cut2);
+    let to = end_of(lengths, other);
+    edits::exchange_outer(visits, from, a, b, to);
+    exchange_lengths(lengths, one, other, cut1, cut2);
 }

@@ -6,71 +6,25 @@ use Rattle.lists.proofs.Across.{tails-room, tails-edited}
 use Rattle.lists.proofs.exchange_tails.Statement.{statement}
 use Rattle.lists.proofs.exchange_tails.Tie as tie
 
-start-of-requires : tie.Need-start-of-requires
-start-of-requires c κs = search needs
+place-of-requires : tie.Need-place-of-requires
+place-of-requires c κs = let room = tails-room _ _ _ _ _ _ (c .before .before .before .pre) in omega arith
 
-start-of-requires-2 : tie.Need-start-of-requires-2
-start-of-requires-2 c κs = search needs
+end-of-requires : tie.Need-end-of-requires
+end-of-requires c κs = search needs
 
-length-of-requires : tie.Need-length-of-requires
-length-of-requires c κs = search needs
+place-of-requires-2 : tie.Need-place-of-requires-2
+place-of-requires-2 c κs = let room = tails-room _ _ _ _ _ _ (c .before .before .before .before .before .before .before .pre) in omega arith
 
-length-of-requires-2 : tie.Need-length-of-requires-2
-length-of-requires-2 c κs = search needs
-
-add-exchange-outer : tie.Need-add-exchange-outer
-add-exchange-outer c =
-    let room = tails-room _ _ _ _ _ _ (c .before .before .before .before .before .before .before .before .before .before .before .pre .0) (c .before .before .before .before .before .before .before .before .before .before .before .pre .1) in
-    omega (arith, c .before .before .before .before .before .before .before .start-of .ensures, c .before .before .before .before .before .start-of2 .ensures, c .before .before .before .length-of .ensures, c .before .length-of2 .ensures)
-
-add-exchange-outer-2 : tie.Need-add-exchange-outer-2
-add-exchange-outer-2 c =
-    let room = tails-room _ _ _ _ _ _ (c .before .before .before .before .before .before .before .before .before .before .before .pre .0) (c .before .before .before .before .before .before .before .before .before .before .before .pre .1) in
-    omega (arith, c .before .before .before .before .before .before .before .start-of .ensures, c .before .before .before .before .before .start-of2 .ensures, c .before .before .before .length-of .ensures, c .before .length-of2 .ensures)
-
-add-exchange-outer-3 : tie.Need-add-exchange-outer-3
-add-exchange-outer-3 c =
-    let room = tails-room _ _ _ _ _ _ (c .before .before .before .before .before .before .before .before .before .before .before .pre .0) (c .before .before .before .before .before .before .before .before .before .before .before .pre .1) in
-    omega (arith, c .before .before .before .before .before .before .before .start-of .ensures, c .before .before .before .before .before .start-of2 .ensures, c .before .before .before .length-of .ensures, c .before .length-of2 .ensures)
-
-add-exchange-outer-4 : tie.Need-add-exchange-outer-4
-add-exchange-outer-4 c =
-    let room = tails-room _ _ _ _ _ _ (c .before .before .before .before .before .before .before .before .before .before .before .pre .0) (c .before .before .before .before .before .before .before .before .before .before .before .pre .1) in
-    omega (arith, c .before .before .before .before .before .before .before .start-of .ensures, c .before .before .before .before .before .start-of2 .ensures, c .before .before .before .length-of .ensures, c .before .length-of2 .ensures)
+end-of-requires-2 : tie.Need-end-of-requires-2
+end-of-requires-2 c κs = search needs
 
 exchange-outer-requires : tie.Need-exchange-outer-requires
 exchange-outer-requires c κs =
-    let room = tails-room _ _ _ _ _ _ (c .before .before .before .before .before .before .before .before .before .before .before .pre .0) (c .before .before .before .before .before .before .before .before .before .before .before .pre .1) in
-    omega (arith, c .before .before .before .before .before .before .before .start-of .ensures, c .before .before .before .before .before .start-of2 .ensures, c .before .before .before .length-of .ensures, c .before .length-of2 .ensures)
+    let room = tails-room _ _ _ _ _ _ (c .before .before .before .before .before .before .before .before .before .before .before .pre) in
+    omega (arith, c .before .before .before .before .before .before .before .place-of .ensures, c .before .before .before .before .before .end-of .ensures, c .before .before .before .place-of2 .ensures, c .before .end-of2 .ensures)
 
-sub-first : tie.Need-sub-first
-sub-first c = search needs
-
-add-first : tie.Need-add-first
-add-first c =
-    let room = tails-room _ _ _ _ _ _ (c .before .before .before .before .before .before .before .before .before .before .before .before .before .before .pre .0) (c .before .before .before .before .before .before .before .before .before .before .before .before .before .before .pre .1) in
-    omega (arith, c .before .before .before .before .before .before .before .before .before .before .start-of .ensures, c .before .before .before .before .before .before .before .before .start-of2 .ensures, c .before .before .before .before .before .before .length-of .ensures, c .before .before .before .before .length-of2 .ensures)
-
-sub-second : tie.Need-sub-second
-sub-second c = search needs
-
-add-second : tie.Need-add-second
-add-second c =
-    let room = tails-room _ _ _ _ _ _ (c .before .before .before .before .before .before .before .before .before .before .before .before .before .before .pre .0) (c .before .before .before .before .before .before .before .before .before .before .before .before .before .before .pre .1) in
-    omega (arith, c .before .before .before .before .before .before .before .before .before .before .start-of .ensures, c .before .before .before .before .before .before .before .before .start-of2 .ensures, c .before .before .before .before .before .before .length-of .ensures, c .before .before .before .before .length-of2 .ensures)
-
-cast-store-two : tie.Need-cast-store-two
-cast-store-two c =
-    let room = tails-room _ _ _ _ _ _ (c .before .before .before .before .before .before .before .before .before .before .before .before .before .before .before .pre .0) (c .before .before .before .before .before .before .before .before .before .before .before .before .before .before .before .pre .1) in
-    omega (arith, c .before .before .before .before .before .before .before .before .before .before .before .start-of .ensures, c .before .before .before .before .before .before .before .before .before .start-of2 .ensures, c .before .before .before .before .before .before .before .length-of .ensures, c .before .before .before .before .before .length-of2 .ensures)
-
-cast-store-two-2 : tie.Need-cast-store-two-2
-cast-store-two-2 c =
-    let room = tails-room _ _ _ _ _ _ (c .before .before .before .before .before .before .before .before .before .before .before .before .before .before .before .pre .0) (c .before .before .before .before .before .before .before .before .before .before .before .before .before .before .before .pre .1) in
-    omega (arith, c .before .before .before .before .before .before .before .before .before .before .before .start-of .ensures, c .before .before .before .before .before .before .before .before .before .start-of2 .ensures, c .before .before .before .before .before .before .before .length-of .ensures, c .before .before .before .before .before .length-of2 .ensures)
-
-store-two-requires : tie.Need-store-two-requires
-store-two-requires c κs = search needs
+exchange-lengths-requires : tie.Need-exchange-lengths-requires
+exchange-lengths-requires c κs = let room = tails-room _ _ _ _ _ _ (c .before .before .before .before .before .before .before .before .before .before .before .before .before .before .before .pre) in search needs
 
 same-length : tie.Need-same-length
 same-length c = search needs
@@ -80,29 +34,19 @@ same-length-2 c = search needs
 
 returns : tie.Need-returns
 returns c =
-    rw (c .before .before .before .before .before .before .exchange-outer .ensures, c .before .before .store-two .ensures)
-    (tails-edited _ _ _ _ _ _ _ _ _ _ (c .before .before .before .before .before .before .before .before .before .before .before .before .before .before .before .before .before .before .pre .0) (c .before .before .before .before .before .before .before .before .before .before .before .before .before .before .before .before .before .before .pre .1) (c .before .before .before .before .before .before .before .before .before .before .before .before .before .before .start-of .ensures) (c .before .before .before .before .before .before .before .before .before .before .before .before .start-of2 .ensures) (c .before .before .before .before .before .before .before .before .before .before .length-of .ensures) (c .before .before .before .before .before .before .before .before .length-of2 .ensures))
+    rw (c .before .before .before .before .before .before .exchange-outer .ensures, c .before .before .exchange-lengths .ensures)
+    (tails-edited _ _ _ _ _ _ (c .before .before .before .before .before .before .before .before .before .before .before .before .before .before .before .before .before .before .pre) _ _ _ _ (c .before .before .before .before .before .before .before .before .before .before .before .before .before .before .place-of .ensures) (c .before .before .before .before .before .before .before .before .before .before .before .before .end-of .ensures) (c .before .before .before .before .before .before .before .before .before .before .place-of2 .ensures) (c .before .before .before .before .before .before .before .before .end-of2 .ensures))
 
 pub exchange-tails-spec : {M : Type 1} → statement M
 exchange-tails-spec =
     tie.close
     (tie.spec
-    start-of-requires
-    start-of-requires-2
-    length-of-requires
-    length-of-requires-2
-    add-exchange-outer
-    add-exchange-outer-2
-    add-exchange-outer-3
-    add-exchange-outer-4
+    place-of-requires
+    end-of-requires
+    place-of-requires-2
+    end-of-requires-2
     exchange-outer-requires
-    sub-first
-    add-first
-    sub-second
-    add-second
-    cast-store-two
-    cast-store-two-2
-    store-two-requires
+    exchange-lengths-requires
     same-length
     same-length-2
     returns)
