@@ -10,7 +10,7 @@ use lib.Dec.{eqb, leb, ltb}
 use lib.ListN.{length, getD, List·getD-eq-default}
 use Rattle.tests.specs.All.{allBelow, all-at, unless, passed, and-first, and-second}
 use Rattle.lists.specs.Table.{Laid, sum}
-use Rattle.lists.specs.Refused.{allShort, shapeOk, visitOk, visitsOk, newAt, distinct, tableRefusal, listsRefusal, TableFine, ListsFine}
+use Rattle.lists.specs.Refused.{allShort, shapeOk, visitOk, visitsOk, newAt, distinct, tableRefusal, listsRefusal, Apart, TableFine, ListsFine}
 use Rattle.lists.proofs.Pigeonhole.{pigeonhole}
 
 -- ---- 8
@@ -47,7 +47,7 @@ new-of : (visits : List ℕ) (j : ℕ) → newAt visits j ≡ true → (i : ℕ)
 unfolding newAt
 new-of visits j h i lt = eqb-false _ _ (not-true _ (all-at (λ k. not (eqb (getD visits k 0) (getD visits j 0))) j i lt h))
 
-apart-of : (visits : List ℕ) → distinct visits ≡ true → (i j : ℕ) → i < j → j < length visits → getD visits i 0 ≢ getD visits j 0
+apart-of : (visits : List ℕ) → distinct visits ≡ true → Apart visits
 unfolding distinct
 apart-of visits h i j lt there = new-of visits j (all-at (λ k. newAt visits k) (length visits) j there h) i lt
 
@@ -68,7 +68,7 @@ table-fine depots l visits lengths h =
     let nine = passed _ _ _ (eight .1) tt in
     let ten = passed _ _ _ (nine .1) tt in
     let office : (k : ℕ) → k < length visits → (depots ≤ getD visits k 0) × (getD visits k 0 < l) = office-of depots l visits (nine .0) in
-    let apart : (i j : ℕ) → i < j → j < length visits → getD visits i 0 ≢ getD visits j 0 = apart-of visits (ten .0) in
+    let apart : Apart visits = apart-of visits (ten .0) in
     record {
       laid = laid-of visits lengths (eight .0);
       short = short-of lengths (shape-short visits lengths (eight .0));

@@ -1,4 +1,9 @@
+-- `Pigeonhole` and `Fine`: what lists that are not refused tell. `Packing`: empty lists dropped. `Edited`: what every edit keeps.
+-- `Two` and `Across`: the edits that change two lists.
 pub mod Pigeonhole
 pub mod Fine
 pub mod Packing
+pub mod Edited
 pub mod Two
+pub mod Across
+pub mod StillFine

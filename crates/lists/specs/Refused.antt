@@ -39,6 +39,10 @@ tableRefusal depots l visits lengths =
 unfoldable pub listsRefusal : ℕ → ℕ → List ℕ → List ℕ → ℕ → ℕ
 listsRefusal depots l visits lengths asked = unless (ltb asked (length lengths)) 8 (tableRefusal depots l visits lengths)
 
+-- no office stands twice: no two positions hold the same
+abbrev pub Apart : List ℕ → Type 0
+Apart visits = (i j : ℕ) → i < j → j < length visits → getD visits i 0 ≢ getD visits j 0
+
 -- what lists that aren't refused tell, of an entry that asks for no list (proofs/Fine.antt has the laws)
 pub record TableFine (depots l : ℕ) (visits lengths : List ℕ) : Type 0 where
   -- at most 16 lists, whose lengths add up to the table
@@ -47,8 +51,8 @@ pub record TableFine (depots l : ℕ) (visits lengths : List ℕ) : Type 0 where
   -- each visit is an office
   pub office : (k : ℕ) → k < length visits → depots ≤ getD visits k 0
   pub below : (k : ℕ) → k < length visits → getD visits k 0 < l
-  -- no two positions hold the same, so that there are no more visits than offices
-  pub apart : (i j : ℕ) → i < j → j < length visits → getD visits i 0 ≢ getD visits j 0
+  -- no office stands twice, so that there are no more visits than offices
+  pub apart : Apart visits
   pub at-most : length visits ≤ l - depots
 
 -- and of one that asks for a list

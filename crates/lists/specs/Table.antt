@@ -4,6 +4,7 @@ use mathlib.Core.Path.{_≡_, refl, sym, ap, _∙_}
 use mathlib.Core.List.{List, [], _∷_, _++_, map, append-assoc}
 use Prim.Native.Nat.{ℕ, zero, suc, _+_, _-_, _<_, _≤_}
 use native.Mathlib.Nat.{zero-add, add-assoc}
+use native.Mathlib.Numerals.{add-one}
 use native.Mathlib.Omega.{arith}
 use lib.ListN.{length, getD, set, take, drop, length-append, length-drop, length-take, take-append-drop}
 use lib.Seq.{take-nil, take-length, set-getD, take-append-seam, drop-append-seam, drop-drop, take-append-add, drop-append-add, length-take-le}
@@ -122,11 +123,15 @@ total-flat f [] = refl
 total-flat f (xs ∷ ls) = rw (total-append, total-flat f ls)
 
 -- where lists start and end
-pub start-more : (lengths : List ℕ) (r : ℕ) → startOf lengths r + getD lengths r 0 ≡ startOf lengths (suc r)
+start-suc : (lengths : List ℕ) (r : ℕ) → startOf lengths r + getD lengths r 0 ≡ startOf lengths (suc r)
 unfolding startOf
-start-more [] r = rw take-nil
-start-more (n ∷ lengths) zero = omega arith
-start-more (n ∷ lengths) (suc r) = let rest = start-more lengths r in omega arith
+start-suc [] r = rw take-nil
+start-suc (n ∷ lengths) zero = omega arith
+start-suc (n ∷ lengths) (suc r) = let rest = start-suc lengths r in omega arith
+
+-- the next list starts where list r ends
+pub start-more : (lengths : List ℕ) (r : ℕ) → startOf lengths r + getD lengths r 0 ≡ startOf lengths (r + 1)
+start-more lengths r = rw add-one (start-suc lengths r)
 
 pub start-none : (lengths : List ℕ) → 0 ≡ startOf lengths 0
 unfolding startOf
@@ -150,24 +155,27 @@ start-within [] r = rw take-nil (omega arith)
 start-within (n ∷ lengths) zero = omega arith
 start-within (n ∷ lengths) (suc r) = let rest = start-within lengths r in omega arith
 
--- the part from a start to that start and the list's length is the list; and the part given back as `new` is that list in its place
-pub part-is : (visits lengths : List ℕ) (r a : ℕ) → a ≡ startOf lengths r → take (a + getD lengths r 0 - a) (drop a visits) ≡ listOf visits lengths r
-unfolding listOf
-part-is visits lengths r a e = let n : a + getD lengths r 0 - a ≡ getD lengths r 0 = omega arith in rw (n, e)
+-- a list ends within the table
+pub list-within : (visits lengths : List ℕ) → Laid visits lengths → (r : ℕ) → startOf lengths r + getD lengths r 0 ≤ length visits
+list-within visits lengths laid r = omega (arith, start-within lengths r, laid .add-up)
 
-pub put-is : (visits lengths new : List ℕ) (r a : ℕ) → a ≡ startOf lengths r → putMid a (a + getD lengths r 0 - a) visits new ≡ withList visits lengths r new
-unfolding withList
-put-is visits lengths new r a e = rw (post-is a (a + getD lengths r 0) visits (omega arith), e)
+-- the caller's part from where list r starts to where it ends is the list; and the part given back as `new` is that list in its place
+module _ (visits lengths : List ℕ) (r start end : ℕ) (starts : start ≡ startOf lengths r)
+    (ends : end ≡ startOf lengths r + getD lengths r 0) where
+  pub part-is : take (end - start) (drop start visits) ≡ listOf visits lengths r
+  unfolding listOf
+  part-is = let n : end - start ≡ getD lengths r 0 = omega arith in rw (n, starts)
+
+  pub put-is : (new : List ℕ) → putMid start (end - start) visits new ≡ withList visits lengths r new
+  unfolding withList
+  put-is new = rw (post-is start end visits (omega arith), ends, starts)
 
 -- ---- laws of two tables whose lengths add up
 
 module _ (visits lengths : List ℕ) (add-up : sum lengths ≡ length visits) where
-  pub list-within : (r : ℕ) → startOf lengths r + getD lengths r 0 ≤ length visits
-  list-within r = omega (arith, start-within lengths r)
-
   pub length-list : (r : ℕ) → length (listOf visits lengths r) ≡ getD lengths r 0
   unfolding listOf
-  length-list r = simp (length-take, length-drop) (omega (arith, list-within r))
+  length-list r = simp (length-take, length-drop) (omega (arith, start-within lengths r))
 
   pub total-lists : (f : ℕ → ℕ) → total (total f) (lists visits lengths) ≡ total f visits
   total-lists f = sym (total-flat f (lists visits lengths)) ∙ ap (total f) (flat-lists visits lengths add-up)

@@ -2,24 +2,48 @@
 // where a list lies, and the edits of both tables in place. Each edit equals its definition on a list of lists (specs/Table.antt says how the two go together).
 ghost use mathlib.Core.Path.{_≡_};
 ghost use mathlib.Core.List.{[], _∷_};
-ghost use Prim.Native.Nat.{_≤_, _<_};
-ghost use lib.ListN.{length};
-ghost use Rattle.lists.specs.Table.{Laid, startOf, listOf};
+ghost use Prim.Native.Nat.{_+_, _≤_, _<_};
+ghost use lib.ListN.{length, getD};
+ghost use Rattle.lists.specs.Table.{Laid, lists, startOf, listOf};
 ghost use Rattle.lists.specs.Refused.{allShort, shapeOk, visitOk, visitsOk, newAt, distinct, tableRefusal, listsRefusal};
-ghost use Rattle.lists.specs.Edits.{nonzero, packed};
+ghost use Rattle.lists.specs.Edits.{nonzero, packed, Edited, Relocates, relocated, movedOne, lengthMoved, Cuts, tailsExchanged, tailLengths};
 
-// Where list r starts in the table of visits: sixteen lengths can't wrap.
-pub fn start_of(lengths: &[u16], r: usize) -> usize
-    requires { ⌜ (r ≤ length (now lengths)) × (r ≤ 16) ⌝ }
-    ensures { λ x. ⌜ x ≡ startOf (now (lengths .entry)) r ⌝ }
+// Where the visit at `position` of list r stands in the table: behind the lists before r. Sixteen lengths can't wrap.
+pub fn place_of(lengths: &[u16], r: usize, position: usize) -> usize
+    requires { ⌜ (r ≤ length (now lengths)) × (r ≤ 16) × (position ≤ 65535) ⌝ }
+    ensures { λ p. ⌜ p ≡ startOf (now (lengths .entry)) r + position ⌝ }
 {
-    let mut sum: usize = 0;
+    let mut place = position;
     let mut i = 0;
     while i < r {
-        sum += lengths[i] as usize;
+        place += lengths[i] as usize;
         i += 1;
     }
-    sum
+    place
+}
+
+// Where list r starts.
+pub fn start_of(lengths: &[u16], r: usize) -> usize
+    requires { ⌜ (r ≤ length (now lengths)) × (r ≤ 16) ⌝ }
+    ensures { λ p. ⌜ p ≡ startOf (now (lengths .entry)) r ⌝ }
+{
+    place_of(lengths, r, 0)
+}
+
+// How many visits list r has.
+pub fn length_of(lengths: &[u16], r: usize) -> usize
+    requires { ⌜ r < length (now lengths) ⌝ }
+    ensures { λ n. ⌜ (n ≡ getD (now (lengths .entry)) r 0) × (n ≤ 65535) ⌝ }
+{
+    lengths[r] as usize
+}
+
+// Where list r ends.
+pub fn end_of(lengths: &[u16], r: usize) -> usize
+    requires { ⌜ (r < length (now lengths)) × (r ≤ 16) ⌝ }
+    ensures { λ p. ⌜ p ≡ startOf (now (lengths .entry)) r + getD (now (lengths .entry)) r 0 ⌝ }
+{
+    place_of(lengths, r, length_of(lengths, r))
 }
 
 // List r, as the caller's own part of the table.
@@ -28,8 +52,7 @@ pub fn list_of<'a>(visits: &'a [u16], lengths: &[u16], r: usize) -> &'a [u16]
     ensures { λ x. ⌜ now x ≡ listOf (now (visits .entry)) (now (lengths .entry)) r ⌝ }
 {
     let start = start_of(lengths, r);
-    let n = lengths[r] as usize;
-    let end = start + n;
+    let end = end_of(lengths, r);
     &visits[start..end]
 }
 
@@ -91,12 +114,12 @@ fn new_at(visits: &[u16], j: usize) -> bool
     requires { ⌜ j < length (now visits) ⌝ }
     ensures { λ r. ⌜ r ≡ newAt (now (visits .entry)) j ⌝ }
 {
-    let mut i = 0;
-    while i < j {
-        if visits[i] == visits[j] {
+    let mut earlier = 0;
+    while earlier < j {
+        if visits[earlier] == visits[j] {
             return false;
         }
-        i += 1;
+        earlier += 1;
     }
     true
 }
@@ -167,4 +190,82 @@ pub fn drop_empty(lengths: &mut [u16]) -> usize
         i += 1;
     }
     kept
+}
+
+// Puts the visit at place p of the table before the one at place q: it changes places with what lies between.
+fn move_one(visits: &mut [u16], p: usize, q: usize)
+    requires { ⌜ (p < length (now visits)) × (q ≤ length (now visits)) ⌝ }
+    ensures { λ _. ⌜ now (visits .exit) ≡ movedOne p q (now (visits .entry)) ⌝ }
+{
+    let behind = p + 1;
+    if p < q {
+        edits::exchange_stretches(visits, p, behind, q);
+        return;
+    }
+    edits::exchange_stretches(visits, q, p, behind);
+}
+
+// One visit less for list `from`, and one more for list `to`.
+fn move_length(lengths: &mut [u16], from: usize, to: usize)
+    requires { ⌜ (from < length (now lengths)) × (to < length (now lengths)) ⌝ }
+    requires { ⌜ (0 < getD (now lengths) from 0) × (getD (now lengths) to 0 < 65535) ⌝ }
+    ensures { λ _. ⌜ now (lengths .exit) ≡ lengthMoved from to (now (lengths .entry)) ⌝ }
+{
+    let less = lengths[from] - 1;
+    let more = lengths[to] + 1;
+    lengths[from] = less;
+    lengths[to] = more;
+}
+
+// Relocates the visit at `position` of list `from` to `place` of list `to`, in both tables.
+pub fn move_visit(
+    visits: &mut [u16],
+    lengths: &mut [u16],
+    from: usize,
+    position: usize,
+    to: usize,
+    place: usize,
+)
+    requires { ⌜ Relocates (now visits) (now lengths) from position to place ⌝ }
+    ensures { λ _. ⌜ Edited (now (visits .entry)) (now (lengths .entry)) (now (visits .exit)) (now (lengths .exit))
+        (relocated (lists (now (visits .entry)) (now (lengths .entry))) from position to place) ⌝ }
+{
+    let p = place_of(lengths, from, position);
+    let q = place_of(lengths, to, place);
+    move_one(visits, p, q);
+    move_length(lengths, from, to);
+}
+
+// The lengths of two lists that keep `cut1` and `cut2` visits and exchange the rest.
+fn exchange_lengths(lengths: &mut [u16], one: usize, other: usize, cut1: usize, cut2: usize)
+    requires { ⌜ (one < length (now lengths)) × (other < length (now lengths)) ⌝ }
+    requires { ⌜ (cut1 ≤ getD (now lengths) one 0) × (cut2 ≤ getD (now lengths) other 0) ⌝ }
+    requires { ⌜ getD (now lengths) one 0 + getD (now lengths) other 0 ≤ 65535 ⌝ }
+    ensures { λ _. ⌜ now (lengths .exit) ≡ tailLengths one other cut1 cut2 (now (lengths .entry)) ⌝ }
+{
+    let first = cut1 + (length_of(lengths, other) - cut2);
+    let second = cut2 + (length_of(lengths, one) - cut1);
+    lengths[one] = first as u16;
+    lengths[other] = second as u16;
+}
+
+// Exchanges the tails of lists `one` and `other`, of which these keep `cut1` and `cut2` visits, in both tables.
+pub fn exchange_tails(
+    visits: &mut [u16],
+    lengths: &mut [u16],
+    one: usize,
+    other: usize,
+    cut1: usize,
+    cut2: usize,
+)
+    requires { ⌜ Cuts (now visits) (now lengths) one other cut1 cut2 ⌝ }
+    ensures { λ _. ⌜ Edited (now (visits .entry)) (now (lengths .entry)) (now (visits .exit)) (now (lengths .exit))
+        (tailsExchanged (lists (now (visits .entry)) (now (lengths .entry))) one other cut1 cut2) ⌝ }
+{
+    let from = place_of(lengths, one, cut1);
+    let a = end_of(lengths, one);
+    let b = place_of(lengths, other, cut2);
+    let to = end_of(lengths, other);
+    edits::exchange_outer(visits, from, a, b, to);
+    exchange_lengths(lengths, one, other, cut1, cut2);
 }

@@ -1,27 +1,20 @@
 -- `lists::list_of` meets its contract: list r ends within the table, since the lengths add up to it. Assumes nothing.
+use mathlib.Core.Path.{sym, ap, _∙_}
+use Prim.Native.Nat.{_+_}
 use native.Mathlib.Omega.{arith}
 use borrow.Author.Needs.{needs}
-use Rattle.lists.specs.Table.{start-within, part-is}
+use Rattle.lists.specs.Table.{list-within, part-is}
 use Rattle.lists.proofs.list_of.Statement.{statement}
 use Rattle.lists.proofs.list_of.Tie as tie
 
 start-of-requires : tie.Need-start-of-requires
 start-of-requires c κs = search needs
 
-mul-n : tie.Need-mul-n
-mul-n c = search needs
-
-shared-slice-read-n : tie.Need-shared-slice-read-n
-shared-slice-read-n c = search needs
-
-cast-n : tie.Need-cast-n
-cast-n c = omega (arith, c .shared-slice-known3 .given (c .before .before .before .before .args .r))
-
-add-end : tie.Need-add-end
-add-end c = omega (arith, start-within (c .before .before .before .before .args .lengths .now) (c .before .before .before .before .args .r), c .before .start-of .ensures)
+end-of-requires : tie.Need-end-of-requires
+end-of-requires c κs = search needs
 
 mul-result : tie.Need-mul-result
-mul-result c = omega (arith, start-within (c .before .before .before .before .args .lengths .now) (c .before .before .before .before .args .r), c .before .start-of .ensures)
+mul-result c = omega (arith, list-within _ _ (c .before .before .before .before .pre .0) (c .before .before .before .before .args .r), c .end-of .ensures)
 
 sub-result : tie.Need-sub-result
 sub-result c = search needs
@@ -30,20 +23,17 @@ part-result-start : tie.Need-part-result-start
 part-result-start c = search needs
 
 part-result-end : tie.Need-part-result-end
-part-result-end c = omega (arith, start-within (c .before .before .before .before .args .lengths .now) (c .before .before .before .before .args .r), c .before .start-of .ensures)
+part-result-end c = omega (arith, list-within _ _ (c .before .before .before .before .pre .0) (c .before .before .before .before .args .r), c .end-of .ensures)
 
 returns : tie.Need-returns
-returns c = part-is _ _ _ _ (c .before .before .start-of .ensures)
+returns c = part-is _ _ _ _ _ (c .before .before .start-of .ensures) (c .before .end-of .ensures)
 
 pub list-of-spec : {M : Type 1} → statement M
 list-of-spec =
     tie.close
     (tie.spec
     start-of-requires
-    mul-n
-    shared-slice-read-n
-    cast-n
-    add-end
+    end-of-requires
     mul-result
     sub-result
     part-result-start

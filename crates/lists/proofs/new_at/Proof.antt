@@ -12,10 +12,10 @@ use Rattle.lists.proofs.new_at.Statement.{statement}
 use Rattle.lists.proofs.new_at.Tie as tie
 
 abbrev Inv-loop : tie.InvT-loop
-Inv-loop visits j i₀ i = (i ≤ j) × (allBelow (λ k. not (eqb (getD visits k 0) (getD visits j 0))) i ≡ true)
+Inv-loop visits j earlier₀ earlier = (earlier ≤ j) × (allBelow (λ k. not (eqb (getD visits k 0) (getD visits j 0))) earlier ≡ true)
 
 abbrev μ-loop : tie.MeasureT-loop
-μ-loop visits j i₀ i = j - i
+μ-loop visits j earlier₀ earlier = j - earlier
 
 loop-holds : tie.Need-loop-holds Inv-loop μ-loop
 loop-holds c = (search needs, all-none _)
@@ -34,10 +34,10 @@ shared-slice-read-if1-2 c = search needs
 
 returns : tie.Need-returns Inv-loop μ-loop
 unfolding newAt
-returns c = sym (all-fails _ _ (c .before .before .before .before .loop .i) (search needs) (ap not (eq-eqb _ _ (c .if1 .taken))))
+returns c = sym (all-fails _ _ (c .before .before .before .before .loop .earlier) (search needs) (ap not (eq-eqb _ _ (c .if1 .taken))))
 
-add-i : tie.Need-add-i Inv-loop μ-loop
-add-i c = search needs
+add-earlier : tie.Need-add-earlier Inv-loop μ-loop
+add-earlier c = search needs
 
 loop-less : tie.Need-loop-less Inv-loop μ-loop
 loop-less c = search needs
@@ -61,7 +61,7 @@ new-at-spec =
     mul-if1-2
     shared-slice-read-if1-2
     returns
-    add-i
+    add-earlier
     loop-less
     loop-again
     returns-2)

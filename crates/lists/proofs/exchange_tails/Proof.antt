@@ -1,0 +1,52 @@
+-- `lists::exchange_tails` meets its contract: the two tails lie in the table in their order, and proofs/Across.antt has what the two edits make of the
+-- lists. Assumes nothing.
+use native.Mathlib.Omega.{arith}
+use borrow.Author.Needs.{needs}
+use Rattle.lists.proofs.Across.{tails-room, tails-edited}
+use Rattle.lists.proofs.exchange_tails.Statement.{statement}
+use Rattle.lists.proofs.exchange_tails.Tie as tie
+
+place-of-requires : tie.Need-place-of-requires
+place-of-requires c κs = let room = tails-room _ _ _ _ _ _ (c .before .before .before .pre) in omega arith
+
+end-of-requires : tie.Need-end-of-requires
+end-of-requires c κs = search needs
+
+place-of-requires-2 : tie.Need-place-of-requires-2
+place-of-requires-2 c κs = let room = tails-room _ _ _ _ _ _ (c .before .before .before .before .before .before .before .pre) in omega arith
+
+end-of-requires-2 : tie.Need-end-of-requires-2
+end-of-requires-2 c κs = search needs
+
+exchange-outer-requires : tie.Need-exchange-outer-requires
+exchange-outer-requires c κs =
+    let room = tails-room _ _ _ _ _ _ (c .before .before .before .before .before .before .before .before .before .before .before .pre) in
+    omega (arith, c .before .before .before .before .before .before .before .place-of .ensures, c .before .before .before .before .before .end-of .ensures, c .before .before .before .place-of2 .ensures, c .before .end-of2 .ensures)
+
+exchange-lengths-requires : tie.Need-exchange-lengths-requires
+exchange-lengths-requires c κs = let room = tails-room _ _ _ _ _ _ (c .before .before .before .before .before .before .before .before .before .before .before .before .before .before .before .pre) in search needs
+
+same-length : tie.Need-same-length
+same-length c = search needs
+
+same-length-2 : tie.Need-same-length-2
+same-length-2 c = search needs
+
+returns : tie.Need-returns
+returns c =
+    rw (c .before .before .before .before .before .before .exchange-outer .ensures, c .before .before .exchange-lengths .ensures)
+    (tails-edited _ _ _ _ _ _ (c .before .before .before .before .before .before .before .before .before .before .before .before .before .before .before .before .before .before .pre) _ _ _ _ (c .before .before .before .before .before .before .before .before .before .before .before .before .before .before .place-of .ensures) (c .before .before .before .before .before .before .before .before .before .before .before .before .end-of .ensures) (c .before .before .before .before .before .before .before .before .before .before .place-of2 .ensures) (c .before .before .before .before .before .before .before .before .end-of2 .ensures))
+
+pub exchange-tails-spec : {M : Type 1} → statement M
+exchange-tails-spec =
+    tie.close
+    (tie.spec
+    place-of-requires
+    end-of-requires
+    place-of-requires-2
+    end-of-requires-2
+    exchange-outer-requires
+    exchange-lengths-requires
+    same-length
+    same-length-2
+    returns)
