@@ -1,0 +1,5 @@
+pub mod Columns
+pub mod Label
+pub mod Schedule
+pub mod Route
+pub mod Distance
