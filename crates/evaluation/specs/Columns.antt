@@ -22,32 +22,28 @@ pub record Columns : Type 0 where
   pub distances : List Float
   pub times : List Float
 
+-- these columns
+abbrev pub columns : ℕ → List ℕ → List Float → List Float → List Float → List Float → List Float → List Float → Columns
+columns l flags service ready due penalty distances times = record {
+  l = l;
+  flags = flags;
+  service = service;
+  ready = ready;
+  due = due;
+  penalty = penalty;
+  distances = distances;
+  times = times;
+}
+
 -- the columns that a call is lent, as they stand: for contracts
 abbrev pub columnsAt : ℕ → RefT (List ℕ) → RefT (List Float) → RefT (List Float) → RefT (List Float) → RefT (List Float) → RefT (List Float) → RefT (List Float)
     → Columns
-columnsAt l flags service ready due penalty distances times = record {
-  l = l;
-  flags = now flags;
-  service = now service;
-  ready = now ready;
-  due = now due;
-  penalty = now penalty;
-  distances = now distances;
-  times = now times;
-}
+columnsAt l flags service ready due penalty distances times =
+    columns l (now flags) (now service) (now ready) (now due) (now penalty) (now distances) (now times)
 
 -- the columns of a day
 abbrev pub columnsOf : Day → Columns
-columnsOf d = record {
-  l = d .l;
-  flags = d .flags;
-  service = d .service;
-  ready = d .ready;
-  due = d .due;
-  penalty = d .penalty;
-  distances = d .distances;
-  times = d .times;
-}
+columnsOf d = columns (d .l) (d .flags) (d .service) (d .ready) (d .due) (d .penalty) (d .distances) (d .times)
 
 -- 01: columns by location; 'A value whose flag is off is never read' (`windowAt`)
 unfoldable pub stopOf : List ℕ → List Float → List Float → List Float → List Float → ℕ → Stop
@@ -86,3 +82,8 @@ pub record Visits (l : ℕ) (list : List ℕ) : Type 0 where
 -- the columns of a day that is shaped are formed
 pub formed : {d : Day} → Shaped d → Formed (columnsOf d)
 formed s = record { flags = s .flags; service = s .service; ready = s .ready; due = s .due; penalty = s .penalty; tables = s .tables }
+
+-- the columns hold each location
+pub stop-in : {c : Columns} {k : ℕ} → Formed c → k < c .l →
+    (k < length (c .flags)) × (k < length (c .service)) × (k < length (c .ready)) × (k < length (c .due)) × (k < length (c .penalty))
+stop-in f h = (rw (f .flags) h, rw (f .service) h, rw (f .ready) h, rw (f .due) h, rw (f .penalty) h)

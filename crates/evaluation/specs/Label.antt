@@ -22,28 +22,28 @@ unfoldable pub atStart : Label
 atStart = record { time = zero64; lateness = zero64; «lateness_cost» = zero64; taken = Untaken }
 
 -- a service that starts in time, done
-unfoldable pub inTime : Label → Float → Taken → Stop → Reached
-inTime label start taken stop =
-    Served (record { time = start ⊕ stop .service; lateness = label .lateness; «lateness_cost» = label .«lateness_cost»; taken = taken })
+unfoldable pub inTime : Label → Float → Taken → Float → Reached
+inTime label start taken service =
+    Served (record { time = start ⊕ service; lateness = label .lateness; «lateness_cost» = label .«lateness_cost»; taken = taken })
 
 -- a service that starts late, done: its lateness counts, and the penalty times that
-unfoldable pub tooLate : Label → Float → Taken → Stop → Float → Float → Reached
-tooLate label start taken stop late penalty =
+unfoldable pub tooLate : Label → Float → Taken → Float → Float → Float → Reached
+tooLate label start taken service late penalty =
     Served (record {
-      time = start ⊕ stop .service;
+      time = start ⊕ service;
       lateness = label .lateness ⊕ late;
       «lateness_cost» = label .«lateness_cost» ⊕ penalty ⊗ late;
       taken = taken;
     })
 
 -- 01, the window: service starts at the arrival plus the waiting, two roundings; a late one fails at a hard window, and costs at a soft one
-unfoldable pub servedIn : Window → Label → Float → Taken → Stop → Reached
-servedIn Open label ready taken stop = inTime label ready taken stop
-servedIn (Hard span) label ready taken stop = cond (isViolated span ready) Missed (inTime label (ready ⊕ waitingTime span ready) taken stop)
-servedIn (Soft span penalty) label ready taken stop =
+unfoldable pub servedIn : Window → Label → Float → Taken → Float → Reached
+servedIn Open label ready taken service = inTime label ready taken service
+servedIn (Hard span) label ready taken service = cond (isViolated span ready) Missed (inTime label (ready ⊕ waitingTime span ready) taken service)
+servedIn (Soft span penalty) label ready taken service =
     cond (isViolated span ready)
-    (tooLate label (ready ⊕ waitingTime span ready) taken stop (latenessAt span ready) penalty)
-    (inTime label (ready ⊕ waitingTime span ready) taken stop)
+    (tooLate label (ready ⊕ waitingTime span ready) taken service (latenessAt span ready) penalty)
+    (inTime label (ready ⊕ waitingTime span ready) taken service)
 
 -- 01, 5: 'A break starts at a stop, on arrival or at earliest, whichever is later'
 abbrev pub breakStart : VehicleBreak → Float → Float
@@ -51,7 +51,7 @@ breakStart rest arrival = larger arrival (rest .earliest)
 
 -- one stop, `index` being its position: the travel to it, the break first if one is given, 'never after latest', the wait and the service
 unfoldable pub served : Label → Float → Stop → ℕ → Rest → Reached
-served label travel stop index NoBreak = servedIn (stop .window) label (label .time ⊕ travel) (label .taken) stop
+served label travel stop index NoBreak = servedIn (stop .window) label (label .time ⊕ travel) (label .taken) (stop .service)
 served label travel stop index (Break rest) =
     cond (lt (rest .latest) (breakStart rest (label .time ⊕ travel)))
     Missed
@@ -59,7 +59,7 @@ served label travel stop index (Break rest) =
     label
     (breakStart rest (label .time ⊕ travel) ⊕ rest .duration)
     (At index (breakStart rest (label .time ⊕ travel)))
-    stop)
+    (stop .service))
 
 -- one stop more, where the ones before were reached
 unfoldable pub servedFrom : Reached → Float → Stop → ℕ → Rest → Reached

@@ -1,4 +1,5 @@
 pub mod Columns
+pub mod Walk
 pub mod Label
 pub mod Schedule
 pub mod Route

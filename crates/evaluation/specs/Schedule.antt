@@ -1,12 +1,15 @@
--- The clock with the driver's break, evaluation/schedule.rs, and the walk over a list, whichever clock it carries. Assumes nothing.
-use Prim.Native.Nat.{ℕ, _+_}
-use mathlib.Core.List.{List, foldl}
-use mathlib.Core.Bool.{Bool, cond, _||_}
+-- The clock with the driver's break, evaluation/schedule.rs. Assumes nothing.
+use Prim.Native.Nat.{ℕ, _+_, _<_, _≤_}
+use mathlib.Core.Path.{_≡_, refl, sym, ap, subst, _∙_}
+use mathlib.Core.List.{List}
+use mathlib.Core.Bool.{Bool, true, false, cond, _||_, true≢false}
+use lib.ListN.{length, getD, drop}
 use lib.Ieee.{Float, le}
 use Rattle.numbers.specs.Operations.{_⊕_, zero64}
 use Rattle.day.specs.declared.vehicle.Rest.the-variants.{NoBreak, Break}
 use Rattle.day.specs.declared.vehicle.VehicleBreak.{VehicleBreak}
 use Rattle.evaluation.specs.Columns.{Columns, stopAt, legIn, travelIn}
+use Rattle.evaluation.specs.Walk.{Tour, tourOf, walk, walk-turn, walk-end, walk-lost}
 use Rattle.evaluation.specs.Label.{atStart, servedFrom, earlierOf, isServed}
 use Rattle.evaluation.specs.declared.label.Taken.{Taken}
 use Rattle.evaluation.specs.declared.label.Taken.the-variants.{Untaken}
@@ -17,25 +20,6 @@ use Rattle.evaluation.specs.declared.schedule.Scheduled.{Scheduled}
 use Rattle.evaluation.specs.declared.schedule.Outcome.{Outcome}
 use Rattle.evaluation.specs.declared.schedule.Outcome.the-variants.{Impossible, Possible}
 use Rattle.evaluation.specs.declared.schedule.BreakClock.{BreakClock}
-
--- ---- the walk over a list
-
--- how far a list is driven: the distance, the clock, and the place where the van is
-pub record Tour (Clock : Type 0) : Type 0 where
-  pub distance : Float
-  pub clock : Clock
-  pub place : ℕ
-
-abbrev pub tourOf : {Clock : Type 0} → Float → Clock → ℕ → Tour Clock
-tourOf distance clock place = record { distance = distance; clock = clock; place = place }
-
--- one visit more; `tick` says what the way from a place to a visit makes of the clock
-abbrev pub onward : {Clock : Type 0} → Columns → (Clock → ℕ → ℕ → Clock) → Tour Clock → ℕ → Tour Clock
-onward c tick t visit = tourOf (t .distance ⊕ legIn c (t .place) visit) (tick (t .clock) (t .place) visit) visit
-
--- the visits of a list, one after another
-abbrev pub walk : {Clock : Type 0} → Columns → (Clock → ℕ → ℕ → Clock) → Tour Clock → List ℕ → Tour Clock
-walk c tick t list = foldl (onward c tick) t list
 
 -- ---- the end of a list
 
@@ -67,9 +51,9 @@ pushed c clock visit = record {
   rest = clock .rest;
   before = servedFrom (clock .before) (travelIn c (clock .prev) visit) (stopAt c visit) (clock .index) NoBreak;
   after =
-    earlierOf
-    (servedFrom (clock .after) (travelIn c (clock .prev) visit) (stopAt c visit) (clock .index) NoBreak)
-    (servedFrom (clock .before) (travelIn c (clock .prev) visit) (stopAt c visit) (clock .index) (Break (clock .rest)));
+      earlierOf
+      (servedFrom (clock .after) (travelIn c (clock .prev) visit) (stopAt c visit) (clock .index) NoBreak)
+      (servedFrom (clock .before) (travelIn c (clock .prev) visit) (stopAt c visit) (clock .index) (Break (clock .rest)));
   prev = visit;
   index = clock .index + 1;
 }
@@ -99,3 +83,53 @@ homeBreak c depot t = finished (t .clock) (t .distance ⊕ legIn c (t .place) de
 -- `schedule`: the clock of a list with the break
 unfoldable pub scheduled : Columns → VehicleBreak → ℕ → List ℕ → Outcome
 scheduled c rest depot list = homeBreak c depot (walk c (tickBreak c) (tourOf zero64 (begun rest depot) depot) list)
+
+-- ---- laws
+
+-- no label is left
+abbrev pub Lost : BreakClock → Type 0
+Lost clock = (clock .before ≡ Missed) × (clock .after ≡ Missed)
+
+none-left : (before after : Reached) → isServed before || isServed after ≡ false → (before ≡ Missed) × (after ≡ Missed)
+unfolding isServed
+none-left Missed Missed h = (refl, refl)
+none-left Missed (Served a) h = absurd (true≢false h)
+none-left (Served b) after h = absurd (true≢false h)
+
+-- where none is left, none comes again
+pub stays-lost : (c : Columns) (clock : BreakClock) (place visit : ℕ) → Lost clock → Lost (tickBreak c clock place visit)
+unfolding pushed servedFrom earlierOf
+stays-lost c clock place visit h = (rw (h .0), rw (h .0, h .1))
+
+-- one visit more
+pub schedule-turns : (c : Columns) (list : List ℕ) (i : ℕ) (clock next : BreakClock) (distance x : Float) (place : ℕ) → i < length list →
+    x ≡ legIn c place (getD list i 0) → next ≡ pushed c clock (getD list i 0) →
+    walk c (tickBreak c) (tourOf (distance ⊕ x) next (getD list i 0)) (drop (i + 1) list) ≡ walk c (tickBreak c) (tourOf distance clock place) (drop i list)
+schedule-turns c list i clock next distance x place h e f = walk-turn c (tickBreak c) list i distance x clock next place h e f
+
+module _ (c : Columns) (depot : ℕ) where
+  -- and the list can't be scheduled
+  pub home-lost : (t : Tour BreakClock) → Lost (t .clock) → Impossible ≡ homeBreak c depot t
+  unfolding homeBreak finished endBefore endOf
+  home-lost t h = rw (h .0, h .1)
+
+  module _ (list : List ℕ) (i : ℕ) (clock : BreakClock) (distance : Float) (place : ℕ) where
+    -- the visit at i leaves no label
+    pub schedule-stops : (next : BreakClock) (left : Bool) → i < length list → next ≡ pushed c clock (getD list i 0) → left ≡ anyLeft next → left ≡ false →
+        Impossible ≡ homeBreak c depot (walk c (tickBreak c) (tourOf distance clock place) (drop i list))
+    unfolding anyLeft
+    schedule-stops next left h e f g =
+        home-lost _ (walk-lost c (tickBreak c) list i Lost (stays-lost c) (tourOf distance clock place) h
+        (subst Lost e (none-left (next .before) (next .after) (sym f ∙ g))))
+
+    -- no visit is left: the return
+    pub schedule-ends : (x : Float) → length list ≤ i → x ≡ legIn c place depot →
+        finished clock (distance ⊕ x) (travelIn c (clock .prev) depot) ≡ homeBreak c depot (walk c (tickBreak c) (tourOf distance clock place) (drop i list))
+    unfolding homeBreak
+    schedule-ends x h e = rw (e) (ap (homeBreak c depot) (walk-end c (tickBreak c) list i (tourOf distance clock place) h))
+
+  -- the walk starts at the depot
+  pub schedule-is : (rest : VehicleBreak) (list : List ℕ) (clock : BreakClock) (t : Tour BreakClock) → clock ≡ begun rest depot →
+      t ≡ walk c (tickBreak c) (tourOf zero64 clock depot) list → homeBreak c depot t ≡ scheduled c rest depot list
+  unfolding scheduled
+  schedule-is rest list clock t e f = rw (f, e)

@@ -45,11 +45,11 @@ pub fn at_start() -> Label
 }
 
 // A service that starts in time, done.
-fn in_time(label: Label, start: f64, taken: Taken, stop: Stop) -> Reached
-    ensures { λ r. ⌜ r ≡ inTime label start taken stop ⌝ }
+fn in_time(label: Label, start: f64, taken: Taken, service: f64) -> Reached
+    ensures { λ r. ⌜ r ≡ inTime label start taken service ⌝ }
 {
     Reached::Served(Label {
-        time: start + stop.service,
+        time: start + service,
         lateness: label.lateness,
         lateness_cost: label.lateness_cost,
         taken: taken,
@@ -57,11 +57,18 @@ fn in_time(label: Label, start: f64, taken: Taken, stop: Stop) -> Reached
 }
 
 // A service that starts late at a soft window, done.
-fn too_late(label: Label, start: f64, taken: Taken, stop: Stop, late: f64, penalty: f64) -> Reached
-    ensures { λ r. ⌜ r ≡ tooLate label start taken stop late penalty ⌝ }
+fn too_late(
+    label: Label,
+    start: f64,
+    taken: Taken,
+    service: f64,
+    late: f64,
+    penalty: f64,
+) -> Reached
+    ensures { λ r. ⌜ r ≡ tooLate label start taken service late penalty ⌝ }
 {
     Reached::Served(Label {
-        time: start + stop.service,
+        time: start + service,
         lateness: label.lateness + late,
         lateness_cost: label.lateness_cost + penalty * late,
         taken: taken,
@@ -70,23 +77,24 @@ fn too_late(label: Label, start: f64, taken: Taken, stop: Stop, late: f64, penal
 
 // The service of a stop for which the van is ready at this time: the wait for its window, and what being late means there.
 fn serve_at(label: Label, ready: f64, taken: Taken, stop: Stop) -> Reached
-    ensures { λ r. ⌜ r ≡ servedIn (stop .window) label ready taken stop ⌝ }
+    ensures { λ r. ⌜ r ≡ servedIn (stop .window) label ready taken (stop .service) ⌝ }
 {
     let window = stop.window;
+    let service = stop.service;
     match window {
-        Window::Open => in_time(label, ready, taken, stop),
+        Window::Open => in_time(label, ready, taken, service),
         Window::Hard(span) => {
             if span.is_violated(ready) {
                 return Reached::Missed;
             }
-            in_time(label, ready + span.waiting_time(ready), taken, stop)
+            in_time(label, ready + span.waiting_time(ready), taken, service)
         }
         Window::Soft(span, penalty) => {
             let start = ready + span.waiting_time(ready);
             if span.is_violated(ready) {
-                return too_late(label, start, taken, stop, span.lateness(ready), penalty);
+                return too_late(label, start, taken, service, span.lateness(ready), penalty);
             }
-            in_time(label, start, taken, stop)
+            in_time(label, start, taken, service)
         }
     }
 }
@@ -115,12 +123,7 @@ pub fn serve(label: Label, travel: f64, stop: Stop, index: usize, rest: Rest) ->
             if start > pause.latest {
                 return Reached::Missed;
             }
-            serve_at(
-                label,
-                start + pause.duration,
-                Taken::At(index, start),
-                stop,
-            )
+            serve_at(label, start + pause.duration, Taken::At(index, start), stop)
         }
     }
 }

@@ -113,8 +113,31 @@ fn outcome_of(
         (now (list .entry)) ⌝ }
 {
     match rest {
-        Rest::NoBreak => unbroken_schedule(l, flags, service, ready, due, penalty, distances, times, depot, list),
-        Rest::Break(pause) => schedule(l, flags, service, ready, due, penalty, distances, times, pause, depot, list),
+        Rest::NoBreak => unbroken_schedule(
+            l,
+            flags,
+            service,
+            ready,
+            due,
+            penalty,
+            distances,
+            times,
+            depot,
+            list,
+        ),
+        Rest::Break(pause) => schedule(
+            l,
+            flags,
+            service,
+            ready,
+            due,
+            penalty,
+            distances,
+            times,
+            pause,
+            depot,
+            list,
+        ),
     }
 }
 
@@ -170,7 +193,19 @@ pub fn route_feasible(
         (now (list .entry)) ⌝ }
 {
     let rest = limits.rest;
-    let outcome = outcome_of(l, flags, service, ready, due, penalty, distances, times, rest, depot, list);
+    let outcome = outcome_of(
+        l,
+        flags,
+        service,
+        ready,
+        due,
+        penalty,
+        distances,
+        times,
+        rest,
+        depot,
+        list,
+    );
     is_allowed(limits, outcome)
 }
 
@@ -198,7 +233,19 @@ pub fn route_eval(
         (now (list .entry)) ⌝ }
 {
     let rest = limits.rest;
-    let outcome = outcome_of(l, flags, service, ready, due, penalty, distances, times, rest, depot, list);
+    let outcome = outcome_of(
+        l,
+        flags,
+        service,
+        ready,
+        due,
+        penalty,
+        distances,
+        times,
+        rest,
+        depot,
+        list,
+    );
     evaluate(limits, outcome)
 }
 
@@ -234,7 +281,19 @@ pub fn effective_cost(
         depot
         (now (list .entry)) ⌝ }
 {
-    cost_of(route_eval(l, flags, service, ready, due, penalty, distances, times, limits, depot, list))
+    cost_of(route_eval(
+        l,
+        flags,
+        service,
+        ready,
+        due,
+        penalty,
+        distances,
+        times,
+        limits,
+        depot,
+        list,
+    ))
 }
 
 // Whether a search has to check its candidates at all: only where a location has a window or the van sets a limit.

@@ -139,7 +139,14 @@ impl BreakClock {
     }
 
     // The list of this distance, ended by the return to the depot. The break is left out where the van is back by its earliest.
-    pub fn finish(self, l: usize, distances: &[f64], times: &[f64], distance: f64, depot: usize) -> Outcome
+    pub fn finish(
+        self,
+        l: usize,
+        distances: &[f64],
+        times: &[f64],
+        distance: f64,
+        depot: usize,
+    ) -> Outcome
         requires { ⌜ Tables l (now distances) (now times) ⌝ }
         requires { ⌜ (self .prev < l) × (depot < l) ⌝ }
         ensures { λ r. ⌜ r ≡ finished self distance (travel l (now (distances .entry)) (now (times .entry)) (self .prev) depot) ⌝ }
@@ -191,7 +198,17 @@ pub fn schedule(
     while i < list.len() {
         let visit = list[i] as usize;
         distance = distance + get(l, distances, place, visit);
-        clock = clock.push(l, flags, service, ready, due, penalty, distances, times, visit);
+        clock = clock.push(
+            l,
+            flags,
+            service,
+            ready,
+            due,
+            penalty,
+            distances,
+            times,
+            visit,
+        );
         if !clock.any_left() {
             return Outcome::Impossible;
         }

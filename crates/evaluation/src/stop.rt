@@ -13,7 +13,14 @@ pub struct Stop {
 }
 
 // The stop at location k.
-pub fn stop_of(flags: &[u8], service: &[f64], ready: &[f64], due: &[f64], penalty: &[f64], k: usize) -> Stop
+pub fn stop_of(
+    flags: &[u8],
+    service: &[f64],
+    ready: &[f64],
+    due: &[f64],
+    penalty: &[f64],
+    k: usize,
+) -> Stop
     requires { ⌜ (k < length (now flags)) × (k < length (now service)) × (k < length (now ready)) × (k < length (now due)) × (k < length (now penalty)) ⌝ }
     ensures { λ r. ⌜ r ≡ stopOf (now (flags .entry)) (now (service .entry)) (now (ready .entry)) (now (due .entry)) (now (penalty .entry)) k ⌝ }
 {
