@@ -9,7 +9,8 @@ use lib.ListN.{length, getD, set, take, drop, replicate, length-set}
 use lib.Seq.{set-getD}
 use Rattle.edits.specs.Total.{total, total-append, SameVisits}
 use Rattle.edits.proofs.Kept.{same-length}
-use Rattle.lists.specs.Table.{Laid, lists, flat, lengthsOf, startOf, listOf, withList, length-flat, length-lengths, length-lists, lengths-set, lists-are, at-lists, flat-lists, lengths-lists, flat-with, total-lists, length-list, put-is, lists-put}
+use Rattle.lists.specs.Table.{Laid, lists, flat, lengthsOf, startOf, listOf, withList, length-flat, length-lengths, length-lists}
+use Rattle.lists.specs.Table.{lengths-set, lists-are, at-lists, flat-lists, lengths-lists, flat-with, total-lists, length-list, put-is}
 use Rattle.lists.specs.Edits.{Edited, filled, nonzero, packed}
 use Rattle.lists.proofs.Packing.{packed-lists, packed-laid, length-packed}
 
@@ -64,7 +65,7 @@ module _ (visits lengths : List ℕ) (laid : Laid visits lengths) where
       → SameVisits (listOf visits lengths r) new
       → Edited visits lengths (putMid start (end - start) visits new) lengths (set (lists visits lengths) r new)
   put-edited r start end new h starts ends same =
-      let long : length new ≡ getD lengths r 0 = same-length _ _ same ∙ length-list visits lengths (laid .add-up) r in
+      let long : length new ≡ getD lengths r 0 = same-length (listOf visits lengths r) new same ∙ length-list visits lengths (laid .add-up) r in
       let whole : SameVisits visits (withList visits lengths r new) = rw (with-same r h) at (with-total r (listOf visits lengths r) new same) in
       rw (put-is visits lengths r start end starts ends new)
       (edited-by visits lengths (withList visits lengths r new) lengths (set (lists visits lengths) r new) laid
