@@ -3,7 +3,7 @@ use Prim.Native.Nat.{ℕ}
 use mathlib.Core.Bool.{Bool, true, false, cond, _&&_, _||_}
 use lib.Ieee.{Float, lt, eq}
 use Rattle.numbers.specs.Operations.{_⊕_, _⊗_, zero64}
-use Rattle.numbers.specs.Value.{larger}
+use Rattle.numbers.specs.Total.{larger}
 use Rattle.day.specs.Customer.{isViolated, waitingTime, latenessAt}
 use Rattle.day.specs.declared.customer.Window.{Window}
 use Rattle.day.specs.declared.customer.Window.the-variants.{Open, Hard, Soft}

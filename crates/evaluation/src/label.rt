@@ -5,7 +5,7 @@ use day::vehicle::Rest;
 use tests::both;
 use tests::either;
 ghost use mathlib.Core.Path.{_≡_};
-ghost use Rattle.numbers.specs.Value.{larger};
+ghost use Rattle.numbers.specs.Total.{larger};
 ghost use Rattle.evaluation.specs.Label.{atStart, inTime, tooLate, servedIn, served, servedFrom, isEarlier, earlierOf, isServed};
 
 // Whether the break is taken.

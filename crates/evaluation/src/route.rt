@@ -90,7 +90,7 @@ fn unbroken_schedule(
 }
 
 // The clock of a list, with the break where there is one.
-fn outcome_of(
+pub fn outcome_of(
     l: usize,
     flags: &[u8],
     service: &[f64],

@@ -1,8 +1,8 @@
 -- `list_of`: a refusal hands back an empty part; otherwise the lists are laid out, so that the list asked for is a part of the table.
 use borrow.Author.Needs.{needs}
 use mathlib.Core.Path.{sym, _∙_}
-use Rattle.planner.specs.Refusal.{fine}
 use Rattle.planner.specs.Answer.{listAnswer, refused-by, answered}
+use Rattle.planner.specs.Refusal.{listed}
 use Rattle.planner.proofs.list.list_of.Statement.{statement}
 use Rattle.planner.proofs.list.list_of.Tie as tie
 
@@ -23,7 +23,7 @@ unfolding listAnswer
 returns c = refused-by _ _ (c .before .before .refusal-of .result) _ (c .before .if1 .taken) (c .before .before .refusal-of .ensures)
 
 list-of-requires : tie.Need-list-of-requires
-list-of-requires c κs = let f = fine _ _ _ _ _ (sym (c .before .refusal-of .ensures) ∙ c .if1 .left) in (f .lists .table .laid, f .lists .there)
+list-of-requires c κs = listed _ _ _ _ _ (sym (c .before .refusal-of .ensures) ∙ c .if1 .left)
 
 returns-2 : tie.Need-returns-2
 unfolding listAnswer
