@@ -95,5 +95,7 @@ days =
 
 -- the definitions answer what document 01 says
 pub worked-days : map (λ (r : Row). r .answered) days ≡ map (λ (r : Row). r .said) days
-unfolding feasible outcome allowed unbroken home scheduled homeBreak finished endBefore endOf ended begun pushed atStart inTime tooLate servedIn served servedFrom isEarlier earlierOf stopOf windowAt isViolated waitingTime latenessAt allows keeps leg travel ofInt add sub mul sum lt le eq neg
+unfolding feasible outcome allowed unbroken home scheduled homeBreak finished endBefore endOf ended begun pushed
+    atStart inTime tooLate servedIn served servedFrom isEarlier earlierOf stopOf windowAt isViolated waitingTime latenessAt
+    allows keeps leg travel ofInt add sub mul sum lt le eq neg
 worked-days = refl

@@ -103,8 +103,8 @@ module _ (c e : Columns) (depot : ℕ) (list : List ℕ) (same : SameFor c e dep
   pub scheduled-same : (rest : VehicleBreak) → scheduled c rest depot list ≡ scheduled e rest depot list
   unfolding scheduled homeBreak pushed begun
   scheduled-same rest =
-      same-walk tickBreak homeBreak (λ k place. k .prev ≡ place) c e depot (λ k place visit. refl) (λ k place visit a p q. rw (a, p, q)) (λ t a p q. rw (a, p, q))
-      list (tourOf zero64 (begun rest depot) depot) refl same
+      same-walk tickBreak homeBreak (λ k place. k .prev ≡ place) c e depot (λ k place visit. refl) (λ k place visit a p q. rw (a, p, q))
+      (λ t a p q. rw (a, p, q)) list (tourOf zero64 (begun rest depot) depot) refl same
 
   outcome-same : (rest : Rest) → outcome c rest depot list ≡ outcome e rest depot list
   unfolding outcome
