@@ -23,7 +23,7 @@ Below n xs = total (over n) xs ≡ 0
 abbrev pub AllBelow : ℕ → List (List ℕ) → Type 0
 AllBelow n ls = total (total (over n)) ls ≡ 0
 
-over-none : (n x : ℕ) → over n x ≡ 0 → x < n
+pub over-none : (n x : ℕ) → over n x ≡ 0 → x < n
 over-none n x e = go (leb n x) refl e
   where
     go : (b : Bool) → leb n x ≡ b → bit b ≡ 0 → x < n

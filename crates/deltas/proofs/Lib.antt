@@ -1,0 +1,5 @@
+pub mod Stops
+pub mod Legs
+pub mod Exact
+pub mod Shortcut
+pub mod Turning
