@@ -32,7 +32,8 @@ use Rattle.descent.proofs.Claims.{Tried, Exact}
 use Rattle.descent.proofs.Demand3.{Proper, demand-3}
 use Rattle.descent.proofs.Relocate.{relocations-in}
 use Rattle.deltas.specs.Changes.{turnedIf}
-use Rattle.deltas.specs.Deltas.{Listed, stopAt, stopBefore, around, endsOf, twoOptDelta, removalGain, pieceInsertion, orOptDelta, cutAt, threeOptDelta, exchangeDelta, removalDelta, insertionCost, insertionDelta, relocateDelta}
+use Rattle.deltas.specs.Deltas.{Listed, stopAt, stopBefore, around, endsOf, twoOptDelta, removalGain, pieceInsertion, orOptDelta, cutAt, threeOptDelta}
+use Rattle.deltas.specs.Deltas.{exchangeDelta, removalDelta, insertionCost, insertionDelta, relocateDelta}
 use Rattle.deltas.specs.Judged.{Map, distanceOf, floorOf, deltaOf, float-judge, roadsOf, WholeMap, Lent}
 use Rattle.deltas.specs.declared.Ends.{Ends}
 use Rattle.deltas.proofs.Stops.{getD-any, slice-below, slice-short, below-of, stop-there, around-placed, ends-placed}
@@ -75,7 +76,8 @@ module _ (map : Map) (ok : WholeMap map) where
       (around-placed l z xs listed i e) (ends-placed l z xs listed i e) (slice-short 1008 i e xs short) (slice-below l i e xs b))
 
   or-opt-whole : (xs : List ℕ) (m : Piece) → Below (map .l) xs
-      → Whole (orOptDelta (distanceOf map) (map .depot) xs (m .size) (m .from) (m .to)) (or-opt-legs (roadsOf map) xs m .put) (or-opt-legs (roadsOf map) xs m .out)
+      → Whole (orOptDelta (distanceOf map) (map .depot) xs (m .size) (m .from) (m .to)) (or-opt-legs (roadsOf map) xs m .put)
+      (or-opt-legs (roadsOf map) xs m .out)
   unfolding orOptDelta pieceInsertion removalGain around endsOf stopAt stopBefore
   or-opt-whole xs m b =
       let l = map .l in
@@ -162,12 +164,14 @@ module _ (map : Map) (ok : WholeMap map) where
       let given = spared-paid (giver ls m) (eqb (length X) 1) (one-less X a h) in
       let taken = spared-paid Y (eqb (length Y) 0) refl in
       let v : stopAt z X a < l = stop-there l z X listedX a in
-      let w = relocate-whole l (distanceOf map) whole (map .fixed) (ok .fixed) (around z X a (suc a)) (around z Y k k) (stopAt z X a) (eqb (length X) 1) (eqb (length Y) 0)
+      let w = relocate-whole l (distanceOf map) whole (map .fixed) (ok .fixed) (around z X a (suc a)) (around z Y k k) (stopAt z X a) (eqb (length X) 1)
+      (eqb (length Y) 0)
       (around-placed l z X listedX a (suc a)) (around-placed l z Y listedY k k) v in
       rw (add-one a, given, taken, ← (getD-any X a z 0 h)) w
 
   -- THE DELTA OF EVERY CANDIDATE, in whole numbers
-  pub delta-whole : (e : Engine) (checks : Checks) (x : State e) (m : Move e) → Tried e checks x m → AllBelow (map .l) (lists e x) → total length (lists e x) ≤ 1008
+  pub delta-whole : (e : Engine) (checks : Checks) (x : State e) (m : Move e) → Tried e checks x m → AllBelow (map .l) (lists e x)
+      → total length (lists e x) ≤ 1008
       → Whole (deltaOf e map x m) (legs-of (roadsOf map) e x m .put) (legs-of (roadsOf map) e x m .out)
   delta-whole two-opt checks x m tried b few = two-opt-whole x m (omega arith) (omega arith)
   delta-whole three-opt checks x m tried b few = three-opt-whole x m (omega arith) (omega arith)

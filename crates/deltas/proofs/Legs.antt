@@ -16,7 +16,8 @@ use Rattle.descent.specs.Sum.{walk}
 use Rattle.descent.proofs.Walk.{inside, back}
 use Rattle.descent.proofs.Gains.{way}
 use Rattle.descent.proofs.Below.{Below, over-none}
-use Rattle.deltas.specs.Changes.{Placed, turnedLegs, reversalDelta, turnChange, detour, removalCost, fixedIf, tailsChange, turnedIf, plusIf, through, throughIf, patternChange}
+use Rattle.deltas.specs.Changes.{Placed, turnedLegs, reversalDelta, turnChange, detour, removalCost, fixedIf, tailsChange, turnedIf, plusIf, through}
+use Rattle.deltas.specs.Changes.{throughIf, patternChange}
 use Rattle.deltas.specs.declared.Ends.{Ends}
 use Rattle.deltas.proofs.Stops.{turned-placed}
 
@@ -114,7 +115,8 @@ module _ (l : ℕ) (d : ℕ → ℕ → Float) (whole : (a b : ℕ) → a < l �
       let b = leg-le (f .from) (e .to) ff et in
       let g = leg-le (e .from) (e .to) ef et in
       let h = leg-le (f .from) (f .to) ff ft in
-      let all = sub-whole (two-legs (e .from) (f .to) (f .from) (e .to) ef ft ff et) (two-legs (e .from) (e .to) (f .from) (f .to) ef et ff ft) (omega arith) (omega arith) in
+      let all = sub-whole (two-legs (e .from) (f .to) (f .from) (e .to) ef ft ff et) (two-legs (e .from) (e .to) (f .from) (f .to) ef et ff ft)
+      (omega arith) (omega arith) in
       shift-whole _ _ all (omega arith)
 
   pub detour-whole : (e p : Ends) → Placed l e → Placed l p
@@ -205,7 +207,8 @@ module _ (l : ℕ) (d : ℕ → ℕ → Float) (whole : (a b : ℕ) → a < l �
       let with-b = plus-whole b _ (through-number-if s e (turnedIf b p) (turnedIf c q)) 0 B (new .0) (omega arith) (omega arith) sB lB in
       let b₁ = with-b .1 in
       let b₂ = with-b .2 in
-      let with-c = plus-whole c _ (through-number-if s e (turnedIf b p) (turnedIf c q) + inside (way b D) B) (0 + inside D B) C (with-b .0) (omega arith) (omega arith) sC lC in
+      let with-c = plus-whole c _ (through-number-if s e (turnedIf b p) (turnedIf c q) + inside (way b D) B) (0 + inside D B) C (with-b .0) (omega arith)
+      (omega arith) sC lC in
       let c₁ = with-c .1 in
       let c₂ = with-c .2 in
       let all = sub-whole (with-c .0) (old .0) (omega arith) (omega arith) in

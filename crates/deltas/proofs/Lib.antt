@@ -3,3 +3,4 @@ pub mod Legs
 pub mod Exact
 pub mod Shortcut
 pub mod Turning
+pub mod Days

@@ -103,7 +103,8 @@ module _ (l : ℕ) (distances : List Float) (square : Square l distances) (all :
     turned-nothing x (y ∷ ys) hx b =
         let hy = over-none l y (omega arith) in
         let e = equal-difference (leg l distances y x) (leg l distances x y)
-        (plain-finite _ (leg-plain y x hy hx)) (plain-finite _ (leg-plain x y hx hy)) (plain-clear _ (leg-plain y x hy hx)) (plain-clear _ (leg-plain x y hx hy))
+        (plain-finite _ (leg-plain y x hy hx)) (plain-finite _ (leg-plain x y hx hy)) (plain-clear _ (leg-plain y x hy hx))
+        (plain-clear _ (leg-plain x y hx hy))
         (mirror mark y x hy hx) in
         rw (e, zero-twice) (turned-nothing y ys hy (omega arith))
 

@@ -76,5 +76,6 @@ throughIf d true around one other = through d around other one
 -- `try_three_opt_move`: `cost1` to `cost7`, each less `old_cost`: are B and C exchanged, is B turned, is C turned
 unfoldable pub patternChange : (ℕ → ℕ → Float) → Cut → Bool → Bool → Bool → Float
 patternChange d cut exchanged b-turned c-turned =
-    plusIf c-turned (plusIf b-turned (throughIf d exchanged (cut .around) (turnedIf b-turned (cut .b)) (turnedIf c-turned (cut .c))) (cut .«b_inside»)) (cut .«c_inside»)
+    plusIf c-turned (plusIf b-turned (throughIf d exchanged (cut .around) (turnedIf b-turned (cut .b)) (turnedIf c-turned (cut .c))) (cut .«b_inside»))
+    (cut .«c_inside»)
     ⊖ through d (cut .around) (cut .b) (cut .c)

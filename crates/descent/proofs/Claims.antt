@@ -10,7 +10,8 @@ use lib.Dec.{ltb}
 use Rattle.edits.specs.Total.{total, bit, count}
 use Rattle.descent.specs.Order.{_∈_}
 use Rattle.descent.specs.Sum.{Roads, price, cost}
-use Rattle.descent.specs.Permitted.{Checks, tails-exchanged, relocated, Engine, two-opt, three-opt, or-opt, tail-exchange, relocate, State, lists, Permitted}
+use Rattle.descent.specs.Permitted.{Checks, tails-exchanged, relocated, Engine, two-opt, three-opt, or-opt, tail-exchange, relocate, State, lists}
+use Rattle.descent.specs.Permitted.{Permitted}
 use Rattle.descent.specs.Search.{Judge, Sweep, ok, next}
 use Rattle.descent.specs.Engines.{Place, Move, search-of, run-of}
 use Rattle.descent.specs.Claim.{Lowering, handed, Claim}
@@ -106,7 +107,8 @@ module _ {Value : Type 0} (e : Engine) (roads : Roads) (checks : Checks) (judge 
       let m = c .move in
       let not-ok = next-none (search-of e checks) judge s q (c .tried .place) m (c .tried .place-in) (c .tried .move-in) in
       let no-gain = and-first (judge .counts (judge .delta x m)) (search-of e checks .passes x m) not-ok (c .passes) in
-      rw (c .is) at (ltb-false (cost roads (lists e (search-of e checks .made x m))) (cost roads (lists e x)) (sym (exact x m (good .kept) (c .tried)) ∙ no-gain))
+      rw (c .is) at (ltb-false (cost roads (lists e (search-of e checks .made x m))) (cost roads (lists e x))
+      (sym (exact x m (good .kept) (c .tried)) ∙ no-gain))
 
   pub claim : (limit : ℕ) → let r = run-of e checks judge limit lent in
       Claim e roads checks limit lent (r .last .now) (handed e (r .last .now)) (r .moves) (r .word)
@@ -116,7 +118,8 @@ module _ {Value : Type 0} (e : Engine) (roads : Roads) (checks : Checks) (judge 
       let good : Good start = record { kept = kept-same checks (lists e lent); among = λ p h. none-there p h } in
       let r = run-of e checks judge limit lent in
       let end = r .last .now in
-      let told = descends (next (search-of e checks) judge) (λ s. s .now) Good (Lowering e roads checks) (λ x. cost roads (lists e x)) sound (λ a b m. m .lower) limit start good in
+      let told = descends (next (search-of e checks) judge) (λ s. s .now) Good (Lowering e roads checks) (λ x. cost roads (lists e x)) sound
+      (λ a b m. m .lower) limit start good in
       let kept = told .good .kept in
       record {
         chain = told .chain;

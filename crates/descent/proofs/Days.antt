@@ -56,7 +56,12 @@ days = refl
 -- if places or candidates come in another order
 
 abbrev matrix : Roads
-matrix = record { distance = λ a b. getD (getD (((0 ∷ 1 ∷ 2 ∷ 2 ∷ 5 ∷ 3 ∷ []) ∷ (3 ∷ 0 ∷ 2 ∷ 1 ∷ 2 ∷ 2 ∷ []) ∷ (2 ∷ 2 ∷ 0 ∷ 3 ∷ 4 ∷ 5 ∷ []) ∷ (1 ∷ 3 ∷ 4 ∷ 0 ∷ 2 ∷ 5 ∷ []) ∷ (3 ∷ 5 ∷ 2 ∷ 3 ∷ 0 ∷ 4 ∷ []) ∷ (1 ∷ 2 ∷ 2 ∷ 5 ∷ 4 ∷ 0 ∷ []) ∷ [])) a []) b 0; depot = 0; fixed = 0 }
+matrix = record {
+  distance = λ a b. getD (getD (((0 ∷ 1 ∷ 2 ∷ 2 ∷ 5 ∷ 3 ∷ []) ∷ (3 ∷ 0 ∷ 2 ∷ 1 ∷ 2 ∷ 2 ∷ []) ∷ (2 ∷ 2 ∷ 0 ∷ 3 ∷ 4 ∷ 5 ∷ []) ∷
+      (1 ∷ 3 ∷ 4 ∷ 0 ∷ 2 ∷ 5 ∷ []) ∷ (3 ∷ 5 ∷ 2 ∷ 3 ∷ 0 ∷ 4 ∷ []) ∷ (1 ∷ 2 ∷ 2 ∷ 5 ∷ 4 ∷ 0 ∷ []) ∷ [])) a []) b 0;
+  depot = 0;
+  fixed = 0;
+}
 
 abbrev more : List Row
 more =

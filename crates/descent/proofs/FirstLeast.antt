@@ -43,7 +43,8 @@ module _ {C : Type 0} (ok : C → Bool) (less : C → C → Bool) where
         now best (c ∷ cs) p (λ d i q. go d (in-cons c cs d i) q)
       where
         go : (d : C) → (d ≡ c) ⊎ (d ∈ cs) → ok d ≡ true → less d best ≡ false
-        go d (inl e) q = decide-not (less d best) (λ l. unlike (and-both (ok c) (less c best) (ap ok (sym e) ∙ q) (ap (λ (x : C). less x best) (sym e) ∙ l)) no-less)
+        go d (inl e) q = decide-not (less d best) (λ l. unlike (and-both (ok c) (less c best) (ap ok (sym e) ∙ q) (ap (λ (x : C). less x best) (sym e) ∙ l))
+            no-less)
           where
             decide-not : (b : Bool) → (b ≡ true → ⊥) → b ≡ false
             decide-not true h = absurd (h refl)
@@ -67,7 +68,8 @@ module _ {C : Type 0} (ok : C → Bool) (less : C → C → Bool) where
         nothing c = elim [ ]
     least-is best (c ∷ cs) o = go (ok c && less c best) refl (least-is c cs) (least-is best cs o)
       where
-        go : (b : Bool) → (ok c && less c best) ≡ b → (ok c ≡ true → IsFirstLeast (c ∷ cs) (least ok less c cs)) → IsFirstLeast (best ∷ cs) (least ok less best cs)
+        go : (b : Bool) → (ok c && less c best) ≡ b → (ok c ≡ true → IsFirstLeast (c ∷ cs) (least ok less c cs))
+            → IsFirstLeast (best ∷ cs) (least ok less best cs)
             → IsFirstLeast (best ∷ c ∷ cs) (elim b [ true ↦ least ok less c cs | false ↦ least ok less best cs ])
         go true e newer older =
             let t = and-parts (ok c) (less c best) e in

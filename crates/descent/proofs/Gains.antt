@@ -9,7 +9,8 @@ use lib.Seq.{append-snoc}
 use Rattle.edits.specs.Total.{total}
 use Rattle.descent.specs.Sum.{walk}
 use Rattle.descent.specs.Permitted.{turn}
-use Rattle.descent.proofs.Walk.{circuit, first, end, inside, back, enter, flat, joins, walk-append, walk-pieces, end-reverse, first-reverse, inside-reverse}
+use Rattle.descent.proofs.Walk.{circuit, first, end, inside, back, enter, flat, joins, walk-append, walk-pieces, end-reverse, first-reverse}
+use Rattle.descent.proofs.Walk.{inside-reverse}
 
 -- ---- definitions
 
@@ -104,7 +105,8 @@ module _ (d : ℕ → ℕ → ℕ) (z : ℕ) where
       ≡ circuit d z (A ++ B ++ C) + (d (end z A) (end z B) + d (first z B) (first z C) + inside (back d) B)
   turned-gain A B C h =
       let k : 1 ≤ length (reverse B) = rw length-reverse h in
-      rw (round-one A (reverse B) C, round-one A B C, joins-one (end z A) (reverse B), joins-one (end z A) B, first-reverse, end-reverse, inside-reverse) (omega arith)
+      rw (round-one A (reverse B) C, round-one A B C, joins-one (end z A) (reverse B), joins-one (end z A) B, first-reverse, end-reverse, inside-reverse)
+      (omega arith)
 
   -- 3-opt: B and C in any arrangement
   pub laid-gain : (s b c : Bool) (A B C D : List ℕ)

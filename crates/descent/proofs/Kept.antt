@@ -13,7 +13,9 @@ use lib.ListN.{length, getD, set, length-set}
 use lib.Seq.{getD-set-same, getD-set-other}
 use Rattle.edits.specs.Total.{total, sums, total-set}
 use Rattle.descent.specs.Order.{_∈_, here, there}
-use Rattle.descent.specs.Permitted.{Measure, Checks, load, room, fits, Arrangement, turn, in-order, arranged, Reversed, reversed, Reconnected, reconnected, PieceMoved, earlier, later, Changed, tails-exchanged, relocated, Engine, two-opt, three-opt, or-opt, tail-exchange, relocate, State, lists, Permitted}
+use Rattle.descent.specs.Permitted.{Measure, Checks, load, room, fits, Arrangement, turn, in-order, arranged, Reversed, reversed, Reconnected}
+use Rattle.descent.specs.Permitted.{reconnected, PieceMoved, earlier, later, Changed, tails-exchanged, relocated, Engine, two-opt, three-opt, or-opt}
+use Rattle.descent.specs.Permitted.{tail-exchange, relocate, State, lists, Permitted}
 use Rattle.descent.proofs.Members.{T-true, and-parts}
 use Rattle.descent.proofs.Sums.{tails-keep, moved-keeps}
 

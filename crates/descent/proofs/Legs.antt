@@ -155,7 +155,8 @@ module _ (roads : Roads) (home : roads .distance (roads .depot) (roads .depot) �
   -- two neighbouring stretches exchanged, by the positions where they are cut
   exchange-law : (xs : List ℕ) (i j e : ℕ) → i < j → j < e → e ≤ length xs
       → let d = roads .distance in
-      price roads (take i xs ++ slice j e xs ++ slice i j xs ++ drop e xs) + (d (before roads xs i) (stop roads xs i) + d (before roads xs j) (stop roads xs j) + d (before roads xs e) (stop roads xs e))
+      price roads (take i xs ++ slice j e xs ++ slice i j xs ++ drop e xs) +
+      (d (before roads xs i) (stop roads xs i) + d (before roads xs j) (stop roads xs j) + d (before roads xs e) (stop roads xs e))
       ≡ price roads xs + (d (before roads xs i) (stop roads xs j) + d (before roads xs e) (stop roads xs i) + d (before roads xs j) (stop roads xs e))
   exchange-law xs i j e ij je en =
       let z = roads .depot in
@@ -228,7 +229,8 @@ module _ (roads : Roads) (home : roads .distance (roads .depot) (roads .depot) �
 
   tail-law : (ls : List (List ℕ)) (t : Tails) → t .pair .one < t .pair .other → t .pair .other < length ls
       → 1 ≤ t .cut1 → t .cut1 ≤ length (at ls (t .pair .one)) → 1 ≤ t .cut2 → t .cut2 ≤ length (at ls (t .pair .other))
-      → cost roads (set (set ls (t .pair .one) (new1 ls t)) (t .pair .other) (new2 ls t)) + tail-legs roads ls t .out ≡ cost roads ls + tail-legs roads ls t .put
+      → cost roads (set (set ls (t .pair .one) (new1 ls t)) (t .pair .other) (new2 ls t)) + tail-legs roads ls t .out
+      ≡ cost roads ls + tail-legs roads ls t .put
   tail-law ls t lt jn h₁ h₂ h₃ h₄ =
       let z = roads .depot in
       let X = at ls (t .pair .one) in
@@ -249,7 +251,8 @@ module _ (roads : Roads) (home : roads .distance (roads .depot) (roads .depot) �
         becomes = refl;
       } in
       rw (end-at z X c h₂, end-at z Y e h₄, first-at z X c, first-at z Y e) at
-      (tails-cost roads home (take c X) (drop c X) (take e Y) (drop e Y) ls (set (set ls (t .pair .one) (new1 ls t)) (t .pair .other) (new2 ls t)) (omega arith) (omega arith) lists)
+      (tails-cost roads home (take c X) (drop c X) (take e Y) (drop e Y) ls (set (set ls (t .pair .one) (new1 ls t)) (t .pair .other) (new2 ls t))
+      (omega arith) (omega arith) lists)
 
   relocate-law : (ls : List (List ℕ)) (m : Relocation) → m .from < length ls → m .position < length (at ls (m .from)) → m .to ≢ m .from → m .to < length ls
       → m .place ≤ length (at ls (m .to))
@@ -293,7 +296,8 @@ module _ (roads : Roads) (home : roads .distance (roads .depot) (roads .depot) �
   legs-law (or-opt last) checks proper x m tried =
       let s = sizes-in (tried .place) (tried .place-in) in
       let q = pieces-in last proper (length x) (tried .place) m (tried .move-in) in
-      let law = or-opt-law x m (rw (q .0) (s .0)) (rw (q .0) (q .1)) (rw (q .0) (in-list last (length x) (tried .place) (m .from) (m .to) (proper (length x) (tried .place)) (q .2))) in
+      let law = or-opt-law x m (rw (q .0) (s .0)) (rw (q .0) (q .1)) (rw (q .0)
+      (in-list last (length x) (tried .place) (m .from) (m .to) (proper (length x) (tried .place)) (q .2))) in
       omega arith
   legs-law tail-exchange checks proper x m tried =
       let a = pairs-in (length x) (tried .place) (tried .place-in) in
@@ -312,7 +316,8 @@ module _ (roads : Roads) (home : roads .distance (roads .depot) (roads .depot) �
 
   pub legs-exact : (e : Engine) (checks : Checks) → Proper e → (lent : State e) → Exact e roads checks (by-legs roads e) lent
   legs-exact e checks proper lent x m kept tried =
-      falls (cost roads (lists e (search-of e checks .made x m))) (legs-of roads e x m .out) (cost roads (lists e x)) (legs-of roads e x m .put) (legs-law e checks proper x m tried)
+      falls (cost roads (lists e (search-of e checks .made x m))) (legs-of roads e x m .out) (cost roads (lists e x)) (legs-of roads e x m .put)
+      (legs-law e checks proper x m tried)
 
   -- demand 3 on whole numbers, with no further premise
   pub legs-demand-3 : (e : Engine) (checks : Checks) (lent : State e) (limit : ℕ) → Proper e

@@ -26,7 +26,8 @@ unfolding least
 least-append ok less best [] ds = refl
 least-append ok less best (c ∷ cs) ds = go (ok c && less c best) (least-append ok less c cs ds) (least-append ok less best cs ds)
   where
-    go : (b : Bool) → least ok less c (cs ++ ds) ≡ least ok less (least ok less c cs) ds → least ok less best (cs ++ ds) ≡ least ok less (least ok less best cs) ds
+    go : (b : Bool) → least ok less c (cs ++ ds) ≡ least ok less (least ok less c cs) ds → least ok less best (cs ++ ds)
+        ≡ least ok less (least ok less best cs) ds
         → elim b [ true ↦ least ok less c (cs ++ ds) | false ↦ least ok less best (cs ++ ds) ]
         ≡ least ok less (elim b [ true ↦ least ok less c cs | false ↦ least ok less best cs ]) ds
     go true p q = p
@@ -98,7 +99,8 @@ module _ {State Place Move Value : Type 0} (search : Search State Place Move) (j
   unfolding next
   next-ahead s t e = rw (e, next)
 
-  pub next-sweep : (s : Sweep State Place) → firstMove search judge (s .now) (s .ahead) ≡ none → next search judge s ≡ firstMove search judge (s .now) (search .places (s .now))
+  pub next-sweep : (s : Sweep State Place) → firstMove search judge (s .now) (s .ahead) ≡ none → next search judge s
+      ≡ firstMove search judge (s .now) (search .places (s .now))
   unfolding next
   next-sweep s e = rw (e, next)
 

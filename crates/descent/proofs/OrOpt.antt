@@ -23,7 +23,8 @@ Positioned last n size from to = (to < from) ⊎ ((from + size < to) × (to ≤ 
 pub in-pieces : (last : ℕ → ℕ → ℕ) (n size from to : ℕ) → from + size ≤ n → Positioned last n size from to
     → _∈_ {A = Piece} (record { size = size; from = from; to = to }) (pieces last n size)
 in-pieces last n size from to h pos =
-    in-each (λ from. map (λ to. record { size = size; from = from; to = to }) (range 0 from ++ range (suc (from + size)) (suc (last n size)))) (range 0 (suc (n - size))) from
+    in-each (λ from. map (λ to. record { size = size; from = from; to = to }) (range 0 from ++ range (suc (from + size)) (suc (last n size))))
+    (range 0 (suc (n - size))) from
     (record { size = size; from = from; to = to }) (in-range 0 (suc (n - size)) from (omega arith) (omega arith))
     (in-map (λ to. record { size = size; from = from; to = to }) (range 0 from ++ range (suc (from + size)) (suc (last n size))) to (there-is pos))
   where
@@ -34,7 +35,8 @@ in-pieces last n size from to h pos =
 pub pieces-in : (last : ℕ → ℕ → ℕ) → ((n p : ℕ) → last n p ≤ n) → (n size : ℕ) (p : Piece) → p ∈ pieces last n size
     → (p .size ≡ size) × (p .from + size ≤ n) × Positioned last n size (p .from) (p .to)
 pieces-in last within n size p h =
-    let a = each-in (λ from. map (λ to. record { size = size; from = from; to = to }) (range 0 from ++ range (suc (from + size)) (suc (last n size)))) (range 0 (suc (n - size))) p h in
+    let a = each-in (λ from. map (λ to. record { size = size; from = from; to = to }) (range 0 from ++ range (suc (from + size)) (suc (last n size))))
+    (range 0 (suc (n - size))) p h in
     let b = map-in (λ to. record { size = size; from = a .0; to = to }) (range 0 (a .0) ++ range (suc (a .0 + size)) (suc (last n size))) p (a .2) in
     let f = range-in 0 (suc (n - size)) (a .0) (a .1) in
     rw (← (b .2)) (go (a .0) (b .0) (f .1) (in-either (range 0 (a .0)) (range (suc (a .0 + size)) (suc (last n size))) (b .0) (b .1)))
@@ -42,7 +44,8 @@ pieces-in last within n size p h =
     go : (from to : ℕ) → from < suc (n - size) → (to ∈ range 0 from) ⊎ (to ∈ range (suc (from + size)) (suc (last n size)))
         → (size ≡ size) × (from + size ≤ n) × ((to < from) ⊎ ((from + size < to) × (to ≤ last n size)))
     go from to f (inl k) = let r = range-in 0 from to k in (refl, omega arith, inl (r .1))
-    go from to f (inr k) = let r = range-in (suc (from + size)) (suc (last n size)) to k in let w = within n size in (refl, omega arith, inr (r .0, omega arith))
+    go from to f (inr k) = let r = range-in (suc (from + size)) (suc (last n size)) to k in let w = within n size in
+        (refl, omega arith, inr (r .0, omega arith))
 
 pub sizes-in : (s : ℕ) → s ∈ 1 ∷ 2 ∷ 3 ∷ [] → (1 ≤ s) × (s ≤ 3)
 sizes-in s h = let r = range-in 1 4 s h in (r .0, omega arith)
@@ -59,7 +62,8 @@ module _ (last : ℕ → ℕ → ℕ) (within : (n p : ℕ) → last n p ≤ n) 
       let lB = length-slice to from xs (omega arith) in
       let lP = length-slice from (from + size) xs h in
       subst (λ (z : List ℕ). PieceMoved last (checks .passes) z ys) (cut4 xs to from (from + size) (omega arith) (omega arith))
-      (earlier (take to xs) (slice to from xs) (slice from (from + size) xs) (drop (from + size) xs) (omega arith) (omega arith) (omega arith) (true-T (checks .passes ys) p))
+      (earlier (take to xs) (slice to from xs) (slice from (from + size) xs) (drop (from + size) xs) (omega arith) (omega arith) (omega arith)
+      (true-T (checks .passes ys) p))
 
   rearward : (xs : List ℕ) (size from to : ℕ) → 1 ≤ size → size ≤ 3 → from + size < to → to ≤ last (length xs) size
       → let ys = take from xs ++ slice (from + size) to xs ++ slice from (from + size) xs ++ drop to xs in
@@ -76,7 +80,8 @@ module _ (last : ℕ → ℕ → ℕ) (within : (n p : ℕ) → last n p ≤ n) 
       subst (λ (z : List ℕ). PieceMoved last (checks .passes) z ys) was
       (later A P B (drop to xs) (omega arith) (omega arith) (omega arith) (rw (was, n, lP) t) (true-T (checks .passes ys) p))
 
-  permits : (xs : List ℕ) (p : Piece) → Tried (or-opt last) checks xs p → checks .passes (put-before xs p) ≡ true → PieceMoved last (checks .passes) xs (put-before xs p)
+  permits : (xs : List ℕ) (p : Piece) → Tried (or-opt last) checks xs p → checks .passes (put-before xs p) ≡ true
+      → PieceMoved last (checks .passes) xs (put-before xs p)
   permits xs p tried passed =
       let s = sizes-in (tried .place) (tried .place-in) in
       let q = pieces-in last within (length xs) (tried .place) p (tried .move-in) in
@@ -113,7 +118,13 @@ module _ (last : ℕ → ℕ → ℕ) (within : (n p : ℕ) → last n p ≤ n) 
       let n : length xs ≡ length A + length B + length P + length C = simp length-append in
       let q : ltb to from ≡ true = lt-ltb to from (omega arith) in
       let is : put-before xs p ≡ A ++ P ++ B ++ C =
-      rw (q, put-before) (rw (cut4-A A B P C to from (from + size) refl refl refl, cut4-B A B P C to from (from + size) refl refl refl, cut4-C A B P C to from (from + size) refl refl refl, cut4-D A B P C to from (from + size) refl refl refl)) in
+      rw (q, put-before) (rw (
+        cut4-A A B P C to from (from + size) refl refl refl,
+        cut4-B A B P C to from
+            (from + size) refl refl refl,
+        cut4-C A B P C to from (from + size) refl refl refl,
+        cut4-D A B P C to from (from + size) refl refl refl,
+      )) in
       record {
         move = p;
         tried = record { place = size; place-in = in-sizes size h₁ h₃; move-in = in-pieces last (length xs) size from to (omega arith) (inl (omega arith)) };
@@ -133,10 +144,21 @@ module _ (last : ℕ → ℕ → ℕ) (within : (n p : ℕ) → last n p ≤ n) 
       let m : length (A ++ P ++ B) ≡ to = simp length-append in
       let q : ltb to from ≡ false = le-ltb to from (omega arith) in
       let is : put-before xs p ≡ A ++ B ++ P ++ C =
-      rw (q, put-before) (rw (cut4-A A P B C from (from + size) to refl refl refl, cut4-B A P B C from (from + size) to refl refl refl, cut4-C A P B C from (from + size) to refl refl refl, cut4-D A P B C from (from + size) to refl refl refl)) in
+      rw (q, put-before) (rw (
+        cut4-A A P B C from (from + size) to refl refl refl,
+        cut4-B A P B C from (from + size) to refl refl refl,
+        cut4-C A P B C from
+            (from + size) to refl refl refl,
+        cut4-D A P B C from (from + size) to refl refl refl,
+      )) in
       record {
         move = p;
-        tried = record { place = size; place-in = in-sizes size h₁ h₃; move-in = in-pieces last (length xs) size from to (omega arith) (inr (omega arith, rw m at reach)) };
+        tried = record {
+          place = size;
+          place-in = in-sizes size h₁ h₃;
+          move-in = in-pieces last (length xs) size from to (omega arith)
+              (inr (omega arith, rw m at reach));
+        };
         passes = rw is (T-true (checks .passes (A ++ B ++ P ++ C)) passed);
         is = is;
       }

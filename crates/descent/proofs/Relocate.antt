@@ -12,7 +12,8 @@ use lib.Seq.{take-append-seam, drop-append-seam, split-at, getD-append-seam, app
 use Rattle.descent.specs.Order.{_∈_, here, range, each}
 use Rattle.descent.specs.Permitted.{Checks, fits, giver-passes, Relocated, relocated, relocate}
 use Rattle.descent.specs.Across.{at, Relocation, relocations, giver, receiver}
-use Rattle.descent.proofs.Members.{T-true, true-T, and-parts, and-both, in-left, in-right, in-either, in-range, range-in, in-each, each-in, in-map, map-in}
+use Rattle.descent.proofs.Members.{T-true, true-T, and-parts, and-both, in-left, in-right, in-either, in-range, range-in, in-each, each-in, in-map}
+use Rattle.descent.proofs.Members.{map-in}
 use Rattle.descent.proofs.Claims.{Tried, Covered, Faithful}
 
 others : ℕ → ℕ → List ℕ
@@ -51,7 +52,8 @@ in-relocations ls i a j b hi ha ne hj hb =
     (in-each (λ to.
     map (λ place. record { from = i; position = a; to = to; place = place }) (range 0 (suc (length (at ls to))))
     ) (range 0 i ++ range (suc i) (length ls)) j m (in-others i (length ls) j ne hj)
-    (in-map (λ place. record { from = i; position = a; to = j; place = place }) (range 0 (suc (length (at ls j)))) b (in-range 0 (suc (length (at ls j))) b (omega arith) (omega arith)))))
+    (in-map (λ place. record { from = i; position = a; to = j; place = place }) (range 0 (suc (length (at ls j)))) b
+    (in-range 0 (suc (length (at ls j))) b (omega arith) (omega arith)))))
 
 pub relocations-in : (ls : List (List ℕ)) (m : Relocation) → m ∈ relocations ls
     → (m .from < length ls) × (m .position < length (at ls (m .from))) × (m .to ≢ m .from) × (m .to < length ls) × (m .place ≤ length (at ls (m .to)))
@@ -121,7 +123,8 @@ module _ (tested : Bool) (checks : Checks) where
       record {
         move = m;
         tried = record { place = tt; place-in = here; move-in = in-relocations ls i a j b (L .i-there) lX (λ e. L .apart (sym e)) (L .j-there) lY };
-        passes = rw (g, r) (and-both (fits checks (C ++ v ∷ D)) (giver-passes tested checks (A ++ B)) (T-true (fits checks (C ++ v ∷ D)) p) (T-true (giver-passes tested checks (A ++ B)) q));
+        passes = rw (g, r) (and-both (fits checks (C ++ v ∷ D)) (giver-passes tested checks (A ++ B)) (T-true (fits checks (C ++ v ∷ D)) p)
+            (T-true (giver-passes tested checks (A ++ B)) q));
         is = rw (g, r) (sym (L .becomes));
       }
 

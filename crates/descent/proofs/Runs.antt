@@ -23,7 +23,11 @@ module _ {S : Type 0} (next : S → Option S) where
   unfolding run
   ran zero s = go (next s) refl
     where
-      go : (o : Option S) → next s ≡ o → Ran zero s (elim o [ none ↦ record { word = settled; moves = 0; last = s } | some t ↦ record { word = stopped; moves = 0; last = s } ])
+      go : (o : Option S) → next s ≡ o → Ran zero s (elim o [
+        | none ↦ record { word = settled; moves = 0; last = s }
+        | some t ↦ record
+            { word = stopped; moves = 0; last = s }
+      ])
       go none e = record { chain = none-made; settles = λ w. e; stops = λ w. absurd (clash w) }
       go (some t) e = record { chain = none-made; settles = λ w. absurd (clash (sym w)); stops = λ w. (refl, (t, e)) }
   ran (suc limit) s = go (next s) refl (ran limit)

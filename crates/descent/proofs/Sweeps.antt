@@ -78,11 +78,24 @@ module _ {State Place Move Value : Type 0} (search : Search State Place Move) (j
       on goes-on q h = there h
 
       go : (o : Option Move) → taken search judge x p ≡ o
-          → elim o [ none ↦ firstMove search judge x ps | some m ↦ some (record { now = search .made x m; ahead = elim (search .after) [ goes-on ↦ ps | begins-again ↦ [] ] }) ] ≡ some s
+          → elim o [
+            | none ↦ firstMove search judge x ps
+            | some m ↦ some
+                (record { now = search .made x m; ahead = elim (search .after) [ goes-on ↦ ps | begins-again ↦ [] ] })
+          ] ≡ some s
           → (firstMove search judge x ps ≡ some s → From x ps s) → From x (p ∷ ps) s
       go none a e rest =
           let f = rest e in
-          record { place = f .place; move = f .move; place-in = there (f .place-in); move-in = f .move-in; move-ok = f .move-ok; is = f .is; ahead-in = λ q h. there (f .ahead-in q h) }
+          record {
+            place = f .place;
+            move = f .move;
+            place-in = there (f .place-in);
+            move-in = f .move-in;
+            move-ok = f .move-ok;
+            is = f .is;
+            ahead-in = λ q
+                h. there (f .ahead-in q h);
+          }
       go (some m) a e rest =
           let c = first-least-some (ok search judge x) (λ k best. judge .less (judge .delta x k) (judge .delta x best)) (search .candidates x p) m a in
           let ah : elim (search .after) [ goes-on ↦ ps | begins-again ↦ [] ] ≡ s .ahead = cc in
@@ -94,10 +107,15 @@ module _ {State Place Move Value : Type 0} (search : Search State Place Move) (j
   first-move-none x (q ∷ ps) e p m h k = go (taken search judge x q) refl e (first-move-none x ps) (in-cons q ps p h)
     where
       go : (o : Option Move) → taken search judge x q ≡ o
-          → _≡_ {A = Option (Sweep State Place)} (elim o [ none ↦ firstMove search judge x ps | some n ↦ some (record { now = search .made x n; ahead = elim (search .after) [ goes-on ↦ ps | begins-again ↦ [] ] }) ]) none
+          → _≡_ {A = Option (Sweep State Place)} (elim o [
+            | none ↦ firstMove search judge x ps
+            | some n ↦ some
+                (record { now = search .made x n; ahead = elim (search .after) [ goes-on ↦ ps | begins-again ↦ [] ] })
+          ]) none
           → (firstMove search judge x ps ≡ none → (r : Place) (n : Move) → r ∈ ps → n ∈ search .candidates x r → ok search judge x n ≡ false)
           → (p ≡ q) ⊎ (p ∈ ps) → ok search judge x m ≡ false
-      go none a e rest (inl s) = first-least-none (ok search judge x) (λ n best. judge .less (judge .delta x n) (judge .delta x best)) (search .candidates x q) a m (rw s at k)
+      go none a e rest (inl s) = first-least-none (ok search judge x) (λ n best. judge .less (judge .delta x n) (judge .delta x best))
+          (search .candidates x q) a m (rw s at k)
       go none a e rest (inr h) = rest e p m h k
       go (some n) a e rest h = absurd (clash (sym e))
 
@@ -112,14 +130,24 @@ module _ {State Place Move Value : Type 0} (search : Search State Place Move) (j
       go none a e = first-move-some (s .now) (search .places (s .now)) t e
       go (some u) a e =
           let f = first-move-some (s .now) (s .ahead) t (a ∙ e) in
-          record { place = f .place; move = f .move; place-in = among (f .place) (f .place-in); move-in = f .move-in; move-ok = f .move-ok; is = f .is; ahead-in = λ p h. among p (f .ahead-in p h) }
+          record {
+            place = f .place;
+            move = f .move;
+            place-in = among (f .place)
+                (f .place-in);
+            move-in = f .move-in;
+            move-ok = f .move-ok;
+            is = f .is;
+            ahead-in = λ p h. among p (f .ahead-in p h);
+          }
 
   pub next-none : (s : Sweep State Place) → next search judge s ≡ none
       → (p : Place) (m : Move) → p ∈ search .places (s .now) → m ∈ search .candidates (s .now) p → ok search judge (s .now) m ≡ false
   unfolding next
   next-none s e = go (firstMove search judge (s .now) (s .ahead)) e
     where
-      go : (o : Option (Sweep State Place)) → _≡_ {A = Option (Sweep State Place)} (elim o [ none ↦ firstMove search judge (s .now) (search .places (s .now)) | some u ↦ some u ]) none
+      go : (o : Option (Sweep State Place)) → _≡_ {A = Option (Sweep State Place)}
+          (elim o [ none ↦ firstMove search judge (s .now) (search .places (s .now)) | some u ↦ some u ]) none
           → (p : Place) (m : Move) → p ∈ search .places (s .now) → m ∈ search .candidates (s .now) p → ok search judge (s .now) m ≡ false
       go none e = first-move-none (s .now) (search .places (s .now)) e
       go (some u) e = absurd (clash (sym e))

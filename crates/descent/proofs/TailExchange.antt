@@ -18,7 +18,8 @@ use Rattle.descent.proofs.Claims.{Tried, Covered, Faithful}
 
 pub in-pairs : (n i j : ℕ) → i < j → j < n → _∈_ {A = Pair} (record { one = i; other = j }) (pairs n)
 in-pairs n i j ij jn =
-    in-each (λ r1. map (λ r2. record { one = r1; other = r2 }) (range (suc r1) n)) (range 0 n) i (record { one = i; other = j }) (in-range 0 n i (omega arith) (omega arith))
+    in-each (λ r1. map (λ r2. record { one = r1; other = r2 }) (range (suc r1) n)) (range 0 n) i (record { one = i; other = j })
+    (in-range 0 n i (omega arith) (omega arith))
     (in-map (λ r2. record { one = i; other = r2 }) (range (suc i) n) j (in-range (suc i) n j ij jn))
 
 pub pairs-in : (n : ℕ) (p : Pair) → p ∈ pairs n → (p .one < p .other) × (p .other < n)
@@ -33,7 +34,8 @@ pub in-tail-cuts : (ls : List (List ℕ)) (p : Pair) (c d : ℕ) → 1 ≤ c →
 in-tail-cuts ls p c d h₁ h₂ h₃ h₄ =
     let n = suc (length (at ls (p .one))) in
     let k = suc (length (at ls (p .other))) in
-    in-each (λ cut1. map (λ cut2. record { pair = p; cut1 = cut1; cut2 = cut2 }) (range 1 k)) (range 1 n) c (record { pair = p; cut1 = c; cut2 = d }) (in-range 1 n c h₁ (omega arith))
+    in-each (λ cut1. map (λ cut2. record { pair = p; cut1 = cut1; cut2 = cut2 }) (range 1 k)) (range 1 n) c (record { pair = p; cut1 = c; cut2 = d })
+    (in-range 1 n c h₁ (omega arith))
     (in-map (λ cut2. record { pair = p; cut1 = c; cut2 = cut2 }) (range 1 k) d (in-range 1 k d h₃ (omega arith)))
 
 pub tail-cuts-in : (ls : List (List ℕ)) (p : Pair) (t : Tails) → t ∈ tail-cuts ls p
@@ -51,7 +53,8 @@ module _ (checks : Checks) where
   abbrev made : List (List ℕ) → Tails → List (List ℕ)
   made ls t = set (set ls (t .pair .one) (new1 ls t)) (t .pair .other) (new2 ls t)
 
-  permits : (ls : List (List ℕ)) (t : Tails) → Tried tail-exchange checks ls t → (fits checks (new1 ls t) && fits checks (new2 ls t)) ≡ true → TailsExchanged checks ls (made ls t)
+  permits : (ls : List (List ℕ)) (t : Tails) → Tried tail-exchange checks ls t → (fits checks (new1 ls t) && fits checks (new2 ls t)) ≡ true
+      → TailsExchanged checks ls (made ls t)
   permits ls t tried p =
       let a = pairs-in (length ls) (tried .place) (tried .place-in) in
       let b = tail-cuts-in ls (tried .place) t (tried .move-in) in
@@ -79,7 +82,8 @@ module _ (checks : Checks) where
       (true-T (fits checks (new1 ls t)) (both .0)) (true-T (fits checks (new2 ls t)) (both .1))
 
   covered : (ls ms : List (List ℕ)) (i j : ℕ) (A B C D : List ℕ) → i < j → j < length ls → at ls i ≡ A ++ B → at ls j ≡ C ++ D
-      → ms ≡ set (set ls i (A ++ D)) j (C ++ B) → 1 ≤ length A → 1 ≤ length C → T (fits checks (A ++ D)) → T (fits checks (C ++ B)) → Covered tail-exchange checks ls ms
+      → ms ≡ set (set ls i (A ++ D)) j (C ++ B) → 1 ≤ length A → 1 ≤ length C → T (fits checks (A ++ D)) → T (fits checks (C ++ B))
+      → Covered tail-exchange checks ls ms
   covered ls ms i j A B C D ij jn at-i at-j becomes hA hC p q =
       let pair : Pair = record { one = i; other = j } in
       let t : Tails = record { pair = pair; cut1 = length A; cut2 = length C } in

@@ -24,7 +24,8 @@ in-triples : (n i j k : ℕ) → i < j → j < k → k < n → _∈_ {A = Cut} (
 unfolding triples
 in-triples n i j k ij jk kn =
     let c : Cut = record { i = i; j = j; k = k } in
-    in-each (λ i. each (range (suc i) (n - 1)) λ j. map (λ k. record { i = i; j = j; k = k }) (range (suc j) n)) (range 0 (n - 2)) i c (in-range 0 (n - 2) i (omega arith) (omega arith))
+    in-each (λ i. each (range (suc i) (n - 1)) λ j. map (λ k. record { i = i; j = j; k = k }) (range (suc j) n)) (range 0 (n - 2)) i c
+    (in-range 0 (n - 2) i (omega arith) (omega arith))
     (in-each (λ j. map (λ k. record { i = i; j = j; k = k }) (range (suc j) n)) (range (suc i) (n - 1)) j c (in-range (suc i) (n - 1) j ij (omega arith))
     (in-map (λ k. record { i = i; j = j; k = k }) (range (suc j) n) k (in-range (suc j) n k jk kn)))
 
@@ -51,7 +52,8 @@ cuts-in n c h = go (leb 4 n) refl h
     go false e h = not-in h
 
 module _ (checks : Checks) where
-  permits : (xs : List ℕ) (r : Reconnection) → Tried three-opt checks xs r → checks .passes (reconnect xs r) ≡ true → Reconnected (checks .passes) xs (reconnect xs r)
+  permits : (xs : List ℕ) (r : Reconnection) → Tried three-opt checks xs r → checks .passes (reconnect xs r) ≡ true
+      → Reconnected (checks .passes) xs (reconnect xs r)
   permits xs r tried p =
       let m = map-in (λ way. record { cut = tried .place; way = way }) seven r (tried .move-in) in
       let c = cuts-in (length xs) (tried .place) (tried .place-in) in
@@ -66,7 +68,8 @@ module _ (checks : Checks) where
           let lB = length-slice (suc i) (suc j) xs (omega arith) in
           let lC = length-slice (suc j) (suc k) xs (omega arith) in
           subst (λ (z : List ℕ). Reconnected (checks .passes) z (reconnect xs (record { cut = c; way = a }))) was
-          (reconnected (take (suc i) xs) (slice (suc i) (suc j) xs) (slice (suc j) (suc k) xs) (drop (suc k) xs) a h (rw was four) (omega arith) (omega arith) (omega arith)
+          (reconnected (take (suc i) xs) (slice (suc i) (suc j) xs) (slice (suc j) (suc k) xs) (drop (suc k) xs) a h (rw was four) (omega arith)
+          (omega arith) (omega arith)
           (true-T (checks .passes (reconnect xs (record { cut = c; way = a }))) p))
 
   covered : (A B C D : List ℕ) (a : Arrangement) → a ∈ seven → 4 ≤ length (A ++ B ++ C ++ D) → 1 ≤ length A → 1 ≤ length B → 1 ≤ length C
@@ -83,10 +86,21 @@ module _ (checks : Checks) where
       let c : Cut = record { i = i; j = j; k = k } in
       let r : Reconnection = record { cut = c; way = a } in
       let is : reconnect xs r ≡ A ++ arranged a B C ++ D =
-      rw (cut4-A A B C D (suc i) (suc j) (suc k) ei ej ek, cut4-B A B C D (suc i) (suc j) (suc k) ei ej ek, cut4-C A B C D (suc i) (suc j) (suc k) ei ej ek, cut4-D A B C D (suc i) (suc j) (suc k) ei ej ek) in
+      rw (
+        cut4-A A B C D (suc i) (suc j) (suc k) ei ej ek,
+        cut4-B A B C D (suc i) (suc j) (suc k) ei ej ek,
+        cut4-C A B C D (suc i) (suc j)
+            (suc k) ei ej ek,
+        cut4-D A B C D (suc i) (suc j) (suc k) ei ej ek,
+      ) in
       record {
         move = r;
-        tried = record { place = c; place-in = in-cuts (length xs) i j k four (omega arith) (omega arith) kn; move-in = in-map (λ way. record { cut = c; way = way }) seven a h };
+        tried = record {
+          place = c;
+          place-in = in-cuts (length xs) i j k four (omega arith) (omega arith) kn;
+          move-in = in-map
+              (λ way. record { cut = c; way = way }) seven a h;
+        };
         passes = rw is (T-true (checks .passes (A ++ arranged a B C ++ D)) passed);
         is = is;
       }

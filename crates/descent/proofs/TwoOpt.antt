@@ -19,7 +19,8 @@ use Rattle.descent.proofs.Claims.{Tried, Covered, Faithful}
 -- the list of reversals holds the pairs of positions
 pub in-reversals : (n i j : ℕ) → i < j → j < n → _∈_ {A = Reversal} (record { first = i; last = j }) (reversals n)
 in-reversals n i j ij jn =
-    in-each (λ i. map (λ j. record { first = i; last = j }) (range (suc i) n)) (range 0 (n - 1)) i (record { first = i; last = j }) (in-range 0 (n - 1) i (omega arith) (omega arith))
+    in-each (λ i. map (λ j. record { first = i; last = j }) (range (suc i) n)) (range 0 (n - 1)) i (record { first = i; last = j })
+    (in-range 0 (n - 1) i (omega arith) (omega arith))
     (in-map (λ j. record { first = i; last = j }) (range (suc i) n) j (in-range (suc i) n j ij jn))
 
 pub reversals-in : (n : ℕ) (r : Reversal) → r ∈ reversals n → (r .first < r .last) × (r .last < n)

@@ -45,7 +45,14 @@ reversal-delta-requires-2 c κs = search needs
 
 returns : tie.Need-returns
 unfolding cutAt
-returns c = rw (c .reversal-delta2 .ensures, c .before .reversal-delta .ensures, c .before .before .ends-of2 .ensures, c .before .before .before .ends-of .ensures, c .before .before .before .before .around .ensures)
+returns c = rw (
+  c .reversal-delta2 .ensures,
+  c .before .reversal-delta .ensures,
+  c .before .before .ends-of2 .ensures,
+  c .before .before .before .ends-of
+      .ensures,
+  c .before .before .before .before .around .ensures,
+)
 
 pub cut-at-spec : {M : Type 1} → statement M
 cut-at-spec =

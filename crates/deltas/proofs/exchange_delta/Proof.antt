@@ -12,7 +12,13 @@ around-requires-2 : tie.Need-around-requires-2
 around-requires-2 c κs = search needs
 
 tails-change-requires : tie.Need-tails-change-requires
-tails-change-requires c κs = (c .before .before .before .before .before .pre .0 .0, rw (c .before .around .ensures) (around-placed _ _ _ (c .before .before .before .before .before .pre .0 .1) _ _), rw (c .around2 .ensures) (around-placed _ _ _ (c .before .before .before .before .before .pre .0 .2) _ _))
+tails-change-requires c κs = (
+  c .before .before .before .before .before .pre .0 .0,
+  rw (c .before .around .ensures)
+      (around-placed _ _ _ (c .before .before .before .before .before .pre .0 .1) _ _),
+  rw (c .around2 .ensures)
+      (around-placed _ _ _ (c .before .before .before .before .before .pre .0 .2) _ _),
+)
 
 returns : tie.Need-returns
 unfolding exchangeDelta

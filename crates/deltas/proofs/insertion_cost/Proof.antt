@@ -9,7 +9,13 @@ around-requires : tie.Need-around-requires
 around-requires c κs = search needs
 
 detour-requires : tie.Need-detour-requires
-detour-requires c κs = (c .before .before .before .pre .0, rw (c .around .ensures) (around-placed _ _ _ (c .before .before .before .pre .1) _ _), record { from-there = c .before .before .before .pre .2; to-there = c .before .before .before .pre .2 })
+detour-requires c κs = (
+  c .before .before .before .pre .0,
+  rw (c .around .ensures)
+      (around-placed _ _ _ (c .before .before .before .pre .1) _ _),
+  record
+      { from-there = c .before .before .before .pre .2; to-there = c .before .before .before .pre .2 },
+)
 
 returns : tie.Need-returns
 unfolding insertionCost

@@ -15,7 +15,13 @@ ends-of-requires : tie.Need-ends-of-requires
 ends-of-requires c κs = search needs
 
 detour-requires : tie.Need-detour-requires
-detour-requires c κs = (c .before .before .before .before .pre .0 .0, rw (c .before .around .ensures) (around-placed _ _ _ (c .before .before .before .before .pre .0 .1) _ _), rw (c .ends-of .ensures) (ends-placed _ _ _ (c .before .before .before .before .pre .0 .1) _ _))
+detour-requires c κs = (
+  c .before .before .before .before .pre .0 .0,
+  rw (c .before .around .ensures)
+      (around-placed _ _ _ (c .before .before .before .before .pre .0 .1) _ _),
+  rw (c .ends-of .ensures)
+      (ends-placed _ _ _ (c .before .before .before .before .pre .0 .1) _ _),
+)
 
 returns : tie.Need-returns
 unfolding pieceInsertion

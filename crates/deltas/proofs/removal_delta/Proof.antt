@@ -15,7 +15,13 @@ stop-at-requires : tie.Need-stop-at-requires
 stop-at-requires c κs = search needs
 
 removal-cost-requires : tie.Need-removal-cost-requires
-removal-cost-requires c κs = (c .before .before .before .before .pre .0, rw (c .before .around .ensures) (around-placed _ _ _ (c .before .before .before .before .pre .1) _ _), rw (c .stop-at .ensures) (stop-there _ _ _ (c .before .before .before .before .pre .1) _))
+removal-cost-requires c κs = (
+  c .before .before .before .before .pre .0,
+  rw (c .before .around .ensures)
+      (around-placed _ _ _ (c .before .before .before .before .pre .1) _ _),
+  rw (c .stop-at .ensures)
+      (stop-there _ _ _ (c .before .before .before .before .pre .1) _),
+)
 
 fixed-if-requires : tie.Need-fixed-if-requires
 fixed-if-requires c κs = search needs

@@ -14,7 +14,8 @@ use Rattle.deltas.proofs.turned_legs.Tie as tie
 
 abbrev Inv-loop : tie.InvT-loop
 Inv-loop l distances list first last sum₀ k₀ sum k =
-    (k ≤ last) × (turnedLegs (leg l distances) sum (getD list k 0) (slice (k + 1) (last + 1) list) ≡ reversalDelta (leg l distances) (slice first (last + 1) list))
+    (k ≤ last) × (turnedLegs (leg l distances) sum (getD list k 0) (slice (k + 1) (last + 1) list)
+    ≡ reversalDelta (leg l distances) (slice first (last + 1) list))
 
 abbrev μ-loop : tie.MeasureT-loop
 μ-loop l distances list first last sum₀ k₀ sum k = last - k
@@ -52,11 +53,14 @@ loop-again : tie.Need-loop-again Inv-loop μ-loop
 loop-again c = (
   search needs,
   rw (c .turned-leg .ensures, c .before .visit-at2 .ensures, c .before .before .visit-at .ensures)
-      (turning-turns (leg _ _) (c .before .before .before .before .before .before .before .args .list .now) _ (c .before .before .before .before .before .before .before .pre .1 .1) _ _ (c .before .before .before .loop-test .taken) ∙ c .before .before .before .before .loop .inv .1),
+      (turning-turns (leg _ _) (c .before .before .before .before .before .before .before .args .list .now) _
+      (c .before .before .before .before .before .before .before .pre .1 .1) _ _ (c .before .before .before .loop-test .taken)
+      ∙ c .before .before .before .before .loop .inv .1),
 )
 
 returns : tie.Need-returns Inv-loop μ-loop
-returns c = sym (turning-ends (leg _ _) (c .before .before .before .before .args .list .now) _ (c .before .before .before .before .pre .1 .1) _ _ (c .before .loop .inv .0) (c .loop-test .left)) ∙ c .before .loop .inv .1
+returns c = sym (turning-ends (leg _ _) (c .before .before .before .before .args .list .now) _ (c .before .before .before .before .pre .1 .1) _ _
+    (c .before .loop .inv .0) (c .loop-test .left)) ∙ c .before .loop .inv .1
 
 pub turned-legs-spec : {M : Type 1} → statement M
 turned-legs-spec =

@@ -21,7 +21,13 @@ reversal-delta-requires : tie.Need-reversal-delta-requires
 reversal-delta-requires c κs = search needs
 
 turn-change-requires : tie.Need-turn-change-requires
-turn-change-requires c κs = (c .before .before .before .before .before .pre .0 .0, rw (c .before .before .around .ensures) (around-placed _ _ _ (c .before .before .before .before .before .pre .0 .2) _ _), rw (c .before .ends-of .ensures) (ends-placed _ _ _ (c .before .before .before .before .before .pre .0 .2) _ _))
+turn-change-requires c κs = (
+  c .before .before .before .before .before .pre .0 .0,
+  rw (c .before .before .around .ensures)
+      (around-placed _ _ _ (c .before .before .before .before .before .pre .0 .2) _ _),
+  rw (c .before .ends-of .ensures)
+      (ends-placed _ _ _ (c .before .before .before .before .before .pre .0 .2) _ _),
+)
 
 returns : tie.Need-returns
 unfolding twoOptDelta
