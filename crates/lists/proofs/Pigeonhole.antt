@@ -26,7 +26,8 @@ pigeonhole zero zero f below apart = omega arith
 pigeonhole zero (suc n) f below apart = absurd (omega (arith, below 0 (omega arith)))
 pigeonhole (suc m) zero f below apart = omega arith
 pigeonhole (suc m) (suc n) f below apart =
-    let fewer : n ≤ m = pigeonhole m n (λ i. instead m (f n) (f i)) (λ i h. lower i h (ℕ-discrete (f i) m)) (λ i j h k. still i j h k (ℕ-discrete (f i) m) (ℕ-discrete (f j) m)) in
+    let fewer : n ≤ m = pigeonhole m n (λ i. instead m (f n) (f i)) (λ i h. lower i h (ℕ-discrete (f i) m))
+    (λ i j h k. still i j h k (ℕ-discrete (f i) m) (ℕ-discrete (f j) m)) in
     omega arith
   where
     lower : (i : ℕ) → i < n → Dec (f i ≡ m) → instead m (f n) (f i) < m
