@@ -7,7 +7,7 @@ use Prim.Native.Nat.{ℕ, _+_, _-_, _≤_, _<_}
 use native.Mathlib.Omega.{arith}
 use borrow.Author.Tests.{lt-ltb, le-ltb, ltb-true, ltb-false}
 use lib.Dec.{ltb}
-use lib.ListN.{length, getD, set, length-append, length-set, length-drop}
+use lib.ListN.{length, getD, length-append, length-set, length-drop}
 use lib.Seq.{length-take-le}
 use Rattle.edits.specs.Total.{total, SameVisits}
 use Rattle.edits.specs.Edits.{exchanged, outerExchanged}

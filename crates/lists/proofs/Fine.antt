@@ -1,14 +1,14 @@
 -- What lists tell that were not refused: each test of the table's 8 to 10 that passed is a fact. Assumes nothing.
-use mathlib.Core.Path.{_≡_, refl, sym, ap, _∙_}
+use mathlib.Core.Path.{_≡_, refl}
 use mathlib.Core.Logic.{_≢_}
 use mathlib.Core.List.{List, [], _∷_}
 use mathlib.Core.Bool.{Bool, true, false, not}
-use Prim.Native.Nat.{ℕ, zero, suc, _-_, _+_, _*_, _≤_, _<_}
+use Prim.Native.Nat.{ℕ, suc, _-_, _*_, _≤_, _<_}
 use native.Mathlib.Omega.{arith}
 use borrow.Author.Tests.{eqb-true, eqb-false, leb-true, ltb-true, ltb-false, not-true}
 use lib.Dec.{eqb, leb, ltb}
 use lib.ListN.{length, getD, List·getD-eq-default}
-use Rattle.tests.specs.All.{allBelow, all-at, unless, passed, and-first, and-second}
+use Rattle.tests.specs.All.{all-at, passed, and-first, and-second}
 use Rattle.lists.specs.Table.{Laid, sum}
 use Rattle.lists.specs.Refused.{allShort, shapeOk, visitOk, visitsOk, newAt, distinct, tableRefusal, listsRefusal, Apart, TableFine, ListsFine}
 use Rattle.lists.proofs.Pigeonhole.{pigeonhole}

@@ -1,14 +1,13 @@
 -- Two lists of the lists, and the edits that change both: the table is cut where they meet, and each edit exchanges stretches of it. Assumes nothing.
 use mathlib.Core.Path.{_≡_, refl, sym, ap, _∙_}
-use mathlib.Core.Logic.{_≢_}
-use mathlib.Core.List.{List, [], _∷_, _++_, append-assoc, append-nil}
-use Prim.Native.Nat.{ℕ, zero, suc, _+_, _-_, _≤_, _<_}
+use mathlib.Core.List.{List, [], _∷_, _++_, append-assoc}
+use Prim.Native.Nat.{ℕ, zero, suc, _+_, _≤_, _<_}
 use native.Mathlib.Omega.{arith}
-use lib.ListN.{length, getD, set, take, drop, length-append, length-set, length-drop, take-append-drop}
+use lib.ListN.{length, getD, set, take, drop, length-append, length-set, take-append-drop}
 use lib.Seq.{slice, set-split, set-getD, split-at, take-take, take-set-lt, drop-set-lt, length-take-le, set-comm}
 use Rattle.edits.specs.Edits.{exchanged, outerExchanged}
 use Rattle.edits.proofs.Pieces.{exchanged-at, outerExchanged-at}
-use Rattle.lists.specs.Table.{sum, lists, flat, lengthsOf, startOf, length-flat}
+use Rattle.lists.specs.Table.{flat, lengthsOf, startOf, length-flat}
 use Rattle.lists.specs.Edits.{at, giver, receiver, relocated, joined, tailsExchanged}
 
 -- ---- the table in five pieces
