@@ -13,8 +13,9 @@ use Rattle.edits.specs.Total.{total, SameVisits}
 use Rattle.edits.specs.Edits.{exchanged, outerExchanged}
 use Rattle.edits.proofs.Kept.{same-exchanged, same-outerExchanged}
 use Rattle.tests.specs.Pick.{picked, other}
-use Rattle.lists.specs.Table.{Laid, lists, flat, lengthsOf, startOf, length-lists, at-lengths, flat-lists, lengths-lists, lengths-set}
-use Rattle.lists.specs.Table.{start-later, start-within}
+use Rattle.lists.specs.Table.{Laid, lists, flat, lengthsOf, startOf}
+use Rattle.lists.proofs.Tables.{length-lists, at-lengths, flat-lists, lengths-lists, lengths-set}
+use Rattle.lists.proofs.Tables.{start-later, start-within}
 use Rattle.lists.specs.Edits.{Edited, at, giver, receiver, relocated, Relocates, movedOne, lengthMoved, joined, tailsExchanged, tailLengths, Cuts}
 use Rattle.lists.proofs.Edited.{edited-by}
 use Rattle.lists.proofs.Two.{moved-later, moved-earlier, tails-made}

@@ -1,5 +1,6 @@
--- `Pigeonhole` and `Fine`: what lists that are not refused tell. `Packing`: empty lists dropped. `Edited`: what every edit keeps.
--- `Two` and `Across`: the edits that change two lists.
+-- `Tables`: the table and its lists. `Pigeonhole` and `Fine`: what lists that are not refused tell. `Packing`: empty lists dropped.
+-- `Edited`: what every edit keeps. `Two` and `Across`: the edits that change two lists. `StillFine`: lists not refused stay so.
+pub mod Tables
 pub mod Pigeonhole
 pub mod Fine
 pub mod Packing

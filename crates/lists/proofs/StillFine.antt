@@ -11,7 +11,7 @@ use lib.Dec.{eqb, leb, ltb}
 use lib.ListN.{length, getD}
 use Rattle.edits.specs.Total.{bit, count, SameVisits, part-le, total-none}
 use Rattle.edits.proofs.Kept.{same-length, same-count, same-each}
-use Rattle.lists.specs.Table.{start-within}
+use Rattle.lists.proofs.Tables.{start-within}
 use Rattle.lists.specs.Edits.{Edited}
 use Rattle.lists.specs.Refused.{Apart, TableFine}
 

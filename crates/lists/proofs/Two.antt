@@ -7,7 +7,8 @@ use lib.ListN.{length, getD, set, take, drop, length-append, length-set, take-ap
 use lib.Seq.{slice, set-split, set-getD, split-at, take-take, take-set-lt, drop-set-lt, length-take-le, set-comm}
 use Rattle.edits.specs.Edits.{exchanged, outerExchanged}
 use Rattle.edits.proofs.Pieces.{exchanged-at, outerExchanged-at}
-use Rattle.lists.specs.Table.{flat, lengthsOf, startOf, length-flat}
+use Rattle.lists.specs.Table.{flat, lengthsOf, startOf}
+use Rattle.lists.proofs.Tables.{length-flat}
 use Rattle.lists.specs.Edits.{at, giver, receiver, relocated, joined, tailsExchanged}
 
 -- ---- the table in five pieces
