@@ -59,6 +59,10 @@ office-of depots l visits h k lt =
     let v = getD visits k 0 in
     (leb-true _ _ (and-first (leb depots v) (ltb v l) here), ltb-true _ _ (and-second (leb depots v) (ltb v l) here))
 
+-- so that each has its place among the 64 that may be seen
+pub offices-small : (depots l : ℕ) (visits : List ℕ) → l ≤ 64 → visitsOk depots l visits ≡ true → (k : ℕ) → k < length visits → getD visits k 0 < 64
+offices-small depots l visits few h k lt = omega (arith, office-of depots l visits h k lt .1)
+
 -- ---- the laws
 
 pub table-fine : (depots l : ℕ) (visits lengths : List ℕ) → tableRefusal depots l visits lengths ≡ 0 → TableFine depots l visits lengths
