@@ -7,7 +7,7 @@ use native.Mathlib.Nat.{zero-add, add-assoc}
 use native.Mathlib.Numerals.{add-one}
 use native.Mathlib.Omega.{arith}
 use lib.ListN.{length, getD, set, take, drop, length-append, length-drop, length-take, take-append-drop}
-use lib.Seq.{take-nil, take-length, set-getD, take-append-seam, drop-append-seam, drop-drop, take-append-add, drop-append-add, length-take-le}
+use lib.Seq.{getD-take, getD-drop, take-nil, take-length, set-getD, take-append-seam, drop-append-seam, drop-drop, take-append-add, drop-append-add, length-take-le}
 use borrow.Rule.Slice.PartMut.{putMid, post-is}
 use Rattle.edits.specs.Total.{total, total-append}
 use Rattle.lists.specs.Table.{Laid, sum, lists, flat, lengthsOf, startOf, listOf, withList}
@@ -142,6 +142,11 @@ module _ (visits lengths : List ℕ) (add-up : sum lengths ≡ length visits) wh
   pub length-list : (r : ℕ) → length (listOf visits lengths r) ≡ getD lengths r 0
   unfolding listOf
   length-list r = simp (length-take, length-drop) (omega (arith, start-within lengths r))
+
+  -- its visits are those of the table from its start on
+  pub list-at : (r k : ℕ) → k < getD lengths r 0 → getD (listOf visits lengths r) k 0 ≡ getD visits (startOf lengths r + k) 0
+  unfolding listOf
+  list-at r k h = rw (getD-take (getD lengths r 0) (drop (startOf lengths r) visits) k 0 h, getD-drop (startOf lengths r) visits k 0)
 
   -- every sum over the visits of all lists is the sum over the table
   pub total-lists : (f : ℕ → ℕ) → total (total f) (lists visits lengths) ≡ total f visits

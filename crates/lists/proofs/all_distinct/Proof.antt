@@ -41,7 +41,10 @@ loop-less : tie.Need-loop-less Inv-loop μ-loop
 loop-less c = search needs
 
 loop-again : tie.Need-loop-again Inv-loop μ-loop
-loop-again c = seen-turns _ _ _ (c .before .before .before .loop .inv) (c .before .before .loop-test .taken) (c .before .before .before .before .pre (c .before .before .before .loop .j) (c .before .before .loop-test .taken)) (c .if1 .left)
+loop-again c =
+    let test = c .before .before in
+    let now = test .before .loop in
+    seen-turns _ _ _ (now .inv) (test .loop-test .taken) (test .before .before .pre (now .j) (test .loop-test .taken)) (c .if1 .left)
 
 returns-2 : tie.Need-returns-2 Inv-loop μ-loop
 returns-2 c = seen-ends _ _ _ (c .before .loop .inv) (c .loop-test .left)
