@@ -7,7 +7,8 @@ use native.Mathlib.Nat.{zero-add, add-assoc}
 use native.Mathlib.Numerals.{add-one}
 use native.Mathlib.Omega.{arith}
 use lib.ListN.{length, getD, set, take, drop, length-append, length-drop, length-take, take-append-drop}
-use lib.Seq.{getD-take, getD-drop, take-nil, take-length, set-getD, take-append-seam, drop-append-seam, drop-drop, take-append-add, drop-append-add, length-take-le}
+use lib.Seq.{take-nil, take-length, take-append-seam, take-append-add, drop-drop, drop-append-seam, drop-append-add}
+use lib.Seq.{getD-take, getD-drop, set-getD, length-take-le}
 use borrow.Rule.Slice.PartMut.{putMid, post-is}
 use Rattle.edits.specs.Total.{total, total-append}
 use Rattle.lists.specs.Table.{Laid, sum, lists, flat, lengthsOf, startOf, listOf, withList}
