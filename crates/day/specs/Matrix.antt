@@ -1,0 +1,64 @@
+-- distance/matrix.rs: the distance and the travel time from a location to a location, the scale and the symmetry of the table. Assumes nothing.
+use Prim.Native.Nat.{ℕ, suc, _+_, _*_, _<_, _≤_}
+use native.Mathlib.Nat.{suc-mul, mul-le-mul-right}
+use native.Mathlib.Omega.{arith}
+use mathlib.Core.Path.{_≡_}
+use mathlib.Core.List.{List}
+use mathlib.Core.Bool.{Bool, cond}
+use lib.Dec.{eqb}
+use lib.ListN.{length, getD, drop, drop-of-length-le}
+use lib.Seq.{drop-cons}
+use native.Mathlib.Numerals.{add-one}
+use lib.Ieee.{Float, nan, eq}
+use Rattle.numbers.specs.Operations.{zero64}
+use Rattle.numbers.specs.Total.{larger, largest}
+use Rattle.tests.specs.All.{allBelow}
+
+-- 01: 'Distances: L times L numbers, row = from' (`get`)
+unfoldable pub leg : ℕ → List Float → ℕ → ℕ → Float
+leg l distances from to = getD distances (from * l + to) nan
+
+-- 01: 'Times: the same, or length 0, and then distances serve' (`travel_time`)
+unfoldable pub travel : ℕ → List Float → List Float → ℕ → ℕ → Float
+travel l distances times from to = cond (eqb (length times) 0) (leg l distances from to) (leg l times from to)
+
+-- 01: '`scale` (largest entry, from 0.0)'
+unfoldable pub scaleOf : List Float → Float
+scaleOf distances = largest zero64 distances
+
+-- the entries of a row left of the diagonal equal their mirrors
+unfoldable pub mirrored : ℕ → List Float → ℕ → Bool
+mirrored l distances from = allBelow (λ to. eq (leg l distances from to) (leg l distances to from)) from
+
+-- 01: 'symmetry (each entry equals its mirror)'
+unfoldable pub symmetric : ℕ → List Float → Bool
+symmetric l distances = allBelow (mirrored l distances) l
+
+-- ---- what a caller shows
+
+-- a table of L times L numbers, L at most 64
+pub record Square (l : ℕ) (table : List Float) : Type 0 where
+  pub few : l ≤ 64
+  pub size : length table ≡ l * l
+
+-- the distances, and times that are a table too or have length 0
+pub record Tables (l : ℕ) (distances times : List Float) : Type 0 where
+  pub of-distances : Square l distances
+  pub of-times : (length times ≡ 0 → ⊥) → Square l times
+
+-- ---- laws
+
+-- an entry of the table is inside it
+pub entry-below : (l from to : ℕ) → from < l → to < l → from * l + to < l * l
+entry-below l from to p q = omega (arith, suc-mul from l, mul-le-mul-right l p)
+
+module _ (table : List Float) (i : ℕ) (most : Float) where
+  -- one entry more
+  pub largest-turn : i < length table → largest most (drop i table) ≡ largest (larger most (getD table i nan)) (drop (i + 1) table)
+  unfolding largest
+  largest-turn h = rw (add-one, drop-cons table i nan h)
+
+  -- none is left
+  pub largest-end : length table ≤ i → largest most (drop i table) ≡ most
+  unfolding largest
+  largest-end h = rw (drop-of-length-le table h)

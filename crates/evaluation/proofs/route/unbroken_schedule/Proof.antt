@@ -1,0 +1,117 @@
+-- `unbroken_schedule`: what is driven and the rest of the list make the whole walk. A visit that is missed leaves the rest missed.
+use borrow.Author.Needs.{needs}
+use native.Mathlib.Omega.{arith}
+use Prim.Native.Nat.{_-_, _≤_, _<_}
+use mathlib.Core.Path.{_≡_, refl, _∙_}
+use lib.ListN.{length, drop}
+use lib.Ieee.{ofBits}
+use Rattle.numbers.specs.Operations.{zero64}
+use Rattle.evaluation.specs.Columns.{columns, stop-in}
+use Rattle.evaluation.specs.Walk.{walk, tourOf}
+use Rattle.evaluation.specs.Route.{tick, tick-is, unbroken-turns, unbroken-stops, unbroken-ends, unbroken-is}
+use Rattle.evaluation.specs.declared.label.Reached.the-variants.{Served}
+use Rattle.evaluation.proofs.route.unbroken_schedule.Statement.{statement}
+use Rattle.evaluation.proofs.route.unbroken_schedule.Tie as tie
+
+abbrev Inv-loop : tie.InvT-loop
+Inv-loop l flags service ready due penalty distances times depot list label₀ distance₀ place₀ i₀ label distance place i =
+    (i ≤ length list) × (place < l)
+    × (let c = (columns l flags service ready due penalty distances times) in
+    walk c (tick c) (tourOf distance (Served label) place) (drop i list) ≡ walk c (tick c) (tourOf zero64 (Served label₀) depot) list)
+
+abbrev μ-loop : tie.MeasureT-loop
+μ-loop l flags service ready due penalty distances times depot list label₀ distance₀ place₀ i₀ label distance place i =
+    length list - i
+
+at-start-requires : tie.Need-at-start-requires Inv-loop μ-loop
+at-start-requires c κs = search needs
+
+loop-holds : tie.Need-loop-holds Inv-loop μ-loop
+unfolding ofBits
+loop-holds c = (search needs, c .before .before .before .before .before .before .before .before .before .pre .1 .0, refl)
+
+mul-visit : tie.Need-mul-visit Inv-loop μ-loop
+mul-visit c = search needs
+
+shared-slice-read-visit : tie.Need-shared-slice-read-visit Inv-loop μ-loop
+shared-slice-read-visit c = search needs
+
+cast-visit : tie.Need-cast-visit Inv-loop μ-loop
+cast-visit c = omega (arith, c .shared-slice-known9 .given (c .before .before .loop .i))
+
+get-requires : tie.Need-get-requires Inv-loop μ-loop
+get-requires c κs = (c .before .before .before .before .before .before .before .before .before .before .before .before .pre .0 .tables .of-distances, c .before .before .loop .inv .1, c .before .before .before .before .before .before .before .before .before .before .before .before .pre .1 .1 .below (c .before .before .loop .i) (c .before .loop-test .taken))
+
+travel-time-requires : tie.Need-travel-time-requires Inv-loop μ-loop
+travel-time-requires c κs = (c .before .before .before .before .before .before .before .before .before .before .before .before .before .pre .0 .tables, c .before .before .before .loop .inv .1, c .before .before .before .before .before .before .before .before .before .before .before .before .before .pre .1 .1 .below (c .before .before .before .loop .i) (c .before .before .loop-test .taken))
+
+stop-of-requires : tie.Need-stop-of-requires Inv-loop μ-loop
+stop-of-requires c κs = stop-in (c .before .before .before .before .before .before .before .before .before .before .before .before .before .before .pre .0) (c .before .before .before .before .before .before .before .before .before .before .before .before .before .before .pre .1 .1 .below (c .before .before .before .before .loop .i) (c .before .before .before .loop-test .taken))
+
+serve-requires : tie.Need-serve-requires Inv-loop μ-loop
+serve-requires c κs = search needs
+
+enum-known-reached : tie.Need-enum-known-reached Inv-loop μ-loop
+enum-known-reached c = search needs
+
+enum-told : tie.Need-enum-told Inv-loop μ-loop
+enum-told c = search needs
+
+returns : tie.Need-returns Inv-loop μ-loop
+unfolding ofBits
+returns c = unbroken-stops _ _ _ _ _ _ _ (c .before .before .before .before .before .before .before .loop-test .taken) (tick-is _ _ _ _ _ _ _ _ (c .before .before .before .before .travel-time .ensures) (c .before .before .before .stop-of .ensures) (c .before .before .serve .ensures) (c .enum-told .given .1))
+    ∙ unbroken-is _ _ _ _ _ (c .before .before .before .before .before .before .before .before .before .at-start .ensures) (c .before .before .before .before .before .before .before .before .loop .inv .2)
+
+add-i : tie.Need-add-i Inv-loop μ-loop
+add-i c = omega (arith, c .before .before .before .before .before .before .before .before .loop-test .taken, c .before .before .before .before .before .before .before .before .before .before .before .before .before .before .before .before .before .before .before .pre .1 .1 .few)
+
+loop-less : tie.Need-loop-less Inv-loop μ-loop
+loop-less c = search needs
+
+loop-again : tie.Need-loop-again Inv-loop μ-loop
+loop-again c = (
+  search needs,
+  c .before .before .before .before .before .before .before .before .before .before .before .before .before .before .before .before .before .before .before .pre .1 .1 .below (c .before .before .before .before .before .before .before .before .before .loop .i) (c .before .before .before .before .before .before .before .before .loop-test .taken),
+  unbroken-turns _ _ _ _ _ _ _ _ (c .before .before .before .before .before .before .before .before .loop-test .taken) (c .before .before .before .before .before .before .get .ensures) (tick-is _ _ _ _ _ _ _ _ (c .before .before .before .before .before .travel-time .ensures) (c .before .before .before .before .stop-of .ensures) (c .before .before .before .serve .ensures) (c .before .reached .given .1))
+      ∙ c .before .before .before .before .before .before .before .before .before .loop .inv .2,
+)
+
+get-requires-2 : tie.Need-get-requires-2 Inv-loop μ-loop
+get-requires-2 c κs = (c .before .before .before .before .before .before .before .before .before .before .before .pre .0 .tables .of-distances, c .before .loop .inv .1, c .before .before .before .before .before .before .before .before .before .before .before .pre .1 .0)
+
+travel-time-requires-2 : tie.Need-travel-time-requires-2 Inv-loop μ-loop
+travel-time-requires-2 c κs = (c .before .before .before .before .before .before .before .before .before .before .before .before .pre .0 .tables, c .before .before .loop .inv .1, c .before .before .before .before .before .before .before .before .before .before .before .before .pre .1 .0)
+
+end-of-requires : tie.Need-end-of-requires Inv-loop μ-loop
+end-of-requires c κs = search needs
+
+returns-2 : tie.Need-returns-2 Inv-loop μ-loop
+unfolding ofBits
+returns-2 c = c .end-of .ensures ∙ unbroken-ends _ _ _ _ _ _ _ _ _ (c .before .before .before .loop-test .left) (c .before .before .get2 .ensures) (c .before .travel-time2 .ensures)
+    ∙ unbroken-is _ _ _ _ _ (c .before .before .before .before .before .at-start .ensures) (c .before .before .before .before .loop .inv .2)
+
+pub unbroken-schedule-spec : {M : Type 1} → statement M
+unbroken-schedule-spec =
+    tie.close
+    (tie.spec
+    Inv-loop
+    μ-loop
+    at-start-requires
+    loop-holds
+    mul-visit
+    shared-slice-read-visit
+    cast-visit
+    get-requires
+    travel-time-requires
+    stop-of-requires
+    serve-requires
+    enum-known-reached
+    enum-told
+    returns
+    add-i
+    loop-less
+    loop-again
+    get-requires-2
+    travel-time-requires-2
+    end-of-requires
+    returns-2)

@@ -1,0 +1,22 @@
+-- `any_left`: the callees join the definition's two tests.
+use borrow.Author.Needs.{needs}
+use Rattle.evaluation.specs.Schedule.{anyLeft}
+use Rattle.evaluation.proofs.schedule.BreakClock.any_left.Statement.{statement}
+use Rattle.evaluation.proofs.schedule.BreakClock.any_left.Tie as tie
+
+is-served-requires : tie.Need-is-served-requires
+is-served-requires c κs = search needs
+
+is-served-requires-2 : tie.Need-is-served-requires-2
+is-served-requires-2 c κs = search needs
+
+either-requires : tie.Need-either-requires
+either-requires c κs = search needs
+
+returns : tie.Need-returns
+unfolding anyLeft
+returns c = cc
+
+pub any-left-spec : {M : Type 1} → statement M
+any-left-spec =
+    tie.close (tie.spec is-served-requires is-served-requires-2 either-requires returns)

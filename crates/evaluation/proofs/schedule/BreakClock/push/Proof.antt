@@ -1,0 +1,45 @@
+-- `push`: the callees give the travel, the stop and the three labels, in the definition's order.
+use borrow.Author.Needs.{needs}
+use native.Mathlib.Omega.{arith}
+use Rattle.evaluation.specs.Schedule.{pushed}
+use Rattle.evaluation.specs.Columns.{stop-in}
+use Rattle.evaluation.proofs.schedule.BreakClock.push.Statement.{statement}
+use Rattle.evaluation.proofs.schedule.BreakClock.push.Tie as tie
+
+travel-time-requires : tie.Need-travel-time-requires
+travel-time-requires c κs = (c .before .before .before .before .before .before .before .before .pre .0 .tables, c .before .before .before .before .before .before .before .before .pre .1 .0, c .before .before .before .before .before .before .before .before .pre .1 .1)
+
+stop-of-requires : tie.Need-stop-of-requires
+stop-of-requires c κs = stop-in (c .before .before .before .before .before .before .before .before .before .pre .0) (c .before .before .before .before .before .before .before .before .before .pre .1 .1)
+
+serve-next-requires : tie.Need-serve-next-requires
+serve-next-requires c κs = search needs
+
+serve-next-requires-2 : tie.Need-serve-next-requires-2
+serve-next-requires-2 c κs = search needs
+
+serve-next-requires-3 : tie.Need-serve-next-requires-3
+serve-next-requires-3 c κs = search needs
+
+earlier-requires : tie.Need-earlier-requires
+earlier-requires c κs = search needs
+
+add-t23 : tie.Need-add-t23
+add-t23 c = omega (arith, c .before .before .before .before .before .before .before .before .before .before .before .before .before .before .pre .1 .2)
+
+returns : tie.Need-returns
+unfolding pushed
+returns c = rw (← c .before .before .before .before .before .travel-time .ensures, ← c .before .before .before .before .stop-of .ensures, ← c .before .before .before .serve-next .ensures, ← c .before .before .serve-next2 .ensures, ← c .before .serve-next3 .ensures, ← c .earlier .ensures)
+
+pub push-spec : {M : Type 1} → statement M
+push-spec =
+    tie.close
+    (tie.spec
+    travel-time-requires
+    stop-of-requires
+    serve-next-requires
+    serve-next-requires-2
+    serve-next-requires-3
+    earlier-requires
+    add-t23
+    returns)

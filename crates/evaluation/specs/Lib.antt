@@ -1,0 +1,6 @@
+pub mod Columns
+pub mod Walk
+pub mod Label
+pub mod Schedule
+pub mod Route
+pub mod Distance

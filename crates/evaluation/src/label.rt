@@ -1,0 +1,181 @@
+// The label of evaluation/schedule.rs: the van at a stop with its service done, how one stop carries it on, and which of two is earlier.
+use crate::stop::Stop;
+use day::customer::Window;
+use day::vehicle::Rest;
+use tests::both;
+use tests::either;
+ghost use mathlib.Core.Path.{_≡_};
+ghost use Rattle.numbers.specs.Total.{larger};
+ghost use Rattle.evaluation.specs.Label.{atStart, inTime, tooLate, servedIn, served, servedFrom, isEarlier, earlierOf, isServed};
+
+// Whether the break is taken.
+pub enum Taken {
+    // It is still to take, or left out.
+    Untaken,
+    // It comes before the service of the visit at this position of the list, and starts at this time.
+    At(usize, f64),
+}
+
+// The van at a stop with its service done.
+pub struct Label {
+    pub time: f64,
+    pub lateness: f64,
+    pub lateness_cost: f64,
+    pub taken: Taken,
+}
+
+// A label, or none.
+pub enum Reached {
+    // A hard window closed before the service, or the break could not start by its latest.
+    Missed,
+    // The stop is served.
+    Served(Label),
+}
+
+// The van at the depot at time 0.
+pub fn at_start() -> Label
+    ensures { λ r. ⌜ r ≡ atStart ⌝ }
+{
+    Label {
+        time: 0.0,
+        lateness: 0.0,
+        lateness_cost: 0.0,
+        taken: Taken::Untaken,
+    }
+}
+
+// A service that starts in time, done.
+fn in_time(label: Label, start: f64, taken: Taken, service: f64) -> Reached
+    ensures { λ r. ⌜ r ≡ inTime label start taken service ⌝ }
+{
+    Reached::Served(Label {
+        time: start + service,
+        lateness: label.lateness,
+        lateness_cost: label.lateness_cost,
+        taken: taken,
+    })
+}
+
+// A service that starts late at a soft window, done.
+fn too_late(
+    label: Label,
+    start: f64,
+    taken: Taken,
+    service: f64,
+    late: f64,
+    penalty: f64,
+) -> Reached
+    ensures { λ r. ⌜ r ≡ tooLate label start taken service late penalty ⌝ }
+{
+    Reached::Served(Label {
+        time: start + service,
+        lateness: label.lateness + late,
+        lateness_cost: label.lateness_cost + penalty * late,
+        taken: taken,
+    })
+}
+
+// The service of a stop for which the van is ready at this time: the wait for its window, and what being late means there.
+fn serve_at(label: Label, ready: f64, taken: Taken, stop: Stop) -> Reached
+    ensures { λ r. ⌜ r ≡ servedIn (stop .window) label ready taken (stop .service) ⌝ }
+{
+    let window = stop.window;
+    let service = stop.service;
+    match window {
+        Window::Open => in_time(label, ready, taken, service),
+        Window::Hard(span) => {
+            if span.is_violated(ready) {
+                return Reached::Missed;
+            }
+            in_time(label, ready + span.waiting_time(ready), taken, service)
+        }
+        Window::Soft(span, penalty) => {
+            let start = ready + span.waiting_time(ready);
+            if span.is_violated(ready) {
+                return too_late(label, start, taken, service, span.lateness(ready), penalty);
+            }
+            in_time(label, start, taken, service)
+        }
+    }
+}
+
+fn later_of(a: f64, b: f64) -> f64
+    ensures { λ r. ⌜ r ≡ larger a b ⌝ }
+{
+    if a < b {
+        return b;
+    }
+    a
+}
+
+// One stop: the travel to it, the break first if one is given, the wait and the service. `index` is its position in the list.
+pub fn serve(label: Label, travel: f64, stop: Stop, index: usize, rest: Rest) -> Reached
+    ensures { λ r. ⌜ r ≡ served label travel stop index rest ⌝ }
+{
+    let arrival = label.time + travel;
+    match rest {
+        Rest::NoBreak => {
+            let taken = label.taken;
+            serve_at(label, arrival, taken, stop)
+        }
+        Rest::Break(pause) => {
+            let start = later_of(arrival, pause.earliest);
+            if start > pause.latest {
+                return Reached::Missed;
+            }
+            serve_at(label, start + pause.duration, Taken::At(index, start), stop)
+        }
+    }
+}
+
+impl Reached {
+    // One stop more, where the ones before were reached.
+    pub fn serve_next(self, travel: f64, stop: Stop, index: usize, rest: Rest) -> Reached
+        ensures { λ r. ⌜ r ≡ servedFrom self travel stop index rest ⌝ }
+    {
+        match self {
+            Reached::Missed => Reached::Missed,
+            Reached::Served(label) => serve(label, travel, stop, index, rest),
+        }
+    }
+
+    pub fn is_served(self) -> bool
+        ensures { λ r. ⌜ r ≡ isServed self ⌝ }
+    {
+        match self {
+            Reached::Missed => false,
+            Reached::Served(_) => true,
+        }
+    }
+}
+
+// Whether the second label is the lesser (time, lateness cost).
+fn is_earlier(carried: Label, here: Label) -> bool
+    ensures { λ r. ⌜ r ≡ isEarlier carried here ⌝ }
+{
+    either(
+        here.time < carried.time,
+        both(
+            here.time == carried.time,
+            here.lateness_cost < carried.lateness_cost,
+        ),
+    )
+}
+
+// The earlier of two labels, the cheaper in lateness at equal times. A tie goes to the one carried.
+pub fn earlier(carried: Reached, here: Reached) -> Reached
+    ensures { λ r. ⌜ r ≡ earlierOf carried here ⌝ }
+{
+    match carried {
+        Reached::Missed => here,
+        Reached::Served(a) => match here {
+            Reached::Missed => carried,
+            Reached::Served(b) => {
+                if is_earlier(a, b) {
+                    return here;
+                }
+                carried
+            }
+        },
+    }
+}

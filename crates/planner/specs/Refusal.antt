@@ -1,0 +1,84 @@
+-- What an entry refuses, and what an input that it doesn't refuse tells. Every entry's contract starts here. Assumes nothing.
+use Prim.Native.Nat.{ℕ, _+_, _<_, _≤_}
+use native.Mathlib.Omega.{arith}
+use native.Mathlib.Nat.{lt-of-lt-of-le}
+use mathlib.Core.Path.{_≡_}
+use mathlib.Core.List.{List}
+use lib.ListN.{length, getD, drop, length-take, length-drop}
+use lib.Seq.{getD-take, getD-drop}
+use Rattle.tests.specs.All.{firstOf, first-zero}
+use Rattle.day.specs.Day.{Day}
+use Rattle.day.specs.Matrix.{Square}
+use Rattle.day.specs.Customer.{numDepots}
+use Rattle.day.specs.Refusal.{dayRefusal, vanRefusal}
+use Rattle.day.specs.Fine.{DayFine, VanFine, day-fine, van-fine}
+use Rattle.day.specs.declared.vehicle.Van.{Van}
+use Rattle.lists.specs.Refused.{listsRefusal, ListsFine}
+use Rattle.lists.specs.Table.{Laid, startOf, listOf, length-list, list-within}
+use Rattle.lists.proofs.Fine.{lists-fine}
+use Rattle.evaluation.specs.Columns.{Formed, Visits, columnsOf, formed}
+
+-- 01, 'Refused, by place': 'The order is by number': the first of 1 to 10 that an input meets, and 0 where it meets none, of an entry that asks for a list
+unfoldable pub refusal : Day → Van → List ℕ → List ℕ → ℕ → ℕ
+refusal d van visits lengths list =
+    firstOf (dayRefusal d) (firstOf (vanRefusal (d .flags) van) (listsRefusal (numDepots (d .flags)) (d .l) visits lengths list))
+
+-- what an input that is not refused tells
+pub record Fine (d : Day) (van : Van) (visits lengths : List ℕ) (list : ℕ) : Type 0 where
+  pub day : DayFine d
+  pub van-fine : VanFine (d .flags) van
+  pub depot : van .depot < d .l
+  pub lists : ListsFine (numDepots (d .flags)) (d .l) visits lengths list
+
+-- ---- laws
+
+-- an input that is not refused is fine
+pub fine : (d : Day) (van : Van) (visits lengths : List ℕ) (list : ℕ) → refusal d van visits lengths list ≡ 0 → Fine d van visits lengths list
+unfolding refusal
+fine d van visits lengths list h =
+    let of-day = first-zero _ _ h in
+    let of-van = first-zero _ _ (of-day .1) in
+    let d-fine = day-fine d (of-day .0) in
+    let v-fine = van-fine (d .flags) van (of-van .0) in
+    record {
+      day = d-fine;
+      van-fine = v-fine;
+      depot = lt-of-lt-of-le (v-fine .depot) (d-fine .depots);
+      lists = lists-fine _ _ visits lengths list (of-van .1);
+    }
+
+-- the list asked for has at most 63 visits, each a location
+pub visits-fine : (d : Day) (van : Van) (visits lengths : List ℕ) (list : ℕ) → Fine d van visits lengths list → Visits (d .l) (listOf visits lengths list)
+unfolding listOf
+visits-fine d van visits lengths list f =
+    let table = f .lists .table in
+    let start = startOf lengths list in
+    let size = getD lengths list 0 in
+    let long : length (listOf visits lengths list) ≡ size = length-list visits lengths (table .laid .add-up) list in
+    let within = list-within visits lengths (table .laid) list in
+    record {
+      few = rw long (table .short list);
+      below = λ k lt.
+          let inside : k < size = rw long at lt in
+          let there : start + k < length visits = omega arith in
+          rw (getD-take size (drop start visits) k 0 inside, getD-drop start visits k 0) (table .below (start + k) there);
+    }
+
+-- ---- what an entry that found no refusal may call
+
+module _ (d : Day) (van : Van) (visits lengths : List ℕ) (list : ℕ) (none : refusal d van visits lengths list ≡ 0) where
+  -- `lists::list_of`
+  pub listed : Laid visits lengths × (list < length lengths)
+  listed = let f = fine d van visits lengths list none in (f .lists .table .laid, f .lists .there)
+
+  -- `evaluation::distance::route_distance`, of the part that is the list asked for
+  pub drivable : (part : List ℕ) → part ≡ listOf visits lengths list → Square (d .l) (d .distances) × (van .depot < d .l) × Visits (d .l) part
+  drivable part e =
+      let f = fine d van visits lengths list none in
+      (f .day .shaped .tables .of-distances, f .depot, rw e (visits-fine d van visits lengths list f))
+
+  -- the checks of `evaluation::route`
+  pub checkable : (part : List ℕ) → part ≡ listOf visits lengths list → Formed (columnsOf d) × ((van .depot < d .l) × Visits (d .l) part)
+  checkable part e =
+      let f = fine d van visits lengths list none in
+      (formed (f .day .shaped), (f .depot, rw e (visits-fine d van visits lengths list f)))
