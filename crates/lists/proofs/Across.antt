@@ -7,13 +7,15 @@ use Prim.Native.Nat.{ℕ, _+_, _-_, _≤_, _<_}
 use native.Mathlib.Omega.{arith}
 use borrow.Author.Tests.{lt-ltb, le-ltb, ltb-true, ltb-false}
 use lib.Dec.{ltb}
-use lib.ListN.{length, getD, set, length-append, length-set, length-drop}
+use lib.ListN.{length, getD, length-append, length-set, length-drop}
 use lib.Seq.{length-take-le}
 use Rattle.edits.specs.Total.{total, SameVisits}
 use Rattle.edits.specs.Edits.{exchanged, outerExchanged}
 use Rattle.edits.proofs.Kept.{same-exchanged, same-outerExchanged}
 use Rattle.tests.specs.Pick.{picked, other}
-use Rattle.lists.specs.Table.{Laid, lists, flat, lengthsOf, startOf, length-lists, at-lengths, flat-lists, lengths-lists, lengths-set, start-later, start-within}
+use Rattle.lists.specs.Table.{Laid, lists, flat, lengthsOf, startOf}
+use Rattle.lists.proofs.Tables.{length-lists, at-lengths, flat-lists, lengths-lists, lengths-set}
+use Rattle.lists.proofs.Tables.{start-later, start-within}
 use Rattle.lists.specs.Edits.{Edited, at, giver, receiver, relocated, Relocates, movedOne, lengthMoved, joined, tailsExchanged, tailLengths, Cuts}
 use Rattle.lists.proofs.Edited.{edited-by}
 use Rattle.lists.proofs.Two.{moved-later, moved-earlier, tails-made}
@@ -160,7 +162,8 @@ module _ (visits lengths : List ℕ) (one two cut1 cut2 : ℕ) (r : Cuts visits 
   -- in the code's numbers: from `from` to a and from b to `to` lie the tails
   pub tails-edited : (from a b to : ℕ) → from ≡ startOf lengths one + cut1 → a ≡ startOf lengths one + getD lengths one 0
       → b ≡ startOf lengths two + cut2 → to ≡ startOf lengths two + getD lengths two 0
-      → Edited visits lengths (outerExchanged from a b to visits) (tailLengths one two cut1 cut2 lengths) (tailsExchanged (lists visits lengths) one two cut1 cut2)
+      → Edited visits lengths (outerExchanged from a b to visits) (tailLengths one two cut1 cut2 lengths)
+      (tailsExchanged (lists visits lengths) one two cut1 cut2)
   tails-edited from a b to at-from at-a at-b at-to =
       let ls = lists visits lengths in
       let n1 = length-at visits lengths (r .laid) one in

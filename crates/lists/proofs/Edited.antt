@@ -5,12 +5,13 @@ use mathlib.Core.List.{List, [], _++_}
 use Prim.Native.Nat.{ℕ, _+_, _-_, _<_}
 use native.Mathlib.Omega.{arith}
 use borrow.Rule.Slice.PartMut.{putMid}
-use lib.ListN.{length, getD, set, take, drop, replicate, length-set}
+use lib.ListN.{length, getD, set, replicate, length-set}
 use lib.Seq.{set-getD}
 use Rattle.edits.specs.Total.{total, total-append, SameVisits}
 use Rattle.edits.proofs.Kept.{same-length}
-use Rattle.lists.specs.Table.{Laid, lists, flat, lengthsOf, startOf, listOf, withList, length-flat, length-lengths, length-lists}
-use Rattle.lists.specs.Table.{lengths-set, lists-are, at-lists, flat-lists, lengths-lists, flat-with, total-lists, length-list, put-is}
+use Rattle.lists.specs.Table.{Laid, lists, flat, lengthsOf, startOf, listOf, withList}
+use Rattle.lists.proofs.Tables.{length-flat, length-lengths, length-lists}
+use Rattle.lists.proofs.Tables.{lengths-set, lists-are, at-lists, flat-lists, lengths-lists, flat-with, total-lists, length-list, put-is}
 use Rattle.lists.specs.Edits.{Edited, filled, nonzero, packed}
 use Rattle.lists.proofs.Packing.{packed-lists, packed-laid, length-packed}
 

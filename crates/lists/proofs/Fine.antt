@@ -1,16 +1,17 @@
 -- What lists tell that were not refused: each test of the table's 8 to 10 that passed is a fact. Assumes nothing.
-use mathlib.Core.Path.{_≡_, refl, sym, ap, _∙_}
+use mathlib.Core.Path.{_≡_, refl}
 use mathlib.Core.Logic.{_≢_}
 use mathlib.Core.List.{List, [], _∷_}
 use mathlib.Core.Bool.{Bool, true, false, not}
-use Prim.Native.Nat.{ℕ, zero, suc, _-_, _+_, _*_, _≤_, _<_}
+use Prim.Native.Nat.{ℕ, _+_, suc, _-_, _*_, _≤_, _<_}
 use native.Mathlib.Omega.{arith}
 use borrow.Author.Tests.{eqb-true, eqb-false, leb-true, ltb-true, ltb-false, not-true}
 use lib.Dec.{eqb, leb, ltb}
 use lib.ListN.{length, getD, List·getD-eq-default}
-use Rattle.tests.specs.All.{allBelow, all-at, unless, passed, and-first, and-second}
-use Rattle.lists.specs.Table.{Laid, sum}
+use Rattle.tests.specs.All.{all-at, passed, and-first, and-second}
+use Rattle.lists.specs.Table.{Laid, sum, startOf, listOf}
 use Rattle.lists.specs.Refused.{allShort, shapeOk, visitOk, visitsOk, newAt, distinct, tableRefusal, listsRefusal, Apart, TableFine, ListsFine}
+use Rattle.lists.proofs.Tables.{start-within, length-list, list-at}
 use Rattle.lists.proofs.Pigeonhole.{pigeonhole}
 
 -- ---- 8
@@ -59,6 +60,10 @@ office-of depots l visits h k lt =
     let v = getD visits k 0 in
     (leb-true _ _ (and-first (leb depots v) (ltb v l) here), ltb-true _ _ (and-second (leb depots v) (ltb v l) here))
 
+-- so that each has its place among the 64 that may be seen
+pub offices-small : (depots l : ℕ) (visits : List ℕ) → l ≤ 64 → visitsOk depots l visits ≡ true → (k : ℕ) → k < length visits → getD visits k 0 < 64
+offices-small depots l visits few h k lt = omega (arith, office-of depots l visits h k lt .1)
+
 -- ---- the laws
 
 pub table-fine : (depots l : ℕ) (visits lengths : List ℕ) → tableRefusal depots l visits lengths ≡ 0 → TableFine depots l visits lengths
@@ -85,3 +90,22 @@ unfolding listsRefusal
 lists-fine depots l visits lengths asked h =
     let eight = passed _ _ _ h tt in
     record { table = table-fine depots l visits lengths (eight .1); there = ltb-true _ _ (eight .0) }
+
+-- ---- and of one list
+
+module _ (depots l : ℕ) (visits lengths : List ℕ) (fine : TableFine depots l visits lengths) (r : ℕ) where
+  -- each of its visits is an office
+  pub list-office : (k : ℕ) → k < length (listOf visits lengths r) → (depots ≤ getD (listOf visits lengths r) k 0) × (getD (listOf visits lengths r) k 0 < l)
+  list-office k h =
+      let add-up = fine .laid .add-up in
+      let there : k < getD lengths r 0 = rw (length-list visits lengths add-up r) at h in
+      let inside : startOf lengths r + k < length visits = omega (arith, start-within lengths r) in
+      rw (list-at visits lengths add-up r k there) (fine .office _ inside, fine .below _ inside)
+
+  -- and none stands there twice
+  pub list-apart : Apart (listOf visits lengths r)
+  list-apart i j h k =
+      let add-up = fine .laid .add-up in
+      let there : j < getD lengths r 0 = rw (length-list visits lengths add-up r) at k in
+      let inside : startOf lengths r + j < length visits = omega (arith, start-within lengths r) in
+      rw (list-at visits lengths add-up r i (omega arith), list-at visits lengths add-up r j there) (fine .apart _ _ (omega arith) inside)

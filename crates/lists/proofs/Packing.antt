@@ -7,9 +7,10 @@ use Prim.Native.Nat.{ℕ, zero, suc, _+_, _-_, _≤_, _<_}
 use native.Mathlib.Numerals.{add-one}
 use native.Mathlib.Omega.{arith}
 use lib.ListN.{length, getD, set, take, drop, replicate, length-append, length-replicate, length-drop, length-set}
-use lib.Seq.{drop-drop, take-suc, drop-cons, set-at, take-at, take-length, drop-length, append-snoc, set-append-seam, take-append-add, getD-at, length-take-le}
+use lib.Seq.{drop-drop, take-suc, drop-cons, set-at, take-at, take-length, drop-length, append-snoc, set-append-seam, getD-at, length-take-le}
 use Rattle.edits.specs.Total.{total-append}
-use Rattle.lists.specs.Table.{Laid, sum, lists, length-lists}
+use Rattle.lists.specs.Table.{Laid, sum, lists}
+use Rattle.lists.proofs.Tables.{length-lists}
 use Rattle.lists.specs.Edits.{filled, nonzero, packed}
 
 -- ---- the lengths

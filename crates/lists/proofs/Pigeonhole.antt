@@ -1,9 +1,9 @@
 -- Different numbers below a bound are no more than the bound. Of n + 1 numbers below m + 1, the last takes the place of m among the others,
 -- which are then n different numbers below m. Assumes nothing.
-use mathlib.Core.Path.{_≡_, refl, sym, _∙_}
+use mathlib.Core.Path.{_≡_, sym, _∙_}
 use mathlib.Core.Logic.{_≢_}
-use mathlib.Core.Bool.{Bool, true, false, cond}
-use Prim.Native.Nat.{ℕ, zero, suc, _-_, _≤_, _<_}
+use mathlib.Core.Bool.{cond}
+use Prim.Native.Nat.{ℕ, zero, suc, _≤_, _<_}
 use native.Mathlib.Decide.{ℕ-discrete}
 use native.Mathlib.Omega.{arith}
 use borrow.Author.Tests.{eq-eqb, ne-eqb}
@@ -26,7 +26,8 @@ pigeonhole zero zero f below apart = omega arith
 pigeonhole zero (suc n) f below apart = absurd (omega (arith, below 0 (omega arith)))
 pigeonhole (suc m) zero f below apart = omega arith
 pigeonhole (suc m) (suc n) f below apart =
-    let fewer : n ≤ m = pigeonhole m n (λ i. instead m (f n) (f i)) (λ i h. lower i h (ℕ-discrete (f i) m)) (λ i j h k. still i j h k (ℕ-discrete (f i) m) (ℕ-discrete (f j) m)) in
+    let fewer : n ≤ m = pigeonhole m n (λ i. instead m (f n) (f i)) (λ i h. lower i h (ℕ-discrete (f i) m))
+    (λ i j h k. still i j h k (ℕ-discrete (f i) m) (ℕ-discrete (f j) m)) in
     omega arith
   where
     lower : (i : ℕ) → i < n → Dec (f i ≡ m) → instead m (f n) (f i) < m

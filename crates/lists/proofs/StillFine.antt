@@ -2,17 +2,16 @@
 -- offices are those of which none stands there twice, and how often an office stands there is a total. Assumes nothing.
 use mathlib.Core.Path.{_≡_, refl, sym, ap, _∙_}
 use mathlib.Core.Logic.{_≢_}
-use mathlib.Core.Bool.{Bool, true, false, _&&_}
 use mathlib.Core.List.{List, [], _∷_}
-use Prim.Native.Nat.{ℕ, zero, suc, _+_, _-_, _≤_, _<_}
+use Prim.Native.Nat.{ℕ, zero, suc, _-_, _≤_, _<_}
 use native.Mathlib.Decide.{ℕ-discrete}
 use native.Mathlib.Omega.{arith}
 use borrow.Author.Tests.{le-leb, lt-ltb, leb-true, ltb-true, eq-eqb, ne-eqb}
 use lib.Dec.{eqb, leb, ltb}
 use lib.ListN.{length, getD}
-use Rattle.edits.specs.Total.{total, bit, count, SameVisits, part-le, total-none}
+use Rattle.edits.specs.Total.{bit, count, SameVisits, part-le, total-none}
 use Rattle.edits.proofs.Kept.{same-length, same-count, same-each}
-use Rattle.lists.specs.Table.{Laid, sum, startOf, start-within}
+use Rattle.lists.proofs.Tables.{start-within}
 use Rattle.lists.specs.Edits.{Edited}
 use Rattle.lists.specs.Refused.{Apart, TableFine}
 

@@ -1,14 +1,14 @@
 -- Two lists of the lists, and the edits that change both: the table is cut where they meet, and each edit exchanges stretches of it. Assumes nothing.
 use mathlib.Core.Path.{_≡_, refl, sym, ap, _∙_}
-use mathlib.Core.Logic.{_≢_}
-use mathlib.Core.List.{List, [], _∷_, _++_, append-assoc, append-nil}
-use Prim.Native.Nat.{ℕ, zero, suc, _+_, _-_, _≤_, _<_}
+use mathlib.Core.List.{List, [], _∷_, _++_, append-assoc}
+use Prim.Native.Nat.{ℕ, zero, suc, _+_, _≤_, _<_}
 use native.Mathlib.Omega.{arith}
-use lib.ListN.{length, getD, set, take, drop, length-append, length-set, length-drop, take-append-drop}
+use lib.ListN.{length, getD, set, take, drop, length-append, length-set, take-append-drop}
 use lib.Seq.{slice, set-split, set-getD, split-at, take-take, take-set-lt, drop-set-lt, length-take-le, set-comm}
 use Rattle.edits.specs.Edits.{exchanged, outerExchanged}
 use Rattle.edits.proofs.Pieces.{exchanged-at, outerExchanged-at}
-use Rattle.lists.specs.Table.{sum, lists, flat, lengthsOf, startOf, length-flat}
+use Rattle.lists.specs.Table.{flat, lengthsOf, startOf}
+use Rattle.lists.proofs.Tables.{length-flat}
 use Rattle.lists.specs.Edits.{at, giver, receiver, relocated, joined, tailsExchanged}
 
 -- ---- the table in five pieces
@@ -112,6 +112,10 @@ module _ (ls : List (List ℕ)) (one other : ℕ) (before : one < other) (there 
       → length (front ls one) + length (at ls one) + length (between ls one other) + length (take n (at ls other)) ≡ startOf (lengthsOf ls) other + n
   in-second n h = rw (length-take-le n (at ls other) h, at-second ls one other before there)
 
+  -- the table, with the two lists in pieces
+  in-pieces : (X Y : List ℕ) → at ls one ≡ X → at ls other ≡ Y → flat ls ≡ front ls one ++ X ++ between ls one other ++ Y ++ back ls other
+  in-pieces X Y x y = as-they-are ls one other before there ∙ (λ t. front ls one ++ x t ++ between ls one other ++ y t ++ back ls other)
+
   pub moved-later : (position place : ℕ) → position < length (at ls one) → place ≤ length (at ls other)
       → exchanged (startOf (lengthsOf ls) one + position) (startOf (lengthsOf ls) one + position + 1) (startOf (lengthsOf ls) other + place) (flat ls)
       ≡ flat (relocated ls one position other place)
@@ -119,15 +123,11 @@ module _ (ls : List (List ℕ)) (one other : ℕ) (before : one < other) (there 
   moved-later position place h k =
       let X = at ls one in
       let Y = at ls other in
-      let split : X ≡ take position X ++ getD X position 0 ∷ drop (suc position) X = split-at X position 0 h in
-      let whole = as-they-are ls one other before there in
-      let p = startOf (lengthsOf ls) one + position in
-      let q = startOf (lengthsOf ls) other + place in
-      let pieces : flat ls ≡ front ls one ++ (take position X ++ getD X position 0 ∷ drop (suc position) X) ++ between ls one other ++ (take place Y ++ drop place Y) ++ back ls other
-      = whole ∙ (λ t. front ls one ++ split t ++ between ls one other ++ sym (take-append-drop place Y) t ++ back ls other) in
-      ap (exchanged p (p + 1) q) pieces
+      let x : X ≡ take position X ++ getD X position 0 ∷ drop (suc position) X = split-at X position 0 h in
+      let y : take place Y ++ drop place Y ≡ Y = take-append-drop place Y in
+      ap (exchanged _ _ _) (in-pieces _ _ x (sym y))
       ∙ later-pieces (front ls one) (take position X) (drop (suc position) X) (between ls one other) (take place Y) (drop place Y) (back ls other)
-      (getD X position 0) p q (in-first position (omega arith)) (rw (← split) (in-second place k))
+      (getD X position 0) _ _ (in-first position (omega arith)) (rw (← x) (in-second place k))
       ∙ sym (two-lists ls one other before there (giver ls one position) (receiver ls one position other place))
 
   pub moved-earlier : (position place : ℕ) → position < length (at ls other) → place ≤ length (at ls one)
@@ -137,15 +137,11 @@ module _ (ls : List (List ℕ)) (one other : ℕ) (before : one < other) (there 
   moved-earlier position place h k =
       let X = at ls one in
       let Y = at ls other in
-      let split : Y ≡ take position Y ++ getD Y position 0 ∷ drop (suc position) Y = split-at Y position 0 h in
-      let p = startOf (lengthsOf ls) other + position in
-      let q = startOf (lengthsOf ls) one + place in
-      let whole : take place X ++ drop place X ≡ X = take-append-drop place X in
-      let pieces : flat ls ≡ front ls one ++ (take place X ++ drop place X) ++ between ls one other ++ (take position Y ++ getD Y position 0 ∷ drop (suc position) Y) ++ back ls other
-      = as-they-are ls one other before there ∙ (λ t. front ls one ++ sym whole t ++ between ls one other ++ split t ++ back ls other) in
-      ap (exchanged q p (p + 1)) pieces
+      let x : take place X ++ drop place X ≡ X = take-append-drop place X in
+      let y : Y ≡ take position Y ++ getD Y position 0 ∷ drop (suc position) Y = split-at Y position 0 h in
+      ap (exchanged _ _ _) (in-pieces _ _ (sym x) y)
       ∙ earlier-pieces (front ls one) (take position Y) (drop (suc position) Y) (between ls one other) (take place X) (drop place X) (back ls other)
-      (getD Y position 0) p q (in-first place k) (rw whole (in-second position (omega arith)))
+      (getD Y position 0) _ _ (in-first place k) (rw x (in-second position (omega arith)))
       ∙ sym (ap flat (set-comm ls other one (giver ls other position) (receiver ls other position one place) (λ e. omega arith))
       ∙ two-lists ls one other before there (receiver ls other position one place) (giver ls other position))
 
@@ -157,12 +153,12 @@ module _ (ls : List (List ℕ)) (one other : ℕ) (before : one < other) (there 
   tails-made cut1 cut2 h k =
       let X = at ls one in
       let Y = at ls other in
-      let whole : take cut1 X ++ drop cut1 X ≡ X = take-append-drop cut1 X in
-      let whole2 : take cut2 Y ++ drop cut2 Y ≡ Y = take-append-drop cut2 Y in
-      let start : length (front ls one) + length X ≡ startOf (lengthsOf ls) one + length X = rw (at-front ls one other before there) in
-      let end : length (front ls one) + length X + length (between ls one other) + length Y ≡ startOf (lengthsOf ls) other + length Y
+      let x : take cut1 X ++ drop cut1 X ≡ X = take-append-drop cut1 X in
+      let y : take cut2 Y ++ drop cut2 Y ≡ Y = take-append-drop cut2 Y in
+      let first-ends : length (front ls one) + length X ≡ startOf (lengthsOf ls) one + length X = rw (at-front ls one other before there) in
+      let second-ends : length (front ls one) + length X + length (between ls one other) + length Y ≡ startOf (lengthsOf ls) other + length Y
       = rw (at-second ls one other before there) in
-      ap (outerExchanged _ _ _ _) (as-they-are ls one other before there ∙ (λ t. front ls one ++ sym whole t ++ between ls one other ++ sym whole2 t ++ back ls other))
+      ap (outerExchanged _ _ _ _) (in-pieces _ _ (sym x) (sym y))
       ∙ tail-pieces (front ls one) (take cut1 X) (drop cut1 X) (between ls one other) (take cut2 Y) (drop cut2 Y) (back ls other) _ _ _ _
-      (in-first cut1 h) (rw whole start) (rw whole (in-second cut2 k)) (rw (whole, whole2) end)
+      (in-first cut1 h) (rw x first-ends) (rw x (in-second cut2 k)) (rw (x, y) second-ends)
       ∙ sym (two-lists ls one other before there (joined X cut1 Y cut2) (joined Y cut2 X cut1))

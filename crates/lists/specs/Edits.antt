@@ -25,13 +25,15 @@ pub record Edited (visits lengths visits′ lengths′ : List ℕ) (ls : List (L
 
 -- ---- 01, relocate: 'one visit goes to any place of another list': the visit at `position` of list `from`, to `place` of list `to`
 
--- the list that it leaves, and the list that it goes to
+-- the list that it leaves
 abbrev pub giver : List (List ℕ) → ℕ → ℕ → List ℕ
 giver ls from position = take position (at ls from) ++ drop (suc position) (at ls from)
 
+-- the list that it goes to
 abbrev pub receiver : List (List ℕ) → ℕ → ℕ → ℕ → ℕ → List ℕ
 receiver ls from position to place = take place (at ls to) ++ getD (at ls from) position 0 ∷ drop place (at ls to)
 
+-- the lists with both
 unfoldable pub relocated : List (List ℕ) → ℕ → ℕ → ℕ → ℕ → List (List ℕ)
 relocated ls from position to place = set (set ls from (giver ls from position)) to (receiver ls from position to place)
 
@@ -58,6 +60,7 @@ lengthMoved from to lengths = set (set lengths from (getD lengths from 0 - 1)) t
 abbrev pub joined : List ℕ → ℕ → List ℕ → ℕ → List ℕ
 joined xs cut1 ys cut2 = take cut1 xs ++ drop cut2 ys
 
+-- the lists with both
 unfoldable pub tailsExchanged : List (List ℕ) → ℕ → ℕ → ℕ → ℕ → List (List ℕ)
 tailsExchanged ls one other cut1 cut2 =
     set (set ls one (joined (at ls one) cut1 (at ls other) cut2)) other (joined (at ls other) cut2 (at ls one) cut1)

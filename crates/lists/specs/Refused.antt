@@ -20,6 +20,7 @@ shapeOk visits lengths = leb (length lengths) 16 && (eqb (sum lengths) (length v
 unfoldable pub visitOk : ℕ → ℕ → ℕ → Bool
 visitOk depots l v = leb depots v && ltb v l
 
+-- so of every visit
 unfoldable pub visitsOk : ℕ → ℕ → List ℕ → Bool
 visitsOk depots l visits = allBelow (λ k. visitOk depots l (getD visits k 0)) (length visits)
 
@@ -27,6 +28,7 @@ visitsOk depots l visits = allBelow (λ k. visitOk depots l (getD visits k 0)) (
 unfoldable pub newAt : List ℕ → ℕ → Bool
 newAt visits j = allBelow (λ i. not (eqb (getD visits i 0) (getD visits j 0))) j
 
+-- so at every position
 unfoldable pub distinct : List ℕ → Bool
 distinct visits = allBelow (λ j. newAt visits j) (length visits)
 

@@ -2,10 +2,10 @@
 // where a list lies, and the edits of both tables in place. Each edit equals its definition on a list of lists (specs/Table.antt says how the two go together).
 ghost use mathlib.Core.Path.{_≡_};
 ghost use mathlib.Core.List.{[], _∷_};
-ghost use Prim.Native.Nat.{_+_, _≤_, _<_};
+ghost use Prim.Native.Nat.{ℕ, _+_, _≤_, _<_};
 ghost use lib.ListN.{length, getD};
 ghost use Rattle.lists.specs.Table.{Laid, lists, startOf, listOf};
-ghost use Rattle.lists.specs.Refused.{allShort, shapeOk, visitOk, visitsOk, newAt, distinct, tableRefusal, listsRefusal};
+ghost use Rattle.lists.specs.Refused.{allShort, shapeOk, visitOk, visitsOk, distinct, tableRefusal, listsRefusal};
 ghost use Rattle.lists.specs.Edits.{nonzero, packed, Edited, Relocates, relocated, movedOne, lengthMoved, Cuts, tailsExchanged, tailLengths};
 
 // Where the visit at `position` of list r stands in the table: behind the lists before r. Sixteen lengths can't wrap.
@@ -109,30 +109,19 @@ fn visits_ok(depots: usize, l: usize, visits: &[u16]) -> bool
     true
 }
 
-// Whether the office at j stands at no earlier position.
-fn new_at(visits: &[u16], j: usize) -> bool
-    requires { ⌜ j < length (now visits) ⌝ }
-    ensures { λ r. ⌜ r ≡ newAt (now (visits .entry)) j ⌝ }
-{
-    let mut earlier = 0;
-    while earlier < j {
-        if visits[earlier] == visits[j] {
-            return false;
-        }
-        earlier += 1;
-    }
-    true
-}
-
-// Whether no office stands twice: it stops at the first that does.
+// Whether no office stands twice: it stops at the first that does. An office is marked as seen where it is passed, so that one that is marked stood earlier.
 fn all_distinct(visits: &[u16]) -> bool
+    requires { ⌜ ((k : ℕ) → k < length (now visits) → getD (now visits) k 0 < 64) ⌝ }
     ensures { λ r. ⌜ r ≡ distinct (now (visits .entry)) ⌝ }
 {
+    let mut seen = [false; 64];
     let mut j = 0;
     while j < visits.len() {
-        if !new_at(visits, j) {
+        let office = visits[j] as usize;
+        if seen[office] {
             return false;
         }
+        seen[office] = true;
         j += 1;
     }
     true
@@ -140,6 +129,7 @@ fn all_distinct(visits: &[u16]) -> bool
 
 // The first refusal of the lists, 8 to 10, and 0 where there is none, of an entry that asks for no list. Depots are the locations below `depots`.
 pub fn table_refusal(depots: usize, l: usize, visits: &[u16], lengths: &[u16]) -> u8
+    requires { ⌜ l ≤ 64 ⌝ }
     ensures { λ r. ⌜ r ≡ tableRefusal depots l (now (visits .entry)) (now (lengths .entry)) ⌝ }
 {
     if !shape_ok(visits, lengths) {
@@ -156,6 +146,7 @@ pub fn table_refusal(depots: usize, l: usize, visits: &[u16], lengths: &[u16]) -
 
 // The same of an entry that asks for a list: 8 as well where its number isn't below their count.
 pub fn lists_refusal(depots: usize, l: usize, visits: &[u16], lengths: &[u16], asked: usize) -> u8
+    requires { ⌜ l ≤ 64 ⌝ }
     ensures { λ r. ⌜ r ≡ listsRefusal depots l (now (visits .entry)) (now (lengths .entry)) asked ⌝ }
 {
     if asked >= lengths.len() {

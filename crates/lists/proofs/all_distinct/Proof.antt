@@ -1,29 +1,38 @@
--- `lists::all_distinct` meets its contract: every office passed was new at its position. Assumes nothing.
-use Prim.Native.Nat.{_≤_, _-_}
-use mathlib.Core.Path.{_≡_, sym}
-use mathlib.Core.Bool.{true}
+use Prim.Native.Nat.{_-_}
+-- `lists::all_distinct` meets its contract: proofs/Seen.antt has where the loop stands, its start, its turn and its ends. Assumes nothing.
+use native.Mathlib.Omega.{arith}
 use borrow.Author.Needs.{needs}
 use lib.ListN.{length}
-use Rattle.tests.specs.All.{allBelow, all-none, all-more, all-fails, all-end, no, yes}
-use Rattle.lists.specs.Refused.{newAt, distinct}
+use Rattle.lists.proofs.Seen.{Seen, seen-starts, seen-again, seen-turns, seen-ends}
 use Rattle.lists.proofs.all_distinct.Statement.{statement}
 use Rattle.lists.proofs.all_distinct.Tie as tie
 
 abbrev Inv-loop : tie.InvT-loop
-Inv-loop visits j₀ j = (j ≤ length visits) × (allBelow (λ k. newAt visits k) j ≡ true)
+Inv-loop visits seen₀ j₀ seen j = Seen visits seen j
 
 abbrev μ-loop : tie.MeasureT-loop
-μ-loop visits j₀ j = length visits - j
+μ-loop visits seen₀ j₀ seen j = length visits - j
 
 loop-holds : tie.Need-loop-holds Inv-loop μ-loop
-loop-holds c = (search needs, all-none _)
+loop-holds c = seen-starts _
 
-new-at-requires : tie.Need-new-at-requires Inv-loop μ-loop
-new-at-requires c κs = search needs
+mul-office : tie.Need-mul-office Inv-loop μ-loop
+mul-office c = search needs
+
+shared-slice-read-office : tie.Need-shared-slice-read-office Inv-loop μ-loop
+shared-slice-read-office c = search needs
+
+cast-office : tie.Need-cast-office Inv-loop μ-loop
+cast-office c = omega (arith, c .shared-slice-known .given (c .before .before .loop .j))
+
+array-read-if1 : tie.Need-array-read-if1 Inv-loop μ-loop
+array-read-if1 c = c .before .before .before .pre (c .before .before .loop .j) (c .before .loop-test .taken)
 
 returns : tie.Need-returns Inv-loop μ-loop
-unfolding distinct
-returns c = sym (all-fails _ _ (c .before .before .before .loop .j) (search needs) (no _ _ (c .before .new-at .ensures) (c .if1 .taken)))
+returns c = seen-again _ _ _ (c .before .before .before .loop .inv) (c .before .before .loop-test .taken) (c .if1 .taken)
+
+array-write-seen : tie.Need-array-write-seen Inv-loop μ-loop
+array-write-seen c = c .before .before .before .before .pre (c .before .before .before .loop .j) (c .before .before .loop-test .taken)
 
 add-j : tie.Need-add-j Inv-loop μ-loop
 add-j c = search needs
@@ -32,11 +41,13 @@ loop-less : tie.Need-loop-less Inv-loop μ-loop
 loop-less c = search needs
 
 loop-again : tie.Need-loop-again Inv-loop μ-loop
-loop-again c = (search needs, all-more _ _ (c .before .before .before .loop .inv .1) (yes _ _ (c .before .new-at .ensures) (c .if1 .left)))
+loop-again c =
+    let test = c .before .before in
+    let now = test .before .loop in
+    seen-turns _ _ _ (now .inv) (test .loop-test .taken) (test .before .before .pre (now .j) (test .loop-test .taken)) (c .if1 .left)
 
 returns-2 : tie.Need-returns-2 Inv-loop μ-loop
-unfolding distinct
-returns-2 c = all-end _ _ _ (c .before .loop .inv .0) (c .loop-test .left) (c .before .loop .inv .1)
+returns-2 c = seen-ends _ _ _ (c .before .loop .inv) (c .loop-test .left)
 
 pub all-distinct-spec : {M : Type 1} → statement M
 all-distinct-spec =
@@ -45,8 +56,12 @@ all-distinct-spec =
     Inv-loop
     μ-loop
     loop-holds
-    new-at-requires
+    mul-office
+    shared-slice-read-office
+    cast-office
+    array-read-if1
     returns
+    array-write-seen
     add-j
     loop-less
     loop-again

@@ -20,11 +20,19 @@ end-of-requires-2 c κs = search needs
 
 exchange-outer-requires : tie.Need-exchange-outer-requires
 exchange-outer-requires c κs =
-    let room = tails-room _ _ _ _ _ _ (c .before .before .before .before .before .before .before .before .before .before .before .pre) in
-    omega (arith, c .before .before .before .before .before .before .before .place-of .ensures, c .before .before .before .before .before .end-of .ensures, c .before .before .before .place-of2 .ensures, c .before .end-of2 .ensures)
+    let to = c .before in
+    let b = to .before .before in
+    let a = b .before .before in
+    let from = a .before .before in
+    let room = tails-room _ _ _ _ _ _ (from .before .before .before .before .pre) in
+    omega (arith, from .place-of .ensures, a .end-of .ensures, b .place-of2 .ensures, to .end-of2 .ensures)
 
 exchange-lengths-requires : tie.Need-exchange-lengths-requires
-exchange-lengths-requires c κs = let room = tails-room _ _ _ _ _ _ (c .before .before .before .before .before .before .before .before .before .before .before .before .before .before .before .pre) in search needs
+exchange-lengths-requires c κs =
+    let to = c .before .before .before .before .before in
+    let from = to .before .before .before .before .before .before in
+    let room = tails-room _ _ _ _ _ _ (from .before .before .before .before .pre) in
+    search needs
 
 same-length : tie.Need-same-length
 same-length c = search needs
@@ -34,8 +42,13 @@ same-length-2 c = search needs
 
 returns : tie.Need-returns
 returns c =
+    let to = c .before .before .before .before .before .before .before .before in
+    let b = to .before .before in
+    let a = b .before .before in
+    let from = a .before .before in
     rw (c .before .before .before .before .before .before .exchange-outer .ensures, c .before .before .exchange-lengths .ensures)
-    (tails-edited _ _ _ _ _ _ (c .before .before .before .before .before .before .before .before .before .before .before .before .before .before .before .before .before .before .pre) _ _ _ _ (c .before .before .before .before .before .before .before .before .before .before .before .before .before .before .place-of .ensures) (c .before .before .before .before .before .before .before .before .before .before .before .before .end-of .ensures) (c .before .before .before .before .before .before .before .before .before .before .place-of2 .ensures) (c .before .before .before .before .before .before .before .before .end-of2 .ensures))
+    (tails-edited _ _ _ _ _ _ (from .before .before .before .before .pre) _ _ _ _ (from .place-of .ensures) (a .end-of .ensures) (b .place-of2 .ensures)
+    (to .end-of2 .ensures))
 
 pub exchange-tails-spec : {M : Type 1} → statement M
 exchange-tails-spec =

@@ -1,9 +1,7 @@
 -- `lists::list_of` meets its contract: list r ends within the table, since the lengths add up to it. Assumes nothing.
-use mathlib.Core.Path.{sym, ap, _∙_}
-use Prim.Native.Nat.{_+_}
 use native.Mathlib.Omega.{arith}
 use borrow.Author.Needs.{needs}
-use Rattle.lists.specs.Table.{list-within, part-is}
+use Rattle.lists.proofs.Tables.{list-within, part-is}
 use Rattle.lists.proofs.list_of.Statement.{statement}
 use Rattle.lists.proofs.list_of.Tie as tie
 

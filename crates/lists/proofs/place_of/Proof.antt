@@ -3,7 +3,8 @@ use Prim.Native.Nat.{_≤_, _-_, _+_, _*_}
 use mathlib.Core.Path.{_≡_}
 use native.Mathlib.Omega.{arith}
 use borrow.Author.Needs.{needs}
-use Rattle.lists.specs.Table.{startOf, start-none, start-more}
+use Rattle.lists.specs.Table.{startOf}
+use Rattle.lists.proofs.Tables.{start-none, start-more}
 use Rattle.lists.proofs.place_of.Statement.{statement}
 use Rattle.lists.proofs.place_of.Tie as tie
 

@@ -3,7 +3,7 @@ use mathlib.Core.Path.{sym, _∙_}
 use borrow.Author.Needs.{needs}
 use borrow.Author.Tests.{le-leb, lt-leb, eq-eqb, ne-eqb}
 use Rattle.tests.specs.All.{stop, go}
-use Rattle.lists.specs.Table.{start-all}
+use Rattle.lists.proofs.Tables.{start-all}
 use Rattle.lists.specs.Refused.{shapeOk}
 use Rattle.lists.proofs.shape_ok.Statement.{statement}
 use Rattle.lists.proofs.shape_ok.Tie as tie

@@ -3,6 +3,7 @@ use mathlib.Core.Path.{refl}
 use borrow.Author.Needs.{needs}
 use Rattle.tests.specs.All.{no, yes, refuse, pass}
 use Rattle.lists.specs.Refused.{tableRefusal}
+use Rattle.lists.proofs.Fine.{offices-small}
 use Rattle.lists.proofs.table_refusal.Statement.{statement}
 use Rattle.lists.proofs.table_refusal.Tie as tie
 
@@ -23,7 +24,8 @@ returns-2 c =
     (refuse _ _ _ (no _ _ (c .before .visits-ok .ensures) (c .if2 .taken)))
 
 all-distinct-requires : tie.Need-all-distinct-requires
-all-distinct-requires c κs = search needs
+all-distinct-requires c κs =
+    offices-small _ _ _ (c .before .before .before .before .before .before .pre) (yes _ _ (c .before .visits-ok .ensures) (c .if2 .left))
 
 returns-3 : tie.Need-returns-3
 unfolding tableRefusal
