@@ -28,10 +28,15 @@ cast-place : tie.Need-cast-place Inv-loop μ-loop
 cast-place c = omega (arith, c .before .before .shared-slice-known2 .given 0)
 
 get-requires : tie.Need-get-requires Inv-loop μ-loop
-get-requires c κs = (c .before .before .before .before .pre .0, c .before .before .before .before .pre .1, c .before .before .before .before .pre .2 .below 0 (omega (arith, c .before .if1 .left)))
+get-requires c κs =
+    let pre = c .before .before .before .before .pre in
+    (pre .0, pre .1, pre .2 .below 0 (omega (arith, c .before .if1 .left)))
 
 loop-holds : tie.Need-loop-holds Inv-loop μ-loop
-loop-holds c = (omega (arith, c .before .before .if1 .left), c .before .before .before .before .before .pre .2 .below 0 (omega (arith, c .before .before .if1 .left)), distance-first _ _ _ _ _ (c .before .before .if1 .left) (c .get .ensures))
+loop-holds c =
+    let if1 = c .before .before .if1 in
+    let pre = c .before .before .before .before .before .pre in
+    (omega (arith, if1 .left), pre .2 .below 0 (omega (arith, if1 .left)), distance-first _ _ _ _ _ (if1 .left) (c .get .ensures))
 
 mul-visit : tie.Need-mul-visit Inv-loop μ-loop
 mul-visit c = search needs
@@ -43,7 +48,10 @@ cast-visit : tie.Need-cast-visit Inv-loop μ-loop
 cast-visit c = omega (arith, c .before .before .before .before .before .before .shared-slice-known2 .given (c .before .before .loop .i))
 
 get-requires-2 : tie.Need-get-requires-2 Inv-loop μ-loop
-get-requires-2 c κs = (c .before .before .before .before .before .before .before .before .pre .0, c .before .before .loop .inv .1, c .before .before .before .before .before .before .before .before .pre .2 .below (c .before .before .loop .i) (c .before .loop-test .taken))
+get-requires-2 c κs =
+    let pre = c .before .before .before .before .before .before .before .before .pre in
+    let loop = c .before .before .loop in
+    (pre .0, loop .inv .1, pre .2 .below (loop .i) (c .before .loop-test .taken))
 
 add-i : tie.Need-add-i Inv-loop μ-loop
 add-i c = omega (arith, c .before .before .loop-test .taken, c .before .before .before .before .before .before .before .before .before .pre .2 .few)
@@ -52,10 +60,16 @@ loop-less : tie.Need-loop-less Inv-loop μ-loop
 loop-less c = search needs
 
 loop-again : tie.Need-loop-again Inv-loop μ-loop
-loop-again c = (search needs, c .before .before .before .before .before .before .before .before .before .pre .2 .below (c .before .before .before .loop .i) (c .before .before .loop-test .taken), distance-turn _ _ _ _ _ _ _ _ (c .before .before .loop-test .taken) (c .get2 .ensures) ∙ c .before .before .before .loop .inv .2)
+loop-again c =
+    let pre = c .before .before .before .before .before .before .before .before .before .pre in
+    let loop = c .before .before .before .loop in
+    let loop-test = c .before .before .loop-test in
+    (search needs, pre .2 .below (loop .i) (loop-test .taken), distance-turn _ _ _ _ _ _ _ _ (loop-test .taken) (c .get2 .ensures) ∙ loop .inv .2)
 
 get-requires-3 : tie.Need-get-requires-3 Inv-loop μ-loop
-get-requires-3 c κs = (c .before .before .before .before .before .before .before .pre .0, c .before .loop .inv .1, c .before .before .before .before .before .before .before .pre .1)
+get-requires-3 c κs =
+    let pre = c .before .before .before .before .before .before .before .pre in
+    (pre .0, c .before .loop .inv .1, pre .1)
 
 returns-2 : tie.Need-returns-2 Inv-loop μ-loop
 returns-2 c = rw (c .get3 .ensures) (distance-end _ _ _ _ _ _ _ _ (c .before .loop-test .left) refl) ∙ c .before .before .loop .inv .2

@@ -23,7 +23,10 @@ is-earlier-requires c κs = search needs
 
 returns : tie.Need-returns
 unfolding earlierOf
-returns c = rw (c .before .before .before .before .before .before .carried .given .1, c .before .before .before .here .given .1) (picked _ _ _ _ (sym (c .before .is-earlier .ensures) ∙ c .if1 .taken) refl)
+returns c =
+    let carried = c .before .before .before .before .before .before .carried in
+    let here = c .before .before .before .here in
+    rw (carried .given .1, here .given .1) (picked _ _ _ _ (sym (c .before .is-earlier .ensures) ∙ c .if1 .taken) refl)
 
 returns-2 : tie.Need-returns-2
 unfolding earlierOf
@@ -35,7 +38,10 @@ returns-3 c = rw (c .before .before .before .carried .given .1, c .enum-told2 .g
 
 returns-4 : tie.Need-returns-4
 unfolding earlierOf
-returns-4 c = rw (c .before .before .before .before .before .before .carried .given .1, c .before .before .before .here .given .1) (other _ _ _ _ (sym (c .before .is-earlier .ensures) ∙ c .if1 .left) refl)
+returns-4 c =
+    let carried = c .before .before .before .before .before .before .carried in
+    let here = c .before .before .before .here in
+    rw (carried .given .1, here .given .1) (other _ _ _ _ (sym (c .before .is-earlier .ensures) ∙ c .if1 .left) refl)
 
 pub earlier-spec : {M : Type 1} → statement M
 earlier-spec =

@@ -31,7 +31,11 @@ returns-2 c = rw (c .before .enum-told .given .1) (c .serve-at .ensures)
 
 returns-3 : tie.Need-returns-3
 unfolding served
-returns-3 c = rw (c .before .before .before .before .before .before .rest .given .1) (other _ _ _ _ (rw (c .before .before .before .before .later-of .ensures) at (c .before .before .if1 .left)) (rw (c .before .before .before .before .later-of .ensures) at (c .serve-at2 .ensures)))
+returns-3 c =
+    let rest = c .before .before .before .before .before .before .rest in
+    let later-of = c .before .before .before .before .later-of in
+    let if1 = c .before .before .if1 in
+    rw (rest .given .1) (other _ _ _ _ (rw (later-of .ensures) at (if1 .left)) (rw (later-of .ensures) at (c .serve-at2 .ensures)))
 
 pub serve-spec : {M : Type 1} → statement M
 serve-spec =

@@ -45,7 +45,14 @@ too-late-requires c κs = search needs
 
 returns-2 : tie.Need-returns-2
 unfolding servedIn
-returns-2 c = rw (c .before .before .before .before .before .before .window2 .given .1) (picked _ _ _ _ (sym (c .before .before .before .is-violated2 .ensures) ∙ c .before .before .if2 .taken) (rw (← c .before .before .before .before .waiting-time2 .ensures, ← c .before .lateness .ensures) (c .too-late .ensures)))
+returns-2 c =
+    let window2 = c .before .before .before .before .before .before .window2 in
+    let is-violated2 = c .before .before .before .is-violated2 in
+    let if2 = c .before .before .if2 in
+    let waiting-time2 = c .before .before .before .before .waiting-time2 in
+    rw (window2 .given .1)
+    (picked _ _ _ _ (sym (is-violated2 .ensures) ∙ if2 .taken)
+    (rw (← waiting-time2 .ensures, ← c .before .lateness .ensures) (c .too-late .ensures)))
 
 in-time-requires-3 : tie.Need-in-time-requires-3
 in-time-requires-3 c κs = search needs
@@ -56,11 +63,19 @@ returns-3 c = rw (c .before .enum-told .given .1) (c .in-time .ensures)
 
 returns-4 : tie.Need-returns-4
 unfolding servedIn
-returns-4 c = rw (c .before .before .before .before .before .window .given .1) (other _ _ _ _ (sym (c .before .before .before .is-violated .ensures) ∙ c .before .before .if1 .left) (rw (← c .before .waiting-time .ensures) (c .in-time2 .ensures)))
+returns-4 c =
+    let window = c .before .before .before .before .before .window in
+    let is-violated = c .before .before .before .is-violated in
+    let if1 = c .before .before .if1 in
+    rw (window .given .1) (other _ _ _ _ (sym (is-violated .ensures) ∙ if1 .left) (rw (← c .before .waiting-time .ensures) (c .in-time2 .ensures)))
 
 returns-5 : tie.Need-returns-5
 unfolding servedIn
-returns-5 c = rw (c .before .before .before .before .before .window2 .given .1) (other _ _ _ _ (sym (c .before .before .is-violated2 .ensures) ∙ c .before .if2 .left) (rw (← c .before .before .before .waiting-time2 .ensures) (c .in-time3 .ensures)))
+returns-5 c =
+    let window2 = c .before .before .before .before .before .window2 in
+    let is-violated2 = c .before .before .is-violated2 in
+    let waiting-time2 = c .before .before .before .waiting-time2 in
+    rw (window2 .given .1) (other _ _ _ _ (sym (is-violated2 .ensures) ∙ c .before .if2 .left) (rw (← waiting-time2 .ensures) (c .in-time3 .ensures)))
 
 pub serve-at-spec : {M : Type 1} → statement M
 serve-at-spec =

@@ -40,13 +40,24 @@ cast-visit : tie.Need-cast-visit Inv-loop μ-loop
 cast-visit c = omega (arith, c .shared-slice-known9 .given (c .before .before .loop .i))
 
 get-requires : tie.Need-get-requires Inv-loop μ-loop
-get-requires c κs = (c .before .before .before .before .before .before .before .before .before .before .before .before .pre .0 .tables .of-distances, c .before .before .loop .inv .1, c .before .before .before .before .before .before .before .before .before .before .before .before .pre .1 .1 .below (c .before .before .loop .i) (c .before .loop-test .taken))
+get-requires c κs =
+    let pre = c .before .before .before .before .before .before .before .before .before .before .before .before .pre in
+    let loop = c .before .before .loop in
+    (pre .0 .tables .of-distances, loop .inv .1, pre .1 .1 .below (loop .i) (c .before .loop-test .taken))
 
 travel-time-requires : tie.Need-travel-time-requires Inv-loop μ-loop
-travel-time-requires c κs = (c .before .before .before .before .before .before .before .before .before .before .before .before .before .pre .0 .tables, c .before .before .before .loop .inv .1, c .before .before .before .before .before .before .before .before .before .before .before .before .before .pre .1 .1 .below (c .before .before .before .loop .i) (c .before .before .loop-test .taken))
+travel-time-requires c κs =
+    let pre = c .before .before .before .before .before .before .before .before .before .before .before .before .before .pre in
+    let loop = c .before .before .before .loop in
+    let loop-test = c .before .before .loop-test in
+    (pre .0 .tables, loop .inv .1, pre .1 .1 .below (loop .i) (loop-test .taken))
 
 stop-of-requires : tie.Need-stop-of-requires Inv-loop μ-loop
-stop-of-requires c κs = stop-in (c .before .before .before .before .before .before .before .before .before .before .before .before .before .before .pre .0) (c .before .before .before .before .before .before .before .before .before .before .before .before .before .before .pre .1 .1 .below (c .before .before .before .before .loop .i) (c .before .before .before .loop-test .taken))
+stop-of-requires c κs =
+    let pre = c .before .before .before .before .before .before .before .before .before .before .before .before .before .before .pre in
+    let loop = c .before .before .before .before .loop in
+    let loop-test = c .before .before .before .loop-test in
+    stop-in (pre .0) (pre .1 .1 .below (loop .i) (loop-test .taken))
 
 serve-requires : tie.Need-serve-requires Inv-loop μ-loop
 serve-requires c κs = search needs
@@ -59,36 +70,68 @@ enum-told c = search needs
 
 returns : tie.Need-returns Inv-loop μ-loop
 unfolding ofBits
-returns c = unbroken-stops _ _ _ _ _ _ _ (c .before .before .before .before .before .before .before .loop-test .taken) (tick-is _ _ _ _ _ _ _ _ (c .before .before .before .before .travel-time .ensures) (c .before .before .before .stop-of .ensures) (c .before .before .serve .ensures) (c .enum-told .given .1))
-    ∙ unbroken-is _ _ _ _ _ (c .before .before .before .before .before .before .before .before .before .at-start .ensures) (c .before .before .before .before .before .before .before .before .loop .inv .2)
+returns c =
+    let loop-test = c .before .before .before .before .before .before .before .loop-test in
+    let travel-time = c .before .before .before .before .travel-time in
+    let stop-of = c .before .before .before .stop-of in
+    let serve = c .before .before .serve in
+    let at-start = c .before .before .before .before .before .before .before .before .before .at-start in
+    let loop = c .before .before .before .before .before .before .before .before .loop in
+    unbroken-stops _ _ _ _ _ _ _ (loop-test .taken)
+    (tick-is _ _ _ _ _ _ _ _ (travel-time .ensures) (stop-of .ensures) (serve .ensures) (c .enum-told .given .1))
+    ∙ unbroken-is _ _ _ _ _ (at-start .ensures) (loop .inv .2)
 
 add-i : tie.Need-add-i Inv-loop μ-loop
-add-i c = omega (arith, c .before .before .before .before .before .before .before .before .loop-test .taken, c .before .before .before .before .before .before .before .before .before .before .before .before .before .before .before .before .before .before .before .pre .1 .1 .few)
+add-i c =
+    let loop-test = c .before .before .before .before .before .before .before .before .loop-test in
+    let entered = c .before .before .before .before .before .before .before .before .before in
+    let pre = entered .before .before .before .before .before .before .before .before .before .before .pre in
+    omega (arith, loop-test .taken, pre .1 .1 .few)
 
 loop-less : tie.Need-loop-less Inv-loop μ-loop
 loop-less c = search needs
 
 loop-again : tie.Need-loop-again Inv-loop μ-loop
-loop-again c = (
-  search needs,
-  c .before .before .before .before .before .before .before .before .before .before .before .before .before .before .before .before .before .before .before .pre .1 .1 .below (c .before .before .before .before .before .before .before .before .before .loop .i) (c .before .before .before .before .before .before .before .before .loop-test .taken),
-  unbroken-turns _ _ _ _ _ _ _ _ (c .before .before .before .before .before .before .before .before .loop-test .taken) (c .before .before .before .before .before .before .get .ensures) (tick-is _ _ _ _ _ _ _ _ (c .before .before .before .before .before .travel-time .ensures) (c .before .before .before .before .stop-of .ensures) (c .before .before .before .serve .ensures) (c .before .reached .given .1))
-      ∙ c .before .before .before .before .before .before .before .before .before .loop .inv .2,
-)
+loop-again c =
+    let entered = c .before .before .before .before .before .before .before .before .before in
+    let pre = entered .before .before .before .before .before .before .before .before .before .before .pre in
+    let loop = c .before .before .before .before .before .before .before .before .before .loop in
+    let loop-test = c .before .before .before .before .before .before .before .before .loop-test in
+    let get = c .before .before .before .before .before .before .get in
+    let travel-time = c .before .before .before .before .before .travel-time in
+    let stop-of = c .before .before .before .before .stop-of in
+    let serve = c .before .before .before .serve in (
+      search needs,
+      pre .1 .1 .below (loop .i) (loop-test .taken),
+      unbroken-turns _ _ _ _ _ _ _ _ (loop-test .taken) (get .ensures)
+          (tick-is _ _ _ _ _ _ _ _ (travel-time .ensures) (stop-of .ensures) (serve .ensures) (c .before .reached .given .1))
+          ∙ loop .inv .2,
+    )
 
 get-requires-2 : tie.Need-get-requires-2 Inv-loop μ-loop
-get-requires-2 c κs = (c .before .before .before .before .before .before .before .before .before .before .before .pre .0 .tables .of-distances, c .before .loop .inv .1, c .before .before .before .before .before .before .before .before .before .before .before .pre .1 .0)
+get-requires-2 c κs =
+    let pre = c .before .before .before .before .before .before .before .before .before .before .before .pre in
+    (pre .0 .tables .of-distances, c .before .loop .inv .1, pre .1 .0)
 
 travel-time-requires-2 : tie.Need-travel-time-requires-2 Inv-loop μ-loop
-travel-time-requires-2 c κs = (c .before .before .before .before .before .before .before .before .before .before .before .before .pre .0 .tables, c .before .before .loop .inv .1, c .before .before .before .before .before .before .before .before .before .before .before .before .pre .1 .0)
+travel-time-requires-2 c κs =
+    let pre = c .before .before .before .before .before .before .before .before .before .before .before .before .pre in
+    let loop = c .before .before .loop in
+    (pre .0 .tables, loop .inv .1, pre .1 .0)
 
 end-of-requires : tie.Need-end-of-requires Inv-loop μ-loop
 end-of-requires c κs = search needs
 
 returns-2 : tie.Need-returns-2 Inv-loop μ-loop
 unfolding ofBits
-returns-2 c = c .end-of .ensures ∙ unbroken-ends _ _ _ _ _ _ _ _ _ (c .before .before .before .loop-test .left) (c .before .before .get2 .ensures) (c .before .travel-time2 .ensures)
-    ∙ unbroken-is _ _ _ _ _ (c .before .before .before .before .before .at-start .ensures) (c .before .before .before .before .loop .inv .2)
+returns-2 c =
+    let loop-test = c .before .before .before .loop-test in
+    let get2 = c .before .before .get2 in
+    let at-start = c .before .before .before .before .before .at-start in
+    let loop = c .before .before .before .before .loop in
+    c .end-of .ensures
+    ∙ unbroken-ends _ _ _ _ _ _ _ _ _ (loop-test .left) (get2 .ensures) (c .before .travel-time2 .ensures)
+    ∙ unbroken-is _ _ _ _ _ (at-start .ensures) (loop .inv .2)
 
 pub unbroken-schedule-spec : {M : Type 1} → statement M
 unbroken-schedule-spec =

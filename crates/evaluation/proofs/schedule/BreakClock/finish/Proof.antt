@@ -22,7 +22,10 @@ end-with-requires c κs = search needs
 
 returns : tie.Need-returns
 unfolding finished endBefore
-returns c = rw (c .before .before .before .before .before .before2 .given .1, ← c .before .before .before .before .before .before .before .travel-time .ensures) (picked _ _ _ _ (c .before .if1 .taken) (c .end-with .ensures))
+returns c =
+    let before2 = c .before .before .before .before .before .before2 in
+    let travel-time = c .before .before .before .before .before .before .before .travel-time in
+    rw (before2 .given .1, ← travel-time .ensures) (picked _ _ _ _ (c .before .if1 .taken) (c .end-with .ensures))
 
 end-of-requires-2 : tie.Need-end-of-requires-2
 end-of-requires-2 c κs = search needs
@@ -33,7 +36,10 @@ returns-2 c = rw (c .before .enum-told .given .1, ← c .before .before .before 
 
 returns-3 : tie.Need-returns-3
 unfolding finished endBefore
-returns-3 c = rw (c .before .before .before .before .before .before2 .given .1, ← c .before .before .before .before .before .before .before .travel-time .ensures) (other _ _ _ _ (c .before .if1 .left) (c .end-of2 .ensures))
+returns-3 c =
+    let before2 = c .before .before .before .before .before .before2 in
+    let travel-time = c .before .before .before .before .before .before .before .travel-time in
+    rw (before2 .given .1, ← travel-time .ensures) (other _ _ _ _ (c .before .if1 .left) (c .end-of2 .ensures))
 
 pub finish-spec : {M : Type 1} → statement M
 finish-spec =

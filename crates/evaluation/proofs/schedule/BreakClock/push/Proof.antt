@@ -7,10 +7,14 @@ use Rattle.evaluation.proofs.schedule.BreakClock.push.Statement.{statem
 use Rattle.evaluation.proofs.schedule.BreakClock.push.Tie as tie
 
 travel-time-requires : tie.Need-travel-time-requires
-travel-time-requires c κs = (c .before .before .before .before .before .before .before .before .pre .0 .tables, c .before .before .before .before .before .before .before .before .pre .1 .0, c .before .before .before .before .before .before .before .before .pre .1 .1)
+travel-time-requires c κs =
+    let pre = c .before .before .before .before .before .before .before .before .pre in
+    (pre .0 .tables, pre .1 .0, pre .1 .1)
 
 stop-of-requires : tie.Need-stop-of-requires
-stop-of-requires c κs = stop-in (c .before .before .before .before .before .before .before .before .before .pre .0) (c .before .before .before .before .before .before .before .before .before .pre .1 .1)
+stop-of-requires c κs =
+    let pre = c .before .before .before .before .before .before .before .before .before .pre in
+    stop-in (pre .0) (pre .1 .1)
 
 serve-next-requires : tie.Need-serve-next-requires
 serve-next-requires c κs = search needs
@@ -29,7 +33,12 @@ add-t23 c = omega (arith, c .before .before .before .before .before .before .bef
 
 returns : tie.Need-returns
 unfolding pushed
-returns c = rw (← c .before .before .before .before .before .travel-time .ensures, ← c .before .before .before .before .stop-of .ensures, ← c .before .before .before .serve-next .ensures, ← c .before .before .serve-next2 .ensures, ← c .before .serve-next3 .ensures, ← c .earlier .ensures)
+returns c =
+    let travel-time = c .before .before .before .before .before .travel-time in
+    let stop-of = c .before .before .before .before .stop-of in
+    let serve-next = c .before .before .before .serve-next in
+    let serve-next2 = c .before .before .serve-next2 in
+    rw (← travel-time .ensures, ← stop-of .ensures, ← serve-next .ensures, ← serve-next2 .ensures, ← c .before .serve-next3 .ensures, ← c .earlier .ensures)
 
 pub push-spec : {M : Type 1} → statement M
 push-spec =

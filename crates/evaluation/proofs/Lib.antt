@@ -1,0 +1,4 @@
+pub mod Answer
+pub mod Onward
+pub mod Same
+pub mod Days

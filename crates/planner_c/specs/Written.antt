@@ -1,0 +1,128 @@
+-- What each export answers and writes, from the planner's answer: a refusal's number, or 0 and the values of its case. Assumes nothing.
+use Prim.Native.Nat.{ℕ}
+use lib.Ieee.{Float}
+use Rattle.planner.specs.declared.check.Distance.{Distance}
+use Rattle.planner.specs.declared.check.Distance.the-variants as distance
+use Rattle.planner.specs.declared.check.Feasibility.{Feasibility}
+use Rattle.planner.specs.declared.check.Feasibility.the-variants as feasibility
+use Rattle.planner.specs.declared.check.Evaluated.{Evaluated}
+use Rattle.planner.specs.declared.check.Evaluated.the-variants as evaluated
+use Rattle.planner.specs.declared.check.Timetable.{Timetable}
+use Rattle.planner.specs.declared.check.Timetable.the-variants as timetable
+use Rattle.evaluation.specs.declared.label.Taken.{Taken}
+use Rattle.evaluation.specs.declared.label.Taken.the-variants.{Untaken, At}
+
+-- ---- route_distance
+
+-- the refusal's number, else 0
+unfoldable pub distanceCode : Distance → ℕ
+distanceCode (distance.Refused n) = n
+distanceCode (distance.Known x) = 0
+
+-- the distance, where it is known
+unfoldable pub distanceIn : Distance → Float → Float
+distanceIn (distance.Refused n) before = before
+distanceIn (distance.Known x) before = x
+
+-- ---- route_feasible
+
+-- the refusal's number, else 0
+unfoldable pub feasibleCode : Feasibility → ℕ
+feasibleCode (feasibility.Refused n) = n
+feasibleCode feasibility.Fails = 0
+feasibleCode feasibility.Passes = 0
+
+-- 1 where the list passes, 0 where it fails
+unfoldable pub passesIn : Feasibility → ℕ → ℕ
+passesIn (feasibility.Refused n) before = before
+passesIn feasibility.Fails before = 0
+passesIn feasibility.Passes before = 1
+
+-- ---- route_eval
+
+-- the refusal's number, else 0
+unfoldable pub evalCode : Evaluated → ℕ
+evalCode (evaluated.Refused n) = n
+evalCode evaluated.Fails = 0
+evalCode (evaluated.Passes a b c d) = 0
+
+-- 1 where the list passes, 0 where it fails
+unfoldable pub evalPasses : Evaluated → ℕ → ℕ
+evalPasses (evaluated.Refused n) before = before
+evalPasses evaluated.Fails before = 0
+evalPasses (evaluated.Passes a b c d) before = 1
+
+-- a number of the list, where it passes
+unfoldable pub evalIn : (Float → Float → Float → Float → Float) → Evaluated → Float → Float
+evalIn pick (evaluated.Refused n) before = before
+evalIn pick evaluated.Fails before = before
+evalIn pick (evaluated.Passes a b c d) before = pick a b c d
+
+-- ---- schedule
+
+-- the refusal's number, else 0
+unfoldable pub scheduleCode : Timetable → ℕ
+scheduleCode (timetable.Refused n) = n
+scheduleCode timetable.Impossible = 0
+scheduleCode (timetable.Possible a b c d t) = 0
+
+-- 1 where there is a schedule, 0 where there is none
+unfoldable pub foundIn : Timetable → ℕ → ℕ
+foundIn (timetable.Refused n) before = before
+foundIn timetable.Impossible before = 0
+foundIn (timetable.Possible a b c d t) before = 1
+
+-- a number of the schedule, where there is one
+unfoldable pub scheduleIn : (Float → Float → Float → Float → Float) → Timetable → Float → Float
+scheduleIn pick (timetable.Refused n) before = before
+scheduleIn pick timetable.Impossible before = before
+scheduleIn pick (timetable.Possible a b c d t) before = pick a b c d
+
+-- whether the break is taken, 1 or 0
+unfoldable pub takenCode : Taken → ℕ
+takenCode Untaken = 0
+takenCode (At position start) = 1
+
+-- the position of the visit before whose service it is taken
+unfoldable pub takenPosition : Taken → ℕ → ℕ
+takenPosition Untaken before = before
+takenPosition (At position start) before = position
+
+-- when it starts
+unfoldable pub takenStart : Taken → Float → Float
+takenStart Untaken before = before
+takenStart (At position start) before = start
+
+-- the same of a schedule, where there is one
+unfoldable pub takenIn : Timetable → ℕ → ℕ
+takenIn (timetable.Refused n) before = before
+takenIn timetable.Impossible before = before
+takenIn (timetable.Possible a b c d t) before = takenCode t
+
+-- the position
+unfoldable pub positionIn : Timetable → ℕ → ℕ
+positionIn (timetable.Refused n) before = before
+positionIn timetable.Impossible before = before
+positionIn (timetable.Possible a b c d t) before = takenPosition t before
+
+-- the start
+unfoldable pub startIn : Timetable → Float → Float
+startIn (timetable.Refused n) before = before
+startIn timetable.Impossible before = before
+startIn (timetable.Possible a b c d t) before = takenStart t before
+
+-- the four numbers by name
+abbrev pub distanceOf : Float → Float → Float → Float → Float
+distanceOf a b c d = a
+
+-- the return to the depot
+abbrev pub durationOf : Float → Float → Float → Float → Float
+durationOf a b c d = b
+
+-- time late at soft windows
+abbrev pub latenessOf : Float → Float → Float → Float → Float
+latenessOf a b c d = c
+
+-- that lateness, times each visit's penalty
+abbrev pub latenessCostOf : Float → Float → Float → Float → Float
+latenessCostOf a b c d = d

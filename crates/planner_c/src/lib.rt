@@ -1,0 +1,282 @@
+// The planner's entries for C and Rust, as a static library (`rt staticlib planner_c`; include/planner.h declares them). Each is thin: it calls the
+// entry of crate `planner`, answers the refusal's number or 0, and writes the values of the answer's case. Where it refuses, it writes nothing.
+use day::vehicle::Van;
+use evaluation::label::Taken;
+use planner::check::Distance;
+use planner::check::Evaluated;
+use planner::check::Feasibility;
+use planner::check::Timetable;
+ghost use mathlib.Core.Path.{_≡_};
+ghost use Rattle.day.specs.Day.{dayAt};
+ghost use Rattle.planner.specs.Answer.{distanceAnswer, feasibleAnswer, evalAnswer, scheduleAnswer};
+ghost use Rattle.planner_c.specs.Written.{distanceCode, distanceIn, feasibleCode, passesIn, evalCode, evalPasses, evalIn};
+ghost use Rattle.planner_c.specs.Written.{scheduleCode, foundIn, scheduleIn, takenIn, positionIn, startIn};
+ghost use Rattle.planner_c.specs.Written.{distanceOf, durationOf, latenessOf, latenessCostOf, takenCode, takenPosition, takenStart};
+
+// The distance of the list asked for.
+#[no_mangle]
+pub extern "C" fn planner_route_distance(
+    l: usize,
+    flags: &[u8],
+    demand: &[i32],
+    service: &[f64],
+    ready: &[f64],
+    due: &[f64],
+    penalty: &[f64],
+    distances: &[f64],
+    times: &[f64],
+    van: Van,
+    visits: &[u16],
+    lengths: &[u16],
+    list: usize,
+    distance: &mut f64,
+) -> u8
+    ensures { λ r.
+        ⌜ (let a = distanceAnswer
+        (dayAt l (flags .entry) (demand .entry) (service .entry) (ready .entry) (due .entry) (penalty .entry) (distances .entry) (times .entry)) van
+        (now (visits .entry)) (now (lengths .entry)) list in
+        (r ≡ distanceCode a) ×
+        (now (distance .exit) ≡ distanceIn a (now (distance .entry)))) ⌝ }
+{
+    let answer = planner::check::route_distance(
+        l,
+        flags,
+        demand,
+        service,
+        ready,
+        due,
+        penalty,
+        distances,
+        times,
+        van,
+        visits,
+        lengths,
+        list,
+    );
+    match answer {
+        Distance::Refused(n) => n,
+        Distance::Known(x) => {
+            *distance = x;
+            0
+        }
+    }
+}
+
+// Whether the list asked for passes: 1 or 0.
+#[no_mangle]
+pub extern "C" fn planner_route_feasible(
+    l: usize,
+    flags: &[u8],
+    demand: &[i32],
+    service: &[f64],
+    ready: &[f64],
+    due: &[f64],
+    penalty: &[f64],
+    distances: &[f64],
+    times: &[f64],
+    van: Van,
+    visits: &[u16],
+    lengths: &[u16],
+    list: usize,
+    passes: &mut u8,
+) -> u8
+    ensures { λ r.
+        ⌜ (let a = feasibleAnswer
+        (dayAt l (flags .entry) (demand .entry) (service .entry) (ready .entry) (due .entry) (penalty .entry) (distances .entry) (times .entry)) van
+        (now (visits .entry)) (now (lengths .entry)) list in
+        (r ≡ feasibleCode a) ×
+        (now (passes .exit) ≡ passesIn a (now (passes .entry)))) ⌝ }
+{
+    let answer = planner::check::route_feasible(
+        l,
+        flags,
+        demand,
+        service,
+        ready,
+        due,
+        penalty,
+        distances,
+        times,
+        van,
+        visits,
+        lengths,
+        list,
+    );
+    match answer {
+        Feasibility::Refused(n) => n,
+        Feasibility::Fails => {
+            *passes = 0;
+            0
+        }
+        Feasibility::Passes => {
+            *passes = 1;
+            0
+        }
+    }
+}
+
+// What the list asked for comes to, where it passes.
+#[no_mangle]
+pub extern "C" fn planner_route_eval(
+    l: usize,
+    flags: &[u8],
+    demand: &[i32],
+    service: &[f64],
+    ready: &[f64],
+    due: &[f64],
+    penalty: &[f64],
+    distances: &[f64],
+    times: &[f64],
+    van: Van,
+    visits: &[u16],
+    lengths: &[u16],
+    list: usize,
+    passes: &mut u8,
+    distance: &mut f64,
+    duration: &mut f64,
+    lateness: &mut f64,
+    lateness_cost: &mut f64,
+) -> u8
+    ensures { λ r.
+        ⌜ (let a = evalAnswer
+        (dayAt l (flags .entry) (demand .entry) (service .entry) (ready .entry) (due .entry) (penalty .entry) (distances .entry) (times .entry)) van
+        (now (visits .entry)) (now (lengths .entry)) list in
+        (r ≡ evalCode a) ×
+        (now (passes .exit) ≡ evalPasses a (now (passes .entry))) ×
+        (now (distance .exit) ≡ evalIn distanceOf a (now (distance .entry))) ×
+        (now (duration .exit) ≡ evalIn durationOf a (now (duration .entry))) ×
+        (now (lateness .exit) ≡ evalIn latenessOf a (now (lateness .entry))) ×
+        (now («lateness_cost» .exit) ≡ evalIn latenessCostOf a (now («lateness_cost» .entry)))) ⌝ }
+{
+    let answer = planner::check::route_eval(
+        l,
+        flags,
+        demand,
+        service,
+        ready,
+        due,
+        penalty,
+        distances,
+        times,
+        van,
+        visits,
+        lengths,
+        list,
+    );
+    match answer {
+        Evaluated::Refused(n) => n,
+        Evaluated::Fails => {
+            *passes = 0;
+            0
+        }
+        Evaluated::Passes {
+            distance: a,
+            duration: b,
+            lateness: c,
+            lateness_cost: d,
+        } => {
+            *passes = 1;
+            *distance = a;
+            *duration = b;
+            *lateness = c;
+            *lateness_cost = d;
+            0
+        }
+    }
+}
+
+// Writes where the break is taken, if it is.
+fn write_taken(rest: Taken, taken: &mut u8, position: &mut usize, start: &mut f64)
+    ensures { λ _.
+        ⌜ (now (taken .exit) ≡ takenCode rest) × (now (position .exit) ≡ takenPosition rest (now (position .entry))) ×
+        (now (start .exit) ≡ takenStart rest (now (start .entry))) ⌝ }
+{
+    match rest {
+        Taken::Untaken => {
+            *taken = 0;
+        }
+        Taken::At(p, s) => {
+            *taken = 1;
+            *position = p;
+            *start = s;
+        }
+    }
+}
+
+// The schedule of the list asked for, where it has one.
+#[no_mangle]
+pub extern "C" fn planner_schedule(
+    l: usize,
+    flags: &[u8],
+    demand: &[i32],
+    service: &[f64],
+    ready: &[f64],
+    due: &[f64],
+    penalty: &[f64],
+    distances: &[f64],
+    times: &[f64],
+    van: Van,
+    visits: &[u16],
+    lengths: &[u16],
+    list: usize,
+    found: &mut u8,
+    distance: &mut f64,
+    duration: &mut f64,
+    lateness: &mut f64,
+    lateness_cost: &mut f64,
+    taken: &mut u8,
+    position: &mut usize,
+    start: &mut f64,
+) -> u8
+    ensures { λ r.
+        ⌜ (let a = scheduleAnswer
+        (dayAt l (flags .entry) (demand .entry) (service .entry) (ready .entry) (due .entry) (penalty .entry) (distances .entry) (times .entry)) van
+        (now (visits .entry)) (now (lengths .entry)) list in
+        (r ≡ scheduleCode a) ×
+        (now (found .exit) ≡ foundIn a (now (found .entry))) ×
+        (now (distance .exit) ≡ scheduleIn distanceOf a (now (distance .entry))) ×
+        (now (duration .exit) ≡ scheduleIn durationOf a (now (duration .entry))) ×
+        (now (lateness .exit) ≡ scheduleIn latenessOf a (now (lateness .entry))) ×
+        (now («lateness_cost» .exit) ≡ scheduleIn latenessCostOf a (now («lateness_cost» .entry))) ×
+        (now (taken .exit) ≡ takenIn a (now (taken .entry))) ×
+        (now (position .exit) ≡ positionIn a (now (position .entry))) ×
+        (now (start .exit) ≡ startIn a (now (start .entry)))) ⌝ }
+{
+    let answer = planner::check::schedule(
+        l,
+        flags,
+        demand,
+        service,
+        ready,
+        due,
+        penalty,
+        distances,
+        times,
+        van,
+        visits,
+        lengths,
+        list,
+    );
+    match answer {
+        Timetable::Refused(n) => n,
+        Timetable::Impossible => {
+            *found = 0;
+            0
+        }
+        Timetable::Possible {
+            distance: a,
+            duration: b,
+            lateness: c,
+            lateness_cost: d,
+            rest: t,
+        } => {
+            *found = 1;
+            *distance = a;
+            *duration = b;
+            *lateness = c;
+            *lateness_cost = d;
+            write_taken(t, taken, position, start);
+            0
+        }
+    }
+}

@@ -1,0 +1,13 @@
+//! Days of the oracle: their text, what is lent of them, how they are made and what document 01 says of them.
+//! Shared by generate, compare, sample and port; each uses a part of it.
+#![allow(dead_code)]
+
+pub mod damage;
+pub mod day;
+pub mod families;
+pub mod maps;
+pub mod options;
+pub mod random;
+pub mod refusal;
+pub mod text;
+pub mod walk;

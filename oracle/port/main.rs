@@ -1,0 +1,164 @@
+//! port: reads days in the text format from standard input and prints one line a run, as the reference does, over the
+//! static library; `ENGINE refused N` where that refuses. Lines `trim`, `size` and `length` (days/text.rs) change what is
+//! lent. It says `ENGINE wrote ..` where the library wrote an answer that it must leave, `a lent table
+//! was written` behind the day's lines where it did that, and `ENGINE unknown` of a run it doesn't know.
+#[path = "../days/mod.rs"]
+mod days;
+mod planner;
+use days::day::{Day, Lent, Run};
+use days::text::{hex, Reader};
+use planner::*;
+use std::io::{Read, Write};
+
+/// What stands in an answer's place before a call: numbers that no run answers.
+const UNWRITTEN: f64 = -123.456;
+const UNWRITTEN_BYTE: u8 = 0xa5;
+const UNWRITTEN_SIZE: usize = usize::MAX - 5;
+
+/// One call: what is lent, and the run.
+struct Call<'a> {
+    lent: &'a Lent,
+    van: Van,
+    run: &'a Run,
+}
+
+fn main() {
+    let mut text = String::new();
+    if std::io::stdin().read_to_string(&mut text).is_err() {
+        end("the input is no text");
+    }
+    let mut reader = Reader::new(&text);
+    let mut out = std::io::stdout().lock();
+    loop {
+        let lines = match reader.day() {
+            Ok(Some(day)) => answers(&day),
+            Ok(None) => return,
+            Err(what) => end(&what),
+        };
+        if out.write_all(lines.as_bytes()).is_err() {
+            return;
+        }
+    }
+}
+
+fn end(what: &str) -> ! {
+    eprintln!("port: {what}");
+    std::process::exit(2)
+}
+
+/// The lines of a day's runs.
+fn answers(day: &Day) -> String {
+    let lent = Lent::of(day);
+    let copy = lent.clone();
+    let mut lines = String::new();
+    for run in &day.runs {
+        lines.push_str(&run.engine);
+        lines.push(' ');
+        match day.vans.first() {
+            Some(van) => lines.push_str(&answer(&Call { lent: &lent, van: Van::of(van), run })),
+            None => lines.push_str("has no van"),
+        }
+        lines.push('\n');
+    }
+    if !untouched(&lent, &copy) {
+        lines.push_str("a lent table was written\n");
+    }
+    lines
+}
+
+/// A function for each kind of run. One that changes tables takes its own copy of what is lent.
+fn answer(call: &Call) -> String {
+    match call.run.engine.as_str() {
+        "feasible" => feasible(call),
+        "eval" => eval(call),
+        "schedule" => schedule(call),
+        "distance" => distance(call),
+        "table" => table(call),
+        _ => "unknown".to_string(),
+    }
+}
+
+/// The line of a refusal; the answers' places must be as they were.
+fn refused(number: u8, unwritten: bool) -> String {
+    if unwritten {
+        format!("refused {number}")
+    } else {
+        format!("wrote an answer, and refused {number}")
+    }
+}
+
+fn unwritten(numbers: &[f64]) -> bool {
+    numbers.iter().all(|number| number.to_bits() == UNWRITTEN.to_bits())
+}
+
+fn hexes(numbers: &[f64]) -> String {
+    numbers.iter().map(|number| hex(*number)).collect::<Vec<_>>().join(" ")
+}
+
+fn feasible(call: &Call) -> String {
+    let mut passes = UNWRITTEN_BYTE;
+    let refusal = call_of_list!(planner_route_feasible, call.lent, call.van, call.run.list, &mut passes);
+    if refusal != 0 {
+        return refused(refusal, passes == UNWRITTEN_BYTE);
+    }
+    passes.to_string()
+}
+
+fn distance(call: &Call) -> String {
+    let mut distance = UNWRITTEN;
+    let refusal = call_of_list!(planner_route_distance, call.lent, call.van, call.run.list, &mut distance);
+    if refusal != 0 {
+        return refused(refusal, unwritten(&[distance]));
+    }
+    hex(distance)
+}
+
+fn eval(call: &Call) -> String {
+    let mut passes = UNWRITTEN_BYTE;
+    let [mut distance, mut duration, mut lateness, mut cost] = [UNWRITTEN; 4];
+    let refusal = call_of_list!(planner_route_eval, call.lent, call.van, call.run.list, &mut passes, &mut distance,
+        &mut duration, &mut lateness, &mut cost);
+    let numbers = [distance, duration, lateness, cost];
+    if refusal != 0 {
+        return refused(refusal, passes == UNWRITTEN_BYTE && unwritten(&numbers));
+    }
+    match passes {
+        0 if unwritten(&numbers) => "none".to_string(),
+        0 => "wrote numbers, and none".to_string(),
+        1 => format!("some {}", hexes(&numbers)),
+        _ => format!("passes {passes}"),
+    }
+}
+
+fn schedule(call: &Call) -> String {
+    let [mut found, mut taken] = [UNWRITTEN_BYTE; 2];
+    let mut position = UNWRITTEN_SIZE;
+    let [mut distance, mut duration, mut lateness, mut cost, mut start] = [UNWRITTEN; 5];
+    let refusal = call_of_list!(planner_schedule, call.lent, call.van, call.run.list, &mut found, &mut distance,
+        &mut duration, &mut lateness, &mut cost, &mut taken, &mut position, &mut start);
+    let numbers = [distance, duration, lateness, cost];
+    let no_place = position == UNWRITTEN_SIZE && unwritten(&[start]);
+    let nothing = taken == UNWRITTEN_BYTE && no_place && unwritten(&numbers);
+    if refusal != 0 {
+        return refused(refusal, found == UNWRITTEN_BYTE && nothing);
+    }
+    match (found, taken) {
+        (0, _) if nothing => "none".to_string(),
+        (0, _) => "wrote numbers, and none".to_string(),
+        (1, 0) if no_place => format!("some {} - -", hexes(&numbers)),
+        (1, 1) => format!("some {} {position} {}", hexes(&numbers), hex(start)),
+        _ => format!("found {found} taken {taken} position {position} start {}", hex(start)),
+    }
+}
+
+fn table(call: &Call) -> String {
+    let mut symmetric = UNWRITTEN_BYTE;
+    let mut depots = UNWRITTEN_SIZE;
+    let [mut scale, mut floor, mut fixed] = [UNWRITTEN; 3];
+    let refusal = call!(planner_table, call.lent, call.van, &mut scale, &mut floor, &mut symmetric, &mut fixed, &mut depots);
+    if refusal != 0 {
+        let nothing = symmetric == UNWRITTEN_BYTE && depots == UNWRITTEN_SIZE && unwritten(&[scale, floor, fixed]);
+        return refused(refusal, nothing);
+    }
+    format!("scale {} floor {} symmetric {symmetric} fixed {} depots {depots}", hex(scale), hex(floor), hex(fixed))
+}

@@ -1,0 +1,149 @@
+//! Reads the stored sample back, from README.md's words alone, as days and the lines of their runs.
+use crate::days::day::{Day, Run, Van};
+use crate::days::text::hex;
+
+struct Bytes<'a> {
+    bytes: &'a [u8],
+    at: usize,
+    /// Where the day's table starts.
+    table: usize,
+}
+
+impl Bytes<'_> {
+    fn byte(&mut self) -> Option<u8> {
+        let byte = *self.bytes.get(self.at)?;
+        self.at += 1;
+        Some(byte)
+    }
+
+    fn bytes(&mut self, count: usize) -> Option<Vec<u8>> {
+        (0..count).map(|_| self.byte()).collect()
+    }
+
+    fn short(&mut self) -> Option<usize> {
+        let low = usize::from(self.byte()?);
+        Some(low + 256 * usize::from(self.byte()?))
+    }
+
+    fn entry(&self, byte: u8) -> Option<u64> {
+        let at = self.table + 8 * usize::from(byte - 128);
+        Some(u64::from_le_bytes(self.bytes.get(at..at + 8)?.try_into().ok()?))
+    }
+
+    fn whole(&mut self) -> Option<u64> {
+        let byte = self.byte()?;
+        if byte < 128 { Some(u64::from(byte)) } else { self.entry(byte) }
+    }
+
+    fn number(&mut self) -> Option<f64> {
+        let byte = self.byte()?;
+        if byte < 128 { Some(f64::from(byte)) } else { self.entry(byte).map(f64::from_bits) }
+    }
+
+    fn numbers(&mut self, count: usize) -> Option<Vec<f64>> {
+        (0..count).map(|_| self.number()).collect()
+    }
+
+    fn hexes(&mut self, count: usize) -> Option<String> {
+        Some(self.numbers(count)?.into_iter().map(hex).collect::<Vec<_>>().join(" "))
+    }
+}
+
+pub fn days(bytes: &[u8]) -> Option<Vec<(Day, Vec<String>)>> {
+    let mut input = Bytes { bytes, at: 0, table: 0 };
+    let count = input.short()?;
+    let days: Option<Vec<_>> = (0..count).map(|_| day(&mut input)).collect();
+    days.filter(|_| input.at == bytes.len())
+}
+
+fn day(input: &mut Bytes) -> Option<(Day, Vec<String>)> {
+    let end = input.short()? + input.at;
+    let locations = usize::from(input.byte()?);
+    let entries = usize::from(input.byte()?);
+    input.table = input.at;
+    input.at += 8 * entries;
+    let mut day = Day { flags: input.bytes(locations)?, ..Day::default() };
+    for _ in 0..locations {
+        day.demand.push(input.whole()? as i32);
+    }
+    day.service = input.numbers(locations)?;
+    day.ready = input.numbers(locations)?;
+    day.due = input.numbers(locations)?;
+    day.penalty = input.numbers(locations)?;
+    day.distances = input.numbers(locations * locations)?;
+    if input.byte()? == 1 {
+        day.times = input.numbers(locations * locations)?;
+    }
+    day.vans.push(van(input)?);
+    let lists = usize::from(input.byte()?);
+    for length in input.bytes(lists)? {
+        day.lists.push(vec![0; usize::from(length)]);
+    }
+    for visit in day.lists.iter_mut().flatten() {
+        *visit = u16::from(input.byte()?);
+    }
+    (day.van_ids, day.prices) = (vec![0; lists], vec![0.0; lists]);
+    let lines = runs(input, &mut day)?;
+    if input.at == end { Some((day, lines)) } else { None }
+}
+
+fn van(input: &mut Bytes) -> Option<Van> {
+    Some(Van {
+        id: input.whole()? as u32,
+        depot: input.whole()?,
+        capacity: input.whole()? as i32,
+        cost_per_distance: input.number()?,
+        fixed_cost: input.number()?,
+        flags: input.byte()?,
+        max_distance: input.number()?,
+        max_duration: input.number()?,
+        earliest: input.number()?,
+        latest: input.number()?,
+        duration: input.number()?,
+    })
+}
+
+/// The runs of known tags, and their lines.
+fn runs(input: &mut Bytes, day: &mut Day) -> Option<Vec<String>> {
+    let mut lines = Vec::new();
+    for _ in 0..input.byte()? {
+        let tag = input.byte()?;
+        let end = usize::from(input.byte()?) + input.at;
+        if let Some((engine, list, answer)) = run(input, tag)? {
+            lines.push(format!("{engine} {answer}"));
+            day.runs.push(Run { engine: engine.to_string(), limit: 0, list });
+        } else {
+            input.at = end;
+        }
+        if input.at != end {
+            return None;
+        }
+    }
+    Some(lines)
+}
+
+/// Engine, list and answer; within, none for a tag that isn't known.
+fn run(input: &mut Bytes, tag: u8) -> Option<Option<(&'static str, u64, String)>> {
+    if !(1..=4).contains(&tag) {
+        return Some(None);
+    }
+    let list = u64::from(input.byte()?);
+    if tag == 4 {
+        return Some(Some(("distance", list, input.hexes(1)?)));
+    }
+    let passes = input.byte()?;
+    if tag == 1 {
+        return Some(Some(("feasible", list, passes.to_string())));
+    }
+    let engine = if tag == 2 { "eval" } else { "schedule" };
+    if passes == 0 {
+        return Some(Some((engine, list, "none".to_string())));
+    }
+    let mut answer = format!("some {}", input.hexes(4)?);
+    if tag == 3 && input.byte()? == 1 {
+        answer.push_str(&format!(" {} {}", input.byte()?, input.hexes(1)?));
+    } else if tag == 3 {
+        answer.push_str(" - -");
+    }
+    Some(Some((engine, list, answer)))
+}

@@ -1,0 +1,120 @@
+//! A day and its answers as bytes (README.md, 'The stored sample').
+use crate::days::day::{Day, Run};
+
+/// From this byte on a number stands in the day's table.
+const TABLED: u8 = 128;
+
+/// The runs that are stored, by tag from 1 on.
+const TAGS: [&str; 4] = ["feasible", "eval", "schedule", "distance"];
+
+/// The numbers that a day needs and no byte is.
+struct Table(Vec<u64>);
+
+impl Table {
+    /// The byte for the entry; none where the table is full.
+    fn entry(&mut self, bits: u64) -> Option<u8> {
+        let place = self.0.iter().position(|known| *known == bits).unwrap_or_else(|| {
+            self.0.push(bits);
+            self.0.len() - 1
+        });
+        u8::try_from(place).ok().filter(|place| *place < TABLED).map(|place| TABLED + place)
+    }
+
+    fn whole(&mut self, whole: u64) -> Option<u8> {
+        if whole < u64::from(TABLED) { Some(whole as u8) } else { self.entry(whole) }
+    }
+
+    fn number(&mut self, number: f64) -> Option<u8> {
+        let number = if number.is_nan() { f64::INFINITY } else { number }; // only where it isn't read
+        let small = number as u8;
+        if small < TABLED && f64::from(small).to_bits() == number.to_bits() { Some(small) } else { self.entry(number.to_bits()) }
+    }
+
+    fn numbers(&mut self, out: &mut Vec<u8>, numbers: &[f64]) -> Option<()> {
+        for number in numbers {
+            out.push(self.number(*number)?);
+        }
+        Some(())
+    }
+
+    /// A number in the text's hex.
+    fn hex(&mut self, word: &str) -> Option<u8> {
+        self.number(f64::from_bits(u64::from_str_radix(word, 16).ok()?))
+    }
+}
+
+/// The day's bytes; none where it has too many numbers, or a run that isn't stored.
+pub fn day(day: &Day, lines: &[String]) -> Option<Vec<u8>> {
+    let mut table = Table(Vec::new());
+    let mut rest = Vec::new();
+    columns(day, &mut table, &mut rest)?;
+    van(day, &mut table, &mut rest)?;
+    rest.push(day.lists.len() as u8);
+    rest.extend(day.lists.iter().map(|list| list.len() as u8));
+    rest.extend(day.lists.iter().flatten().map(|visit| *visit as u8));
+    rest.push(u8::try_from(day.runs.len()).ok()?);
+    for (run, line) in day.runs.iter().zip(lines) {
+        let (tag, payload) = answer(run, line, &mut table)?;
+        rest.extend([tag, payload.len() as u8]);
+        rest.extend(payload);
+    }
+    let mut bytes = vec![day.locations() as u8, table.0.len() as u8];
+    bytes.extend(table.0.iter().flat_map(|bits| bits.to_le_bytes()));
+    bytes.extend(rest);
+    let mut out = u16::try_from(bytes.len()).ok()?.to_le_bytes().to_vec();
+    out.extend(bytes);
+    Some(out)
+}
+
+fn columns(day: &Day, table: &mut Table, out: &mut Vec<u8>) -> Option<()> {
+    out.extend(&day.flags);
+    for demand in &day.demand {
+        out.push(table.whole(*demand as u64)?);
+    }
+    for column in [&day.service, &day.ready, &day.due, &day.penalty, &day.distances] {
+        table.numbers(out, column)?;
+    }
+    out.push(u8::from(!day.times.is_empty()));
+    table.numbers(out, &day.times)
+}
+
+fn van(day: &Day, table: &mut Table, out: &mut Vec<u8>) -> Option<()> {
+    let van = &day.vans[0];
+    for whole in [u64::from(van.id), van.depot, van.capacity as u64] {
+        out.push(table.whole(whole)?);
+    }
+    table.numbers(out, &[van.cost_per_distance, van.fixed_cost])?;
+    out.push(van.flags);
+    table.numbers(out, &[van.max_distance, van.max_duration, van.earliest, van.latest, van.duration])
+}
+
+/// The run's tag and what stands behind its size.
+fn answer(run: &Run, line: &str, table: &mut Table) -> Option<(u8, Vec<u8>)> {
+    let words: Vec<&str> = line.split(' ').skip(1).collect();
+    let tag = 1 + TAGS.iter().position(|engine| *engine == run.engine)? as u8;
+    let mut out = vec![run.list as u8];
+    match (run.engine.as_str(), &words[..]) {
+        ("feasible", [passes]) => out.push(passes.parse().ok()?),
+        ("distance", [distance]) => out.push(table.hex(distance)?),
+        (_, ["none"]) => out.push(0),
+        ("eval", ["some", numbers @ ..]) => put_some(&mut out, numbers, table)?,
+        ("schedule", ["some", numbers @ .., "-", "-"]) => {
+            put_some(&mut out, numbers, table)?;
+            out.push(0);
+        }
+        ("schedule", ["some", numbers @ .., position, start]) => {
+            put_some(&mut out, numbers, table)?;
+            out.extend([1, position.parse().ok()?, table.hex(start)?]);
+        }
+        _ => return None,
+    }
+    Some((tag, out))
+}
+
+fn put_some(out: &mut Vec<u8>, numbers: &[&str], table: &mut Table) -> Option<()> {
+    out.push(1);
+    for number in numbers {
+        out.push(table.hex(number)?);
+    }
+    Some(())
+}
