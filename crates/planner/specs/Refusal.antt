@@ -14,7 +14,8 @@ use Rattle.day.specs.Refusal.{dayRefusal, vanRefusal}
 use Rattle.day.specs.Fine.{DayFine, VanFine, day-fine, van-fine}
 use Rattle.day.specs.declared.vehicle.Van.{Van}
 use Rattle.lists.specs.Refused.{listsRefusal, ListsFine}
-use Rattle.lists.specs.Table.{Laid, startOf, listOf, length-list, list-within}
+use Rattle.lists.specs.Table.{Laid, startOf, listOf}
+use Rattle.lists.proofs.Tables.{length-list, list-within}
 use Rattle.lists.proofs.Fine.{lists-fine}
 use Rattle.evaluation.specs.Columns.{Formed, Visits, columnsOf, formed}
 

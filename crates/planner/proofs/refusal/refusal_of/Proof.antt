@@ -2,6 +2,7 @@
 use borrow.Author.Needs.{needs}
 use mathlib.Core.Path.{sym, _∙_}
 use Rattle.tests.specs.All.{first-some, first-none}
+use Rattle.day.specs.Fine.{day-fine}
 use Rattle.planner.specs.Refusal.{refusal}
 use Rattle.planner.proofs.refusal.refusal_of.Statement.{statement}
 use Rattle.planner.proofs.refusal.refusal_of.Tie as tie
@@ -24,7 +25,9 @@ num-depots-requires : tie.Need-num-depots-requires
 num-depots-requires c κs = search needs
 
 lists-refusal-requires : tie.Need-lists-refusal-requires
-lists-refusal-requires c κs = search needs
+lists-refusal-requires c κs =
+    let none = sym (c .before .before .before .before .day-refusal .ensures) ∙ c .before .before .before .if1 .left in
+    day-fine _ none .shaped .few
 
 returns-3 : tie.Need-returns-3
 unfolding refusal
