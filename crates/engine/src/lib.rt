@@ -31,15 +31,25 @@ pub fn passes(
 ) -> bool
     requires { ⌜ Formed (columnsAt l flags service ready due penalty distances times) ⌝ }
     requires { ⌜ (depot < l) × Visits l (now list) ⌝ }
-    ensures {
-        λ r.
+    ensures { λ r.
         ⌜ r ≡ passing needed
         (columnsAt l (flags .entry) (service .entry) (ready .entry) (due .entry) (penalty .entry) (distances .entry) (times .entry)) limits depot
-        (now (list .entry)) ⌝
-    }
+        (now (list .entry)) ⌝ }
 {
     if !needed {
         return true;
     }
-    route_feasible(l, flags, service, ready, due, penalty, distances, times, limits, depot, list)
+    route_feasible(
+        l,
+        flags,
+        service,
+        ready,
+        due,
+        penalty,
+        distances,
+        times,
+        limits,
+        depot,
+        list,
+    )
 }
