@@ -82,7 +82,8 @@ uint8_t planner_route_eval(PLANNER_DAY, struct planner_van van, PLANNER_LIST, ui
 
 /* The list's clock with the van's break; its limits are not applied. found is 1 where the hard windows are kept and the
  * break is placed or left out, and else 0, with the rest left as it was. taken is 1 where the break is taken: before the
- * service of the visit at position (from 0) of the list, from start on; where it is 0, position and start are left. */
+ * service of the visit at position (from 0) of the list, from start on; where it is 0, position and start are left. For a
+ * van without a break it is the clock with no break to take, and taken is 0. */
 uint8_t planner_schedule(PLANNER_DAY, struct planner_van van, PLANNER_LIST, uint8_t *found, double *distance,
                          double *duration, double *lateness, double *lateness_cost, uint8_t *taken, size_t *position,
                          double *start);

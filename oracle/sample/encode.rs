@@ -5,7 +5,7 @@ use crate::days::day::{Day, Run};
 const TABLED: u8 = 128;
 
 /// The runs that are stored, by tag from 1 on.
-const TAGS: [&str; 4] = ["feasible", "eval", "schedule", "distance"];
+pub const TAGS: [&str; 4] = ["feasible", "eval", "schedule", "distance"];
 
 /// The numbers that a day needs and no byte is.
 struct Table(Vec<u64>);

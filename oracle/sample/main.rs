@@ -1,5 +1,6 @@
 //! sample: a file of days with the reference's answers, for a program that has no Rust at hand (README.md has the format).
-//!   sample write FILE [--seed N] [--bytes N] [--largest N] [--runs NAME,..] [--reference PROGRAM]
+//!   sample write FILE [--kept DAYS] [--seed N] [--bytes N] [--largest N] [--runs NAME,..] [--reference PROGRAM]
+//!                                               the days of the text file DAYS first, then generated ones
 //!   sample check FILE [--reference PROGRAM]     reads the file back and holds it to the reference
 //!   sample text FILE                            prints it in the text format
 #[path = "../days/mod.rs"]
@@ -11,10 +12,10 @@ mod programs;
 use days::day::Day;
 use days::families::{day, engines_named, FAMILIES};
 use days::options::{fail, Options};
-use days::text::put_day;
+use days::text::{put_day, Reader};
 use programs::{Lines, Program};
 
-const NAMES: [&str; 5] = ["seed", "bytes", "largest", "runs", "reference"];
+const NAMES: [&str; 6] = ["seed", "bytes", "largest", "runs", "reference", "kept"];
 /// Days tried of each family.
 const TRIED: u64 = 60;
 
@@ -27,31 +28,19 @@ fn main() {
         ["write", file] => write(file, &options, &reference),
         ["check", file] => check(file, &reference),
         ["text", file] => text(file),
-        _ => fail("usage: sample write|check|text FILE [--seed N] [--bytes N] [--largest N] [--runs NAME,..] [--reference PROGRAM]"),
+        _ => fail("usage: sample write|check|text FILE [--kept DAYS] [--seed N] [--bytes N] [--largest N] [--runs NAME,..] [--reference PROGRAM]"),
     }
 }
 
-/// Families in turn, one day of each, as long as there is room.
+/// The kept days, then families in turn, one day of each, as long as there is room.
 fn write(file: &str, options: &Options, reference: &Program) {
-    let (seed, room) = (options.number("seed", 1), options.number("bytes", 60_000) as usize);
-    let names = options.text("runs", "feasible,eval,schedule,distance");
-    let engines = engines_named(&names);
-    let days: Vec<Day> = (0..TRIED * FAMILIES.len() as u64)
-        .map(|number| day(number as usize % FAMILIES.len(), seed, number / FAMILIES.len() as u64, true, &engines))
-        .collect();
-    let answers = reference.answers(&days);
-    let mut chosen: Vec<Vec<Vec<u8>>> = vec![Vec::new(); FAMILIES.len()];
-    for (number, (day, lines)) in days.iter().zip(&answers).enumerate() {
-        let bytes = encode::day(day, lines).filter(|bytes| bytes.len() <= options.number("largest", 400) as usize);
-        chosen[number % FAMILIES.len()].extend(bytes);
-    }
+    let room = options.number("bytes", 60_000) as usize;
     let (mut count, mut out) = (0u16, vec![0, 0]);
-    for turn in 0..TRIED as usize {
-        for bytes in chosen.iter().filter_map(|family| family.get(turn)) {
-            if out.len() + bytes.len() <= room {
-                out.extend(bytes);
-                count += 1;
-            }
+    let kept = stored(&kept_days(options), reference, usize::MAX);
+    for bytes in kept.into_iter().chain(generated(options, reference)) {
+        if out.len() + bytes.len() <= room {
+            out.extend(bytes);
+            count += 1;
         }
     }
     out[..2].copy_from_slice(&count.to_le_bytes());
@@ -59,6 +48,41 @@ fn write(file: &str, options: &Options, reference: &Program) {
         fail(&format!("can't write {file}"));
     }
     println!("{count} days, {} bytes", out.len());
+}
+
+/// The bytes of the days that can be stored and aren't too large, with the reference's answers.
+fn stored(days: &[Day], reference: &Program, largest: usize) -> Vec<Vec<u8>> {
+    let answers = reference.answers(days);
+    let bytes = days.iter().zip(&answers).filter_map(|(day, lines)| encode::day(day, lines));
+    bytes.filter(|bytes| bytes.len() <= largest).collect()
+}
+
+fn kept_days(options: &Options) -> Vec<Day> {
+    let file = options.text("kept", "");
+    if file.is_empty() {
+        return Vec::new();
+    }
+    let text = std::fs::read_to_string(&file).unwrap_or_else(|error| fail(&format!("{file}: {error}")));
+    let mut reader = Reader::new(&text);
+    let mut days = Vec::new();
+    while let Some(mut day) = reader.day().unwrap_or_else(|what| fail(&format!("{file}: {what}"))) {
+        day.runs.retain(|run| encode::TAGS.contains(&run.engine.as_str()));
+        days.push(day);
+    }
+    days
+}
+
+/// Families in turn.
+fn generated(options: &Options, reference: &Program) -> Vec<Vec<u8>> {
+    let (seed, largest) = (options.number("seed", 1), options.number("largest", 400) as usize);
+    let names = options.text("runs", "feasible,eval,schedule,distance");
+    let engines = engines_named(&names);
+    let of_family = |family: usize| {
+        let days: Vec<Day> = (0..TRIED).map(|number| day(family, seed, number, true, &engines)).collect();
+        stored(&days, reference, largest)
+    };
+    let families: Vec<Vec<Vec<u8>>> = (0..FAMILIES.len()).map(of_family).collect();
+    (0..TRIED as usize).flat_map(|turn| families.iter().filter_map(move |days| days.get(turn).cloned())).collect()
 }
 
 fn read(file: &str) -> Vec<(Day, Lines)> {
