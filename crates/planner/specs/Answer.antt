@@ -5,7 +5,10 @@ use mathlib.Core.Bool.{cond}
 use mathlib.Core.List.{List, []}
 use Rattle.day.specs.Day.{Day}
 use Rattle.day.specs.declared.vehicle.Van.{Van}
-use Rattle.day.specs.Vehicle.{limitsOf}
+use Rattle.numbers.specs.Floor.{gainFloor}
+use Rattle.day.specs.Matrix.{scaleOf, symmetric}
+use Rattle.day.specs.Customer.{numDepots}
+use Rattle.day.specs.Vehicle.{fixedCostInDistance, limitsOf}
 use Rattle.lists.specs.Table.{listOf}
 use Rattle.evaluation.specs.Columns.{columnsOf}
 use Rattle.evaluation.specs.Distance.{routeDistance}
@@ -14,7 +17,9 @@ use Rattle.evaluation.specs.declared.route.Evaluation.{Evaluation}
 use Rattle.evaluation.specs.declared.route.Evaluation.the-variants as evaluation
 use Rattle.evaluation.specs.declared.schedule.Outcome.{Outcome}
 use Rattle.evaluation.specs.declared.schedule.Outcome.the-variants as outcome
-use Rattle.planner.specs.Refusal.{refusal}
+use Rattle.planner.specs.Refusal.{refusal, dayAndVanRefusal}
+use Rattle.planner.specs.declared.table.Table.{Table}
+use Rattle.planner.specs.declared.table.Table.the-variants as table
 use Rattle.planner.specs.declared.check.Distance.{Distance}
 use Rattle.planner.specs.declared.check.Distance.the-variants as distance
 use Rattle.planner.specs.declared.check.Feasibility.{Feasibility}
@@ -66,6 +71,12 @@ unfoldable pub scheduleAnswer : Day → Van → List ℕ → List ℕ → ℕ �
 scheduleAnswer d van visits lengths list =
     unlessRefused (refusal d van visits lengths list) timetable.Refused
     (scheduledAs (outcome (columnsOf d) (limitsOf van .rest) (van .depot) (listOf visits lengths list)))
+
+-- what the searches work out before the first move, by document 01's modules 1, 2 and 4: `scale`, the floor, symmetry, `fixed_cost_in_distance`, `num_depots`
+unfoldable pub tableAnswer : Day → Van → Table
+tableAnswer d van =
+    unlessRefused (dayAndVanRefusal d van) table.Refused
+    (table.Known (scaleOf (d .distances)) (gainFloor (scaleOf (d .distances))) (symmetric (d .l) (d .distances)) (fixedCostInDistance van) (numDepots (d .flags)))
 
 -- ---- laws: what a return shows
 

@@ -24,6 +24,10 @@ unfoldable pub refusal : Day → Van → List ℕ → List ℕ → ℕ → ℕ
 refusal d van visits lengths list =
     firstOf (dayRefusal d) (firstOf (vanRefusal (d .flags) van) (listsRefusal (numDepots (d .flags)) (d .l) visits lengths list))
 
+-- the first of 1 to 7, of an entry that looks at no list
+unfoldable pub dayAndVanRefusal : Day → Van → ℕ
+dayAndVanRefusal d van = firstOf (dayRefusal d) (vanRefusal (d .flags) van)
+
 -- what an input that is not refused tells
 pub record Fine (d : Day) (van : Van) (visits lengths : List ℕ) (list : ℕ) : Type 0 where
   pub day : DayFine d
@@ -64,6 +68,11 @@ visits-fine d van visits lengths list f =
           let there : start + k < length visits = omega arith in
           rw (getD-take size (drop start visits) k 0 inside, getD-drop start visits k 0) (table .below (start + k) there);
     }
+
+-- a day that is not refused has a square table
+pub square-fine : (d : Day) (van : Van) → dayAndVanRefusal d van ≡ 0 → Square (d .l) (d .distances)
+unfolding dayAndVanRefusal
+square-fine d van h = day-fine d (first-zero _ _ h .0) .shaped .tables .of-distances
 
 -- ---- what an entry that found no refusal may call
 

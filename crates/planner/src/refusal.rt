@@ -4,9 +4,10 @@ use day::refusal::day_refusal;
 use day::refusal::van_refusal;
 use day::vehicle::Van;
 use lists::lists_refusal;
+use tests::first_of;
 ghost use mathlib.Core.Path.{_≡_};
 ghost use Rattle.day.specs.Day.{dayAt};
-ghost use Rattle.planner.specs.Refusal.{refusal};
+ghost use Rattle.planner.specs.Refusal.{refusal, dayAndVanRefusal};
 
 // The first of refusals 1 to 10 that the input meets, and 0 where it meets none.
 pub fn refusal_of(
@@ -48,4 +49,37 @@ pub fn refusal_of(
         return of_van;
     }
     lists_refusal(num_depots(flags), l, visits, lengths, list)
+}
+
+// The first of refusals 1 to 7, which look at no list, and 0 where the day and the van meet none.
+pub fn day_and_van_refusal(
+    l: usize,
+    flags: &[u8],
+    demand: &[i32],
+    service: &[f64],
+    ready: &[f64],
+    due: &[f64],
+    penalty: &[f64],
+    distances: &[f64],
+    times: &[f64],
+    van: Van,
+) -> u8
+    ensures answer { λ r.
+        ⌜ r ≡ dayAndVanRefusal
+        (dayAt l (flags .entry) (demand .entry) (service .entry) (ready .entry) (due .entry) (penalty .entry) (distances .entry) (times .entry)) van ⌝ }
+{
+    first_of(
+        day_refusal(
+            l,
+            flags,
+            demand,
+            service,
+            ready,
+            due,
+            penalty,
+            distances,
+            times,
+        ),
+        van_refusal(flags, van),
+    )
 }

@@ -1,6 +1,9 @@
 -- What each export answers and writes, from the planner's answer: a refusal's number, or 0 and the values of its case. Assumes nothing.
 use Prim.Native.Nat.{ℕ}
+use mathlib.Core.Bool.{Bool, true, false}
 use lib.Ieee.{Float}
+use Rattle.planner.specs.declared.table.Table.{Table}
+use Rattle.planner.specs.declared.table.Table.the-variants as table
 use Rattle.planner.specs.declared.check.Distance.{Distance}
 use Rattle.planner.specs.declared.check.Distance.the-variants as distance
 use Rattle.planner.specs.declared.check.Feasibility.{Feasibility}
@@ -126,3 +129,40 @@ latenessOf a b c d = c
 -- that lateness, times each visit's penalty
 abbrev pub latenessCostOf : Float → Float → Float → Float → Float
 latenessCostOf a b c d = d
+
+-- ---- table
+
+-- the refusal's number, else 0
+unfoldable pub tableCode : Table → ℕ
+tableCode (table.Refused n) = n
+tableCode (table.Known a b c d e) = 0
+
+-- the largest distance
+unfoldable pub scaleIn : Table → Float → Float
+scaleIn (table.Refused n) before = before
+scaleIn (table.Known a b c d e) before = a
+
+-- the least gain that counts
+unfoldable pub floorIn : Table → Float → Float
+floorIn (table.Refused n) before = before
+floorIn (table.Known a b c d e) before = b
+
+-- 1 for true, 0 for false
+unfoldable pub bitOf : Bool → ℕ
+bitOf true = 1
+bitOf false = 0
+
+-- whether the table is symmetric, 1 or 0
+unfoldable pub symmetricIn : Table → ℕ → ℕ
+symmetricIn (table.Refused n) before = before
+symmetricIn (table.Known a b c d e) before = bitOf c
+
+-- the fixed cost in distance
+unfoldable pub fixedIn : Table → Float → Float
+fixedIn (table.Refused n) before = before
+fixedIn (table.Known a b c d e) before = d
+
+-- the number of depots
+unfoldable pub depotsIn : Table → ℕ → ℕ
+depotsIn (table.Refused n) before = before
+depotsIn (table.Known a b c d e) before = e

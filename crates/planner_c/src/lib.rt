@@ -6,12 +6,14 @@ use planner::check::Distance;
 use planner::check::Evaluated;
 use planner::check::Feasibility;
 use planner::check::Timetable;
+use planner::table::Table;
 ghost use mathlib.Core.Path.{_≡_};
 ghost use Rattle.day.specs.Day.{dayAt};
-ghost use Rattle.planner.specs.Answer.{distanceAnswer, feasibleAnswer, evalAnswer, scheduleAnswer};
+ghost use Rattle.planner.specs.Answer.{tableAnswer, distanceAnswer, feasibleAnswer, evalAnswer, scheduleAnswer};
 ghost use Rattle.planner_c.specs.Written.{distanceCode, distanceIn, feasibleCode, passesIn, evalCode, evalPasses, evalIn};
 ghost use Rattle.planner_c.specs.Written.{scheduleCode, foundIn, scheduleIn, takenIn, positionIn, startIn};
 ghost use Rattle.planner_c.specs.Written.{distanceOf, durationOf, latenessOf, latenessCostOf, takenCode, takenPosition, takenStart};
+ghost use Rattle.planner_c.specs.Written.{tableCode, scaleIn, floorIn, bitOf, symmetricIn, fixedIn, depotsIn};
 
 // The distance of the list asked for.
 #[no_mangle]
@@ -276,6 +278,75 @@ pub extern "C" fn planner_schedule(
             *lateness = c;
             *lateness_cost = d;
             write_taken(t, taken, position, start);
+            0
+        }
+    }
+}
+
+fn bit_of(b: bool) -> u8
+    ensures { λ r. ⌜ r ≡ bitOf b ⌝ }
+{
+    if b {
+        return 1;
+    }
+    0
+}
+
+// What the searches work out of the day and the van before the first move.
+#[no_mangle]
+pub extern "C" fn planner_table(
+    l: usize,
+    flags: &[u8],
+    demand: &[i32],
+    service: &[f64],
+    ready: &[f64],
+    due: &[f64],
+    penalty: &[f64],
+    distances: &[f64],
+    times: &[f64],
+    van: Van,
+    scale: &mut f64,
+    floor: &mut f64,
+    symmetric: &mut u8,
+    fixed: &mut f64,
+    depots: &mut usize,
+) -> u8
+    ensures { λ r.
+        ⌜ (let a = tableAnswer
+        (dayAt l (flags .entry) (demand .entry) (service .entry) (ready .entry) (due .entry) (penalty .entry) (distances .entry) (times .entry)) van in
+        (r ≡ tableCode a) ×
+        (now (scale .exit) ≡ scaleIn a (now (scale .entry))) ×
+        (now (floor .exit) ≡ floorIn a (now (floor .entry))) ×
+        (now (symmetric .exit) ≡ symmetricIn a (now (symmetric .entry))) ×
+        (now (fixed .exit) ≡ fixedIn a (now (fixed .entry))) ×
+        (now (depots .exit) ≡ depotsIn a (now (depots .entry)))) ⌝ }
+{
+    let answer = planner::table::table_of(
+        l,
+        flags,
+        demand,
+        service,
+        ready,
+        due,
+        penalty,
+        distances,
+        times,
+        van,
+    );
+    match answer {
+        Table::Refused(n) => n,
+        Table::Known {
+            scale: a,
+            floor: b,
+            symmetric: c,
+            fixed: d,
+            depots: e,
+        } => {
+            *scale = a;
+            *floor = b;
+            *symmetric = bit_of(c);
+            *fixed = d;
+            *depots = e;
             0
         }
     }

@@ -1,0 +1,16 @@
+-- `bit_of`: one return for each case of the bool.
+use mathlib.Core.Path.{refl}
+use Rattle.planner_c.specs.Written.{bitOf}
+use Rattle.planner_c.proofs.bit_of.Statement.{statement}
+use Rattle.planner_c.proofs.bit_of.Tie as tie
+
+returns : tie.Need-returns
+unfolding bitOf
+returns c = rw (c .if1 .taken)
+
+returns-2 : tie.Need-returns-2
+unfolding bitOf
+returns-2 c = rw (c .if1 .left)
+
+pub bit-of-spec : {M : Type 1} → statement M
+bit-of-spec = tie.close (tie.spec returns returns-2)
