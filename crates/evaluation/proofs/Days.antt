@@ -1,16 +1,15 @@
 -- The starred days of document 01 that concern a check, of the definitions: one theorem over a table, by computing each row. Assumes nothing.
-use Prim.Native.Nat.{ℕ, zero, suc, _+_, _-_, _*_}
+use Prim.Native.Nat.{ℕ, _+_, _-_, _*_}
 use mathlib.Core.Path.{_≡_, refl}
 use mathlib.Core.List.{List, [], _∷_, _++_, map}
 use mathlib.Core.Bool.{Bool, true, false}
 use lib.IntN.{pos, negsuc}
-use lib.ListN.{getD, replicate}
+use lib.ListN.{replicate}
 use lib.Ieee.{Float, nan, fin, binary64, ofInt, add, sub, mul, sum, lt, le, eq, neg}
 use Rattle.numbers.specs.Operations.{zero64}
 use Rattle.day.specs.Matrix.{leg, travel}
 use Rattle.day.specs.Customer.{windowAt, isViolated, waitingTime, latenessAt}
 use Rattle.day.specs.Vehicle.{allows, keeps}
-use Rattle.day.specs.declared.customer.TimeWindow.{TimeWindow}
 use Rattle.day.specs.declared.customer.Window.the-variants.{Hard}
 use Rattle.day.specs.declared.vehicle.VehicleBreak.{VehicleBreak}
 use Rattle.day.specs.declared.vehicle.Limit.the-variants.{Unlimited}
@@ -23,10 +22,8 @@ use Rattle.evaluation.specs.Route.{home, unbroken, outcome, allowed, fea
 use Rattle.evaluation.specs.declared.stop.Stop.{Stop}
 use Rattle.evaluation.specs.declared.label.Taken.{Taken}
 use Rattle.evaluation.specs.declared.label.Taken.the-variants.{Untaken, At}
-use Rattle.evaluation.specs.declared.label.Label.{Label}
 use Rattle.evaluation.specs.declared.label.Reached.{Reached}
 use Rattle.evaluation.specs.declared.label.Reached.the-variants.{Served}
-use Rattle.evaluation.specs.declared.schedule.Scheduled.{Scheduled}
 use Rattle.evaluation.specs.declared.schedule.Outcome.{Outcome}
 use Rattle.evaluation.specs.declared.schedule.Outcome.the-variants.{Possible}
 

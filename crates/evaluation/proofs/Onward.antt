@@ -1,6 +1,6 @@
 -- A check of A ++ B goes on from where A ended, and fails where A failed: the walk is a fold, and what is missed stays missed. Assumes nothing.
 use Prim.Native.Nat.{ℕ}
-use mathlib.Core.Path.{_≡_, refl, sym, ap, _∙_}
+use mathlib.Core.Path.{_≡_, sym, ap, _∙_}
 use mathlib.Core.List.{List, _++_}
 use Rattle.numbers.specs.Operations.{zero64}
 use Rattle.day.specs.declared.vehicle.VehicleBreak.{VehicleBreak}
@@ -12,7 +12,6 @@ use Rattle.evaluation.specs.Route.{tick, home, unbroken, stays-missed, h
 use Rattle.evaluation.specs.declared.label.Reached.{Reached}
 use Rattle.evaluation.specs.declared.label.Reached.the-variants.{Missed, Served}
 use Rattle.evaluation.specs.declared.schedule.BreakClock.{BreakClock}
-use Rattle.evaluation.specs.declared.schedule.Outcome.{Outcome}
 use Rattle.evaluation.specs.declared.schedule.Outcome.the-variants.{Impossible}
 
 module _ (c : Columns) (depot : ℕ) where

@@ -9,7 +9,6 @@ use lib.Ieee.{Float, nan}
 use Rattle.numbers.specs.Operations.{_⊕_, zero64}
 use Rattle.day.specs.Day.{bit1, bit2}
 use Rattle.day.specs.Customer.{windowAt}
-use Rattle.day.specs.declared.customer.TimeWindow.{TimeWindow}
 use Rattle.day.specs.declared.customer.Window.{Window}
 use Rattle.day.specs.declared.customer.Window.the-variants.{Open, Hard, Soft}
 use Rattle.day.specs.declared.vehicle.Rest.{Rest}
@@ -21,10 +20,7 @@ use Rattle.evaluation.specs.Walk.{Tour, tourOf, onward, walk}
 use Rattle.evaluation.specs.Label.{atStart}
 use Rattle.evaluation.specs.Schedule.{begun, pushed, tickBreak, homeBreak, scheduled}
 use Rattle.evaluation.specs.Route.{tick, home, unbroken, outcome, allowed, evaluated, feasible, eval, costOf, effectiveCost}
-use Rattle.evaluation.specs.declared.stop.Stop.{Stop}
-use Rattle.evaluation.specs.declared.label.Reached.{Reached}
 use Rattle.evaluation.specs.declared.label.Reached.the-variants.{Served}
-use Rattle.evaluation.specs.declared.schedule.BreakClock.{BreakClock}
 use Rattle.evaluation.specs.declared.schedule.Outcome.{Outcome}
 
 -- ---- a stop

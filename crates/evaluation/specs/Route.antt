@@ -1,9 +1,9 @@
 -- evaluation/mod.rs: whether a list passes, what it costs, and whether a search has to ask. Assumes nothing.
 use Prim.Native.Nat.{ℕ, _+_, _<_, _≤_}
-use mathlib.Core.Path.{_≡_, refl, sym, ap, subst, _∙_}
+use mathlib.Core.Path.{_≡_, sym, ap, _∙_}
 use mathlib.Core.List.{List}
 use lib.ListN.{length, getD, drop}
-use mathlib.Core.Bool.{Bool, true, false, cond, not, _||_}
+use mathlib.Core.Bool.{Bool, false, cond, not, _||_}
 use lib.Ieee.{Float, inf}
 use Rattle.numbers.specs.Operations.{_⊕_, zero64}
 use Rattle.day.specs.Customer.{hasTimeWindows}

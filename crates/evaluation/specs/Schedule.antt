@@ -16,7 +16,6 @@ use Rattle.evaluation.specs.declared.label.Taken.the-variants.{Untaken}
 use Rattle.evaluation.specs.declared.label.Label.{Label}
 use Rattle.evaluation.specs.declared.label.Reached.{Reached}
 use Rattle.evaluation.specs.declared.label.Reached.the-variants.{Missed, Served}
-use Rattle.evaluation.specs.declared.schedule.Scheduled.{Scheduled}
 use Rattle.evaluation.specs.declared.schedule.Outcome.{Outcome}
 use Rattle.evaluation.specs.declared.schedule.Outcome.the-variants.{Impossible, Possible}
 use Rattle.evaluation.specs.declared.schedule.BreakClock.{BreakClock}

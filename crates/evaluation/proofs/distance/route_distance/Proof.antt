@@ -3,7 +3,7 @@ use borrow.Author.Needs.{needs}
 use native.Mathlib.Omega.{arith}
 use Prim.Native.Nat.{_-_, _≤_, _<_}
 use mathlib.Core.Path.{_≡_, refl, _∙_}
-use lib.ListN.{length, drop, getD}
+use lib.ListN.{length, drop}
 use lib.Ieee.{ofBits}
 use Rattle.evaluation.specs.Distance.{onwardDistance, routeDistance, distance-none, distance-first, distance-turn, distance-end}
 use Rattle.evaluation.proofs.distance.route_distance.Statement.{statement}
