@@ -49,7 +49,9 @@ fn lengths_ok(
     times: &[f64],
 ) -> bool
     requires { ⌜ l ≤ 64 ⌝ }
-    ensures { λ r. ⌜ r ≡ lengthsOk (dayAt l (flags .entry) (demand .entry) (service .entry) (ready .entry) (due .entry) (penalty .entry) (distances .entry) (times .entry)) ⌝ }
+    ensures { λ r.
+        ⌜ r ≡ lengthsOk
+        (dayAt l (flags .entry) (demand .entry) (service .entry) (ready .entry) (due .entry) (penalty .entry) (distances .entry) (times .entry)) ⌝ }
 {
     both(
         flags.len() == l,
@@ -281,7 +283,9 @@ pub fn day_refusal(
     distances: &[f64],
     times: &[f64],
 ) -> u8
-    ensures { λ r. ⌜ r ≡ dayRefusal (dayAt l (flags .entry) (demand .entry) (service .entry) (ready .entry) (due .entry) (penalty .entry) (distances .entry) (times .entry)) ⌝ }
+    ensures { λ r.
+        ⌜ r ≡ dayRefusal
+        (dayAt l (flags .entry) (demand .entry) (service .entry) (ready .entry) (due .entry) (penalty .entry) (distances .entry) (times .entry)) ⌝ }
 {
     if !size_ok(l) {
         return 1;

@@ -35,10 +35,11 @@ tail-cuts ls p =
     each (range 1 (suc (length (at ls (p .one))))) λ cut1.
     map (λ cut2. record { pair = p; cut1 = cut1; cut2 = cut2 }) (range 1 (suc (length (at ls (p .other)))))
 
--- `route1[..cut1]` and `route2[cut2..]`; `route2[..cut2]` and `route1[cut1..]`
+-- `route1[..cut1]` and `route2[cut2..]`
 abbrev pub new1 : List (List ℕ) → Tails → List ℕ
 new1 ls t = take (t .cut1) (at ls (t .pair .one)) ++ drop (t .cut2) (at ls (t .pair .other))
 
+-- `route2[..cut2]` and `route1[cut1..]`
 abbrev pub new2 : List (List ℕ) → Tails → List ℕ
 new2 ls t = take (t .cut2) (at ls (t .pair .other)) ++ drop (t .cut1) (at ls (t .pair .one))
 
@@ -69,10 +70,11 @@ relocations ls =
     each (range 0 from ++ range (suc from) (length ls)) λ to.
     map (λ place. record { from = from; position = position; to = to; place = place }) (range 0 (suc (length (at ls to))))
 
--- `remove(from_pos)`, `insert(to_pos, customer_id)`
+-- `remove(from_pos)`
 abbrev pub giver : List (List ℕ) → Relocation → List ℕ
 giver ls m = take (m .position) (at ls (m .from)) ++ drop (suc (m .position)) (at ls (m .from))
 
+-- `insert(to_pos, customer_id)`
 abbrev pub receiver : List (List ℕ) → Relocation → List ℕ
 receiver ls m = take (m .place) (at ls (m .to)) ++ getD (at ls (m .from)) (m .position) 0 ∷ drop (m .place) (at ls (m .to))
 

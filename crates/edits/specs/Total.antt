@@ -70,4 +70,5 @@ total-none f (x ∷ xs) z h =
     let ih = total-none f xs z (λ i k. h (suc i) (suc-le-suc k)) in
     omega arith
 
+-- for `simp`
 pub ruleset sums = (total-append, total-reverse)

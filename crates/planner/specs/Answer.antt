@@ -72,11 +72,12 @@ scheduleAnswer d van visits lengths list =
     unlessRefused (refusal d van visits lengths list) timetable.Refused
     (scheduledAs (outcome (columnsOf d) (limitsOf van .rest) (van .depot) (listOf visits lengths list)))
 
--- what the searches work out before the first move, by document 01's modules 1, 2 and 4: `scale`, the floor, symmetry, `fixed_cost_in_distance`, `num_depots`
+-- `table_of`: what 01's modules 1, 2 and 4 work out before the first move: scale, floor, symmetry, fixed cost in distance, number of depots
 unfoldable pub tableAnswer : Day → Van → Table
 tableAnswer d van =
     unlessRefused (dayAndVanRefusal d van) table.Refused
-    (table.Known (scaleOf (d .distances)) (gainFloor (scaleOf (d .distances))) (symmetric (d .l) (d .distances)) (fixedCostInDistance van) (numDepots (d .flags)))
+    (table.Known (scaleOf (d .distances)) (gainFloor (scaleOf (d .distances))) (symmetric (d .l) (d .distances)) (fixedCostInDistance van)
+    (numDepots (d .flags)))
 
 -- ---- laws: what a return shows
 

@@ -15,7 +15,9 @@ route-feasible-requires c κs = search needs
 
 returns-2 : tie.Need-returns-2
 unfolding passing
-returns-2 c = on _ _ _ (not-false (c .before .before .before .before .before .before .before .before .before .before .args .needed) (c .before .if1 .left)) (c .route-feasible .ensures)
+returns-2 c =
+    on _ _ _ (not-false (c .before .before .before .before .before .before .before .before .before .before .args .needed) (c .before .if1 .left))
+    (c .route-feasible .ensures)
 
 pub passes-spec : {M : Type 1} → statement M
 passes-spec = tie.close (tie.spec returns route-feasible-requires returns-2)

@@ -30,7 +30,9 @@ returns-2 c = rw (← c .before .before .schedule .ensures, c .enum-told .given 
 
 returns-3 : tie.Need-returns-3
 unfolding scheduleCode foundIn scheduleIn takenIn positionIn startIn
-returns-3 c = rw (← c .before .before .before .before .before .before .before .schedule .ensures, c .before .before .before .before .before .answer2 .given .1) (refl, refl, refl, refl, refl, refl, c .write-taken .ensures .0, c .write-taken .ensures .1, c .write-taken .ensures .2)
+returns-3 c =
+    rw (← c .before .before .before .before .before .before .before .schedule .ensures, c .before .before .before .before .before .answer2 .given .1)
+    (refl, refl, refl, refl, refl, refl, c .write-taken .ensures .0, c .write-taken .ensures .1, c .write-taken .ensures .2)
 
 pub planner-schedule-spec : {M : Type 1} → statement M
 planner-schedule-spec =

@@ -23,7 +23,9 @@ returns c = rw (← c .before .before .before .table-of .ensures, c .before .ans
 
 returns-2 : tie.Need-returns-2
 unfolding tableCode scaleIn floorIn symmetricIn fixedIn depotsIn
-returns-2 c = rw (← c .before .before .before .before .table-of .ensures, c .before .before .answer2 .given .1) (refl, refl, refl, c .bit-of .ensures, refl, refl)
+returns-2 c =
+    rw (← c .before .before .before .before .table-of .ensures, c .before .before .answer2 .given .1)
+    (refl, refl, refl, c .bit-of .ensures, refl, refl)
 
 pub planner-table-spec : {M : Type 1} → statement M
 planner-table-spec =

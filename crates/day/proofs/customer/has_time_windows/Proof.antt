@@ -25,7 +25,9 @@ flag1-requires c κs = search needs
 
 returns : tie.Need-returns Inv-loop μ-loop
 unfolding hasTimeWindows
-returns c = some-here _ _ bit1 (c .before .before .before .loop-test .taken) (sym (c .before .flag1 .ensures) ∙ c .if1 .taken) ∙ c .before .before .before .before .loop .inv .1
+returns c =
+    some-here _ _ bit1 (c .before .before .before .loop-test .taken) (sym (c .before .flag1 .ensures) ∙ c .if1 .taken) ∙
+    c .before .before .before .before .loop .inv .1
 
 add-i : tie.Need-add-i Inv-loop μ-loop
 add-i c = search needs
@@ -34,7 +36,11 @@ loop-less : tie.Need-loop-less Inv-loop μ-loop
 loop-less c = search needs
 
 loop-again : tie.Need-loop-again Inv-loop μ-loop
-loop-again c = (search needs, sym (some-later _ _ bit1 (c .before .before .before .loop-test .taken) (sym (c .before .flag1 .ensures) ∙ c .if1 .left)) ∙ c .before .before .before .before .loop .inv .1)
+loop-again c = (
+  search needs,
+  sym (some-later _ _ bit1 (c .before .before .before .loop-test .taken) (sym (c .before .flag1 .ensures) ∙ c .if1 .left)) ∙
+      c .before .before .before .before .loop .inv .1,
+)
 
 returns-2 : tie.Need-returns-2 Inv-loop μ-loop
 unfolding hasTimeWindows

@@ -25,7 +25,9 @@ flag0-requires : tie.Need-flag0-requires Inv-loop μ-loop
 flag0-requires c κs = search needs
 
 returns : tie.Need-returns Inv-loop μ-loop
-returns c = count-stops _ _ (c .before .before .before .before .loop .inv .1) (c .before .before .before .loop-test .taken) (no _ _ (c .before .flag0 .ensures) (c .if1 .taken))
+returns c =
+    count-stops _ _ (c .before .before .before .before .loop .inv .1) (c .before .before .before .loop-test .taken) (no _ _
+    (c .before .flag0 .ensures) (c .if1 .taken))
 
 add-count : tie.Need-add-count Inv-loop μ-loop
 add-count c = search needs
@@ -34,7 +36,11 @@ loop-less : tie.Need-loop-less Inv-loop μ-loop
 loop-less c = search needs
 
 loop-again : tie.Need-loop-again Inv-loop μ-loop
-loop-again c = (search needs, count-grows _ _ (c .before .before .before .before .loop .inv .1) (c .before .before .before .loop-test .taken) (yes _ _ (c .before .flag0 .ensures) (c .if1 .left)))
+loop-again c = (
+  search needs,
+  count-grows _ _ (c .before .before .before .before .loop .inv .1) (c .before .before .before .loop-test .taken) (yes _ _
+      (c .before .flag0 .ensures) (c .if1 .left)),
+)
 
 returns-2 : tie.Need-returns-2 Inv-loop μ-loop
 returns-2 c = count-ends _ _ (c .before .loop .inv .1) (c .loop-test .left)

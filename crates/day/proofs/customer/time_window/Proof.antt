@@ -40,11 +40,15 @@ shared-slice-read-t21 c = search needs
 
 returns-2 : tie.Need-returns-2
 unfolding windowAt
-returns-2 c = picked _ _ _ _ (yes _ _ (c .before .before .before .before .before .before .flag1 .ensures) (c .before .before .before .before .before .if1 .left)) (picked _ _ _ _ (sym (c .before .before .flag2 .ensures) ∙ c .before .if2 .taken) refl)
+returns-2 c =
+    picked _ _ _ _ (yes _ _ (c .before .before .before .before .before .before .flag1 .ensures)
+    (c .before .before .before .before .before .if1 .left)) (picked _ _ _ _ (sym (c .before .before .flag2 .ensures) ∙ c .before .if2 .taken) refl)
 
 returns-3 : tie.Need-returns-3
 unfolding windowAt
-returns-3 c = picked _ _ _ _ (yes _ _ (c .before .before .before .before .before .flag1 .ensures) (c .before .before .before .before .if1 .left)) (other _ _ _ _ (sym (c .before .flag2 .ensures) ∙ c .if2 .left) refl)
+returns-3 c =
+    picked _ _ _ _ (yes _ _ (c .before .before .before .before .before .flag1 .ensures) (c .before .before .before .before .if1 .left)) (other _ _ _ _
+    (sym (c .before .flag2 .ensures) ∙ c .if2 .left) refl)
 
 pub time-window-spec : {M : Type 1} → statement M
 time-window-spec =

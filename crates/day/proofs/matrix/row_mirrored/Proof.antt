@@ -28,7 +28,9 @@ get-requires-2 c κs = (c .before .before .before .before .pre .0, omega arith, 
 
 returns : tie.Need-returns Inv-loop μ-loop
 unfolding mirrored ne
-returns c = sym (all-fails _ _ (c .before .before .before .before .loop .to) (search needs) (rw (← c .before .before .get .ensures, ← c .before .get2 .ensures) (not-true _ (c .if1 .taken))))
+returns c =
+    sym (all-fails _ _ (c .before .before .before .before .loop .to) (search needs) (rw
+    (← c .before .before .get .ensures, ← c .before .get2 .ensures) (not-true _ (c .if1 .taken))))
 
 add-to : tie.Need-add-to Inv-loop μ-loop
 add-to c = search needs
@@ -38,7 +40,11 @@ loop-less c = search needs
 
 loop-again : tie.Need-loop-again Inv-loop μ-loop
 unfolding ne
-loop-again c = (search needs, all-more _ _ (c .before .before .before .before .loop .inv .1) (rw (← c .before .before .get .ensures, ← c .before .get2 .ensures) (not-false _ (c .if1 .left))))
+loop-again c = (
+  search needs,
+  all-more _ _ (c .before .before .before .before .loop .inv .1) (rw (← c .before .before .get .ensures, ← c .before .get2 .ensures)
+      (not-false _ (c .if1 .left))),
+)
 
 returns-2 : tie.Need-returns-2 Inv-loop μ-loop
 unfolding mirrored ne

@@ -34,7 +34,11 @@ loop-less : tie.Need-loop-less Inv-loop μ-loop
 loop-less c = search needs
 
 loop-again : tie.Need-loop-again Inv-loop μ-loop
-loop-again c = (search needs, rw (c .larger-of .ensures) (sym (largest-turn _ _ _ (c .before .before .loop-test .taken)) ∙ c .before .before .before .loop .inv .1))
+loop-again c = (
+  search needs,
+  rw (c .larger-of .ensures) (sym (largest-turn _ _ _ (c .before .before .loop-test .taken)) ∙
+      c .before .before .before .loop .inv .1),
+)
 
 returns : tie.Need-returns Inv-loop μ-loop
 unfolding scaleOf ofBits

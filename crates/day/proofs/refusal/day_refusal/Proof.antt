@@ -19,14 +19,20 @@ lengths-ok-requires c κs = size-fine _ (yes _ _ (c .before .size-ok .ensures) (
 
 returns-2 : tie.Need-returns-2
 unfolding dayRefusal
-returns-2 c = pass _ _ _ _ (yes _ _ (c .before .before .before .size-ok .ensures) (c .before .before .if1 .left)) (refuse _ _ _ (no _ _ (c .before .lengths-ok .ensures) (c .if2 .taken)))
+returns-2 c =
+    pass _ _ _ _ (yes _ _ (c .before .before .before .size-ok .ensures) (c .before .before .if1 .left)) (refuse _ _ _ (no _ _
+    (c .before .lengths-ok .ensures) (c .if2 .taken)))
 
 contents-refusal-requires : tie.Need-contents-refusal-requires
-contents-refusal-requires c κs = shaped _ (yes _ _ (c .before .before .before .size-ok .ensures) (c .before .before .if1 .left)) (yes _ _ (c .before .lengths-ok .ensures) (c .if2 .left))
+contents-refusal-requires c κs =
+    shaped _ (yes _ _ (c .before .before .before .size-ok .ensures) (c .before .before .if1 .left)) (yes _ _ (c .before .lengths-ok .ensures)
+    (c .if2 .left))
 
 returns-3 : tie.Need-returns-3
 unfolding dayRefusal
-returns-3 c = pass _ _ _ _ (yes _ _ (c .before .before .before .before .size-ok .ensures) (c .before .before .before .if1 .left)) (pass _ _ _ _ (yes _ _ (c .before .before .lengths-ok .ensures) (c .before .if2 .left)) (c .contents-refusal .ensures))
+returns-3 c =
+    pass _ _ _ _ (yes _ _ (c .before .before .before .before .size-ok .ensures) (c .before .before .before .if1 .left)) (pass _ _ _ _ (yes _ _
+    (c .before .before .lengths-ok .ensures) (c .before .if2 .left)) (c .contents-refusal .ensures))
 
 pub day-refusal-spec : {M : Type 1} → statement M
 day-refusal-spec =

@@ -35,7 +35,13 @@ loop-less : tie.Need-loop-less Inv-loop μ-loop
 loop-less c = search needs
 
 loop-again : tie.Need-loop-again Inv-loop μ-loop
-loop-again c = (search needs, search needs, search needs, all-more _ _ (c .before .before .before .loop .inv .3) (yes _ _ (c .before .lead-ok .ensures) (c .if1 .left)))
+loop-again c = (
+  search needs,
+  search needs,
+  search needs,
+  all-more _ _ (c .before .before .before .loop .inv .3) (yes _ _ (c .before .lead-ok .ensures)
+      (c .if1 .left)),
+)
 
 returns-2 : tie.Need-returns-2 Inv-loop μ-loop
 unfolding depotsLead

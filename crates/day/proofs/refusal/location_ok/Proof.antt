@@ -44,7 +44,10 @@ both-requires-3 c κs = search needs
 
 returns : tie.Need-returns
 unfolding locationOk
-returns c = let e = toZ-ofZ w32 (getD (c .before .before .before .before .before .before .before .before .before .before .before .before .args .demand .now) (c .before .before .before .before .before .before .before .before .before .before .before .before .args .k) (pos 0)) (sfits-of (c .before .before .before .before .before .before .before .before .demand-ok-arg .given)) in cc
+returns c =
+    let e = toZ-ofZ w32 (getD (c .before .before .before .before .before .before .before .before .before .before .before .before .args .demand .now)
+    (c .before .before .before .before .before .before .before .before .before .before .before .before .args .k) (pos 0)) (sfits-of
+    (c .before .before .before .before .before .before .before .before .demand-ok-arg .given)) in cc
 
 pub location-ok-spec : {M : Type 1} → statement M
 location-ok-spec =

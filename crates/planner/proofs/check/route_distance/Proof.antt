@@ -21,7 +21,9 @@ route-distance-requires c κs = drivable _ _ _ _ _ (sym (c .before .before .refu
 
 returns-2 : tie.Need-returns-2
 unfolding distanceAnswer
-returns-2 c = answered _ _ (c .before .before .before .refusal-of .result) _ _ (c .before .before .if1 .left) (c .before .before .before .refusal-of .ensures) (rw (c .route-distance .ensures, c .before .list-of .ensures))
+returns-2 c =
+    answered _ _ (c .before .before .before .refusal-of .result) _ _ (c .before .before .if1 .left) (c .before .before .before .refusal-of .ensures)
+    (rw (c .route-distance .ensures, c .before .list-of .ensures))
 
 pub route-distance-spec : {M : Type 1} → statement M
 route-distance-spec =

@@ -27,7 +27,10 @@ evaluated-as-requires c κs = search needs
 
 returns-2 : tie.Need-returns-2
 unfolding evalAnswer
-returns-2 c = answered _ _ (c .before .before .before .before .before .refusal-of .result) _ _ (c .before .before .before .before .if1 .left) (c .before .before .before .before .before .refusal-of .ensures) (rw (c .evaluated-as .ensures, c .before .route-eval .ensures, c .before .before .list-of .ensures, c .before .before .before .of .ensures))
+returns-2 c =
+    answered _ _ (c .before .before .before .before .before .refusal-of .result) _ _ (c .before .before .before .before .if1 .left)
+    (c .before .before .before .before .before .refusal-of .ensures) (rw
+    (c .evaluated-as .ensures, c .before .route-eval .ensures, c .before .before .list-of .ensures, c .before .before .before .of .ensures))
 
 pub route-eval-spec : {M : Type 1} → statement M
 route-eval-spec =

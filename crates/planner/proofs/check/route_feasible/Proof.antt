@@ -25,11 +25,19 @@ route-feasible-requires c κs = checkable _ _ _ _ _ (sym (c .before .before .bef
 
 returns-2 : tie.Need-returns-2
 unfolding feasibleAnswer
-returns-2 c = answered _ _ (c .before .before .before .before .before .refusal-of .result) _ _ (c .before .before .before .before .if1 .left) (c .before .before .before .before .before .refusal-of .ensures) (rw (← c .before .before .list-of .ensures, ← c .before .before .before .of .ensures, ← c .before .route-feasible .ensures) (picked _ _ _ _ (c .if2 .taken) refl))
+returns-2 c =
+    answered _ _ (c .before .before .before .before .before .refusal-of .result) _ _ (c .before .before .before .before .if1 .left)
+    (c .before .before .before .before .before .refusal-of .ensures) (rw
+    (← c .before .before .list-of .ensures, ← c .before .before .before .of .ensures, ← c .before .route-feasible .ensures) (picked _ _ _ _
+    (c .if2 .taken) refl))
 
 returns-3 : tie.Need-returns-3
 unfolding feasibleAnswer
-returns-3 c = answered _ _ (c .before .before .before .before .before .refusal-of .result) _ _ (c .before .before .before .before .if1 .left) (c .before .before .before .before .before .refusal-of .ensures) (rw (← c .before .before .list-of .ensures, ← c .before .before .before .of .ensures, ← c .before .route-feasible .ensures) (other _ _ _ _ (c .if2 .left) refl))
+returns-3 c =
+    answered _ _ (c .before .before .before .before .before .refusal-of .result) _ _ (c .before .before .before .before .if1 .left)
+    (c .before .before .before .before .before .refusal-of .ensures) (rw
+    (← c .before .before .list-of .ensures, ← c .before .before .before .of .ensures, ← c .before .route-feasible .ensures) (other _ _ _ _
+    (c .if2 .left) refl))
 
 pub route-feasible-spec : {M : Type 1} → statement M
 route-feasible-spec =

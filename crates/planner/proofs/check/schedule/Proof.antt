@@ -27,7 +27,10 @@ scheduled-as-requires c κs = search needs
 
 returns-2 : tie.Need-returns-2
 unfolding scheduleAnswer
-returns-2 c = answered _ _ (c .before .before .before .before .before .refusal-of .result) _ _ (c .before .before .before .before .if1 .left) (c .before .before .before .before .before .refusal-of .ensures) (rw (c .scheduled-as .ensures, c .before .outcome-of .ensures, c .before .before .list-of .ensures, c .before .before .before .of .ensures))
+returns-2 c =
+    answered _ _ (c .before .before .before .before .before .refusal-of .result) _ _ (c .before .before .before .before .if1 .left)
+    (c .before .before .before .before .before .refusal-of .ensures) (rw
+    (c .scheduled-as .ensures, c .before .outcome-of .ensures, c .before .before .list-of .ensures, c .before .before .before .of .ensures))
 
 pub schedule-spec : {M : Type 1} → statement M
 schedule-spec =

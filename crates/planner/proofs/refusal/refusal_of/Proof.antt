@@ -19,7 +19,9 @@ van-refusal-requires c κs = search needs
 
 returns-2 : tie.Need-returns-2
 unfolding refusal
-returns-2 c = first-none _ _ _ (sym (c .before .before .before .day-refusal .ensures) ∙ c .before .before .if1 .left) (rw (← c .before .van-refusal .ensures) (first-some _ _ (c .if2 .taken)))
+returns-2 c =
+    first-none _ _ _ (sym (c .before .before .before .day-refusal .ensures) ∙ c .before .before .if1 .left) (rw (← c .before .van-refusal .ensures)
+    (first-some _ _ (c .if2 .taken)))
 
 num-depots-requires : tie.Need-num-depots-requires
 num-depots-requires c κs = search needs
@@ -31,7 +33,10 @@ lists-refusal-requires c κs =
 
 returns-3 : tie.Need-returns-3
 unfolding refusal
-returns-3 c = first-none _ _ _ (sym (c .before .before .before .before .before .day-refusal .ensures) ∙ c .before .before .before .before .if1 .left) (first-none _ _ _ (sym (c .before .before .before .van-refusal .ensures) ∙ c .before .before .if2 .left) (c .lists-refusal .ensures ∙ rw (c .before .num-depots .ensures)))
+returns-3 c =
+    first-none _ _ _ (sym (c .before .before .before .before .before .day-refusal .ensures) ∙ c .before .before .before .before .if1 .left)
+    (first-none _ _ _ (sym (c .before .before .before .van-refusal .ensures) ∙ c .before .before .if2 .left) (c .lists-refusal .ensures ∙ rw
+    (c .before .num-depots .ensures)))
 
 pub refusal-of-spec : {M : Type 1} → statement M
 refusal-of-spec =
