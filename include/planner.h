@@ -68,6 +68,9 @@ struct planner_van {
     const uint16_t *lengths, size_t lengths_count, \
     size_t list
 
+/* The number of the first refusal of a call that asks for a list, 0 where there is none. */
+uint8_t planner_refusal(PLANNER_DAY, struct planner_van van, PLANNER_LIST);
+
 /* The list's distance: from the van's depot through its visits and back; 0 for an empty list. Limits and windows don't matter. */
 uint8_t planner_route_distance(PLANNER_DAY, struct planner_van van, PLANNER_LIST, double *distance);
 

@@ -9,11 +9,39 @@ use planner::check::Timetable;
 use planner::table::Table;
 ghost use mathlib.Core.Path.{_≡_};
 ghost use Rattle.day.specs.Day.{dayAt};
+ghost use Rattle.planner.specs.Refusal.{refusal};
 ghost use Rattle.planner.specs.Answer.{tableAnswer, distanceAnswer, feasibleAnswer, evalAnswer, scheduleAnswer};
 ghost use Rattle.planner_c.specs.Written.{distanceCode, distanceIn, feasibleCode, passesIn, evalCode, evalPasses, evalIn};
 ghost use Rattle.planner_c.specs.Written.{scheduleCode, foundIn, scheduleIn, takenIn, positionIn, startIn};
 ghost use Rattle.planner_c.specs.Written.{distanceOf, durationOf, latenessOf, latenessCostOf, takenCode, takenPosition, takenStart};
 ghost use Rattle.planner_c.specs.Written.{tableCode, scaleIn, floorIn, bitOf, symmetricIn, fixedIn, depotsIn};
+
+// The number of the first refusal, 0 where there is none.
+#[no_mangle]
+pub extern "C" fn planner_refusal(
+    l: usize,
+    flags: &[u8],
+    demand: &[i32],
+    service: &[f64],
+    ready: &[f64],
+    due: &[f64],
+    penalty: &[f64],
+    distances: &[f64],
+    times: &[f64],
+    van: Van,
+    visits: &[u16],
+    lengths: &[u16],
+    list: usize,
+) -> u8
+    ensures {
+        λ r.
+        ⌜ r ≡ refusal
+        (dayAt l (flags .entry) (demand .entry) (service .entry) (ready .entry) (due .entry) (penalty .entry) (distances .entry) (times .entry)) van
+        (now (visits .entry)) (now (lengths .entry)) list ⌝
+    }
+{
+    planner::refusal::refusal_of(l, flags, demand, service, ready, due, penalty, distances, times, van, visits, lengths, list)
+}
 
 // The distance of the list asked for.
 #[no_mangle]
