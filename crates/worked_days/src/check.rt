@@ -1,0 +1,286 @@
+// The runs that look at one list and change nothing.
+use crate::line;
+use crate::print::number;
+use crate::print::text;
+use day::vehicle::Van;
+use evaluation::label::Taken;
+use planner::check::Distance;
+use planner::check::Evaluated;
+use planner::check::Feasibility;
+use planner::check::Timetable;
+
+fn distance(words: &[u8], visits: &[u16], lengths: &[u16]) {
+    let flags = [1u8, 0, 0, 0, 0];
+    let demand = [1i32; 5];
+    let zeros = [0.0f64; 5];
+    let gaps = line::distances();
+    let van = line::van(0, 0.0, 0.0, 0.0);
+    let answer = planner::check::route_distance(
+        5,
+        &flags,
+        &demand,
+        &zeros,
+        &zeros,
+        &zeros,
+        &zeros,
+        &gaps,
+        &[],
+        van,
+        visits,
+        lengths,
+        0,
+    );
+    text(words);
+    match answer {
+        Distance::Refused(_) => {
+            text(b"refused\n");
+        }
+        Distance::Known(x) => {
+            number(x);
+            text(b"\n");
+        }
+    }
+}
+
+pub fn distances() {
+    distance(b"distance of 2,1,3: ", &[2u16, 1, 3], &[3u16]);
+    distance(b"distance of 1,2,3: ", &[1u16, 2, 3], &[3u16]);
+    distance(b"distance of 1,3,2,4: ", &[1u16, 3, 2, 4], &[4u16]);
+    distance(b"distance of 1,2,3,4: ", &[1u16, 2, 3, 4], &[4u16]);
+    distance(b"distance of the empty list: ", &[], &[0u16]);
+}
+
+fn passed(answer: Feasibility) {
+    match answer {
+        Feasibility::Refused(_) => {
+            text(b"refused\n");
+        }
+        Feasibility::Fails => {
+            text(b"fails\n");
+        }
+        Feasibility::Passes => {
+            text(b"passes\n");
+        }
+    }
+}
+
+// List 2, with a window from 0 to `closes` at place 2.
+fn window(words: &[u8], closes: f64) {
+    let flags = [1u8, 0, 2, 0, 0];
+    let demand = [1i32; 5];
+    let zeros = [0.0f64; 5];
+    let due = [0.0f64, 0.0, closes, 0.0, 0.0];
+    let gaps = line::distances();
+    let van = line::van(0, 0.0, 0.0, 0.0);
+    let answer = planner::check::route_feasible(
+        5,
+        &flags,
+        &demand,
+        &zeros,
+        &zeros,
+        &due,
+        &zeros,
+        &gaps,
+        &[],
+        van,
+        &[2u16],
+        &[1u16],
+        0,
+    );
+    text(words);
+    passed(answer);
+}
+
+pub fn windows() {
+    window(b"list 2, due 20: ", 20.0);
+    window(b"list 2, due 19: ", 19.0);
+}
+
+fn totals(distance: f64, duration: f64, lateness: f64, cost: f64) {
+    text(b"distance ");
+    number(distance);
+    text(b", duration ");
+    number(duration);
+    text(b", lateness ");
+    number(lateness);
+    text(b", cost ");
+    number(cost);
+    text(b"\n");
+}
+
+fn evaluated(answer: Evaluated) {
+    match answer {
+        Evaluated::Refused(_) => {
+            text(b"refused\n");
+        }
+        Evaluated::Fails => {
+            text(b"fails\n");
+        }
+        Evaluated::Passes {
+            distance: a,
+            duration: b,
+            lateness: c,
+            lateness_cost: d,
+        } => {
+            totals(a, b, c, d);
+        }
+    }
+}
+
+// List 2, with a soft window from 0 to 19 at place 2 and penalty 3.
+pub fn soft_window() {
+    let flags = [1u8, 0, 6, 0, 0];
+    let demand = [1i32; 5];
+    let zeros = [0.0f64; 5];
+    let due = [0.0f64, 0.0, 19.0, 0.0, 0.0];
+    let penalty = [0.0f64, 0.0, 3.0, 0.0, 0.0];
+    let gaps = line::distances();
+    let van = line::van(0, 0.0, 0.0, 0.0);
+    let answer = planner::check::route_eval(
+        5,
+        &flags,
+        &demand,
+        &zeros,
+        &zeros,
+        &due,
+        &penalty,
+        &gaps,
+        &[],
+        van,
+        &[2u16],
+        &[1u16],
+        0,
+    );
+    text(b"list 2, due 19, penalty 3: ");
+    evaluated(answer);
+}
+
+fn rested(rest: Taken) {
+    match rest {
+        Taken::Untaken => {
+            text(b"left out");
+        }
+        Taken::At(position, start) => {
+            text(b"taken at ");
+            number(start);
+            text(b" before visit ");
+            io::print_decimal(1, position as u64);
+        }
+    }
+}
+
+fn scheduled(answer: Timetable) {
+    match answer {
+        Timetable::Refused(_) => {
+            text(b"refused\n");
+        }
+        Timetable::Impossible => {
+            text(b"impossible\n");
+        }
+        Timetable::Possible {
+            distance: _,
+            duration: back,
+            lateness: _,
+            lateness_cost: _,
+            rest: rest,
+        } => {
+            rested(rest);
+            text(b", back at ");
+            number(back);
+            text(b"\n");
+        }
+    }
+}
+
+// List 1 with a break.
+fn rest(words: &[u8], van: Van) {
+    let flags = [1u8, 0, 0, 0, 0];
+    let demand = [1i32; 5];
+    let zeros = [0.0f64; 5];
+    let gaps = line::distances();
+    let answer = planner::check::schedule(
+        5,
+        &flags,
+        &demand,
+        &zeros,
+        &zeros,
+        &zeros,
+        &zeros,
+        &gaps,
+        &[],
+        van,
+        &[1u16],
+        &[1u16],
+        0,
+    );
+    text(words);
+    scheduled(answer);
+}
+
+// The empty list of a depot whose distance to itself is 5, with a break.
+fn rest_of_none(words: &[u8], van: Van) {
+    let zeros = [0.0f64];
+    let five = [5.0f64];
+    let answer = planner::check::schedule(
+        1,
+        &[1u8],
+        &[0i32],
+        &zeros,
+        &zeros,
+        &zeros,
+        &zeros,
+        &five,
+        &[],
+        van,
+        &[],
+        &[0u16],
+        0,
+    );
+    text(words);
+    scheduled(answer);
+}
+
+pub fn breaks() {
+    rest(
+        b"list 1, break 20 to 90 for 30: ",
+        line::van(4, 20.0, 90.0, 30.0),
+    );
+    rest(
+        b"list 1, break 19 to 90 for 30: ",
+        line::van(4, 19.0, 90.0, 30.0),
+    );
+    rest_of_none(
+        b"empty list, 5 from depot to depot, break 5 to 90 for 30: ",
+        line::van(4, 5.0, 90.0, 30.0),
+    );
+    rest_of_none(
+        b"empty list, 5 from depot to depot, break 4 to 90 for 30: ",
+        line::van(4, 4.0, 90.0, 30.0),
+    );
+}
+
+// Arrival at 2^-53, ready at 1 + 2^-52, and no way back: arrival plus waiting rounds to 1.
+pub fn roundings() {
+    let zeros = [0.0f64; 2];
+    let ready = [0.0f64, 1.0000000000000002];
+    let due = [0.0f64, 90.0];
+    let distances = [0.0f64, 0.00000000000000011102230246251565, 0.0, 0.0];
+    let van = line::van(0, 0.0, 0.0, 0.0);
+    let answer = planner::check::schedule(
+        2,
+        &[1u8, 2],
+        &[0i32, 1],
+        &zeros,
+        &ready,
+        &due,
+        &zeros,
+        &distances,
+        &[],
+        van,
+        &[1u16],
+        &[1u16],
+        0,
+    );
+    text(b"arrival 2^-53, ready 1 + 2^-52, no break to take: ");
+    scheduled(answer);
+}
