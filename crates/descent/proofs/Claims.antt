@@ -24,7 +24,7 @@ use lib.Dec.{eqb}
 
 -- ---- the dropping
 
-handed-total : (f : List ℕ → ℕ) → f [] ≡ 0 → (e : Engine) (x : State e) → total f (lists e (handed e x)) ≡ total f (lists e x)
+pub handed-total : (f : List ℕ → ℕ) → f [] ≡ 0 → (e : Engine) (x : State e) → total f (lists e (handed e x)) ≡ total f (lists e x)
 handed-total f z two-opt x = refl
 handed-total f z three-opt x = refl
 handed-total f z (or-opt last) x = refl

@@ -33,14 +33,26 @@ pub extern "C" fn planner_refusal(
     lengths: &[u16],
     list: usize,
 ) -> u8
-    ensures {
-        λ r.
+    ensures { λ r.
         ⌜ r ≡ refusal
         (dayAt l (flags .entry) (demand .entry) (service .entry) (ready .entry) (due .entry) (penalty .entry) (distances .entry) (times .entry)) van
-        (now (visits .entry)) (now (lengths .entry)) list ⌝
-    }
+        (now (visits .entry)) (now (lengths .entry)) list ⌝ }
 {
-    planner::refusal::refusal_of(l, flags, demand, service, ready, due, penalty, distances, times, van, visits, lengths, list)
+    planner::refusal::refusal_of(
+        l,
+        flags,
+        demand,
+        service,
+        ready,
+        due,
+        penalty,
+        distances,
+        times,
+        van,
+        visits,
+        lengths,
+        list,
+    )
 }
 
 // The distance of the list asked for.

@@ -33,9 +33,13 @@ unfolding tableAnswer
 returns-2 c =
     answered _ _ (c .before .before .before .before .before .before .day-and-van-refusal .result) _ _
     (c .before .before .before .before .before .if1 .left) (c .before .before .before .before .before .before .day-and-van-refusal .ensures)
-    (rw
-    (c .before .before .before .gain-floor .ensures, c .before .before .before .before .scale .ensures, c .before .before .is-symmetric .ensures,
-    c .before .fixed-cost-in-distance .ensures, c .num-depots .ensures))
+    (rw (
+      c .before .before .before .gain-floor .ensures,
+      c .before .before .before .before .scale .ensures,
+      c .before .before .is-symmetric .ensures,
+      c .before .fixed-cost-in-distance .ensures,
+      c .num-depots .ensures,
+    ))
 
 pub table-of-spec : {M : Type 1} → statement M
 table-of-spec =
