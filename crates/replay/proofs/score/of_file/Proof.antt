@@ -1,0 +1,66 @@
+-- `replay::score::of_file` is safe and ends: the days left fall.
+use Prim.Native.Nat.{_-_}
+use borrow.Author.Needs.{needs}
+use Rattle.replay.proofs.score.of_file.Statement.{statement}
+use Rattle.replay.proofs.score.of_file.Tie as tie
+
+abbrev Inv-loop : tie.InvT-loop
+Inv-loop «data» tag days score₀ at₀ i₀ score at i = Unit
+
+abbrev μ-loop : tie.MeasureT-loop
+μ-loop «data» tag days score₀ at₀ i₀ score at i = days - i
+
+pair-requires : tie.Need-pair-requires Inv-loop μ-loop
+pair-requires c κs = search needs
+
+loop-holds : tie.Need-loop-holds Inv-loop μ-loop
+loop-holds c = search needs
+
+pair-requires-2 : tie.Need-pair-requires-2 Inv-loop μ-loop
+pair-requires-2 c κs = search needs
+
+behind-requires : tie.Need-behind-requires Inv-loop μ-loop
+behind-requires c κs = search needs
+
+part-requires : tie.Need-part-requires Inv-loop μ-loop
+part-requires c κs = search needs
+
+of-day-requires : tie.Need-of-day-requires Inv-loop μ-loop
+of-day-requires c κs = search needs
+
+behind-requires-2 : tie.Need-behind-requires-2 Inv-loop μ-loop
+behind-requires-2 c κs = search needs
+
+behind-requires-3 : tie.Need-behind-requires-3 Inv-loop μ-loop
+behind-requires-3 c κs = search needs
+
+add-i : tie.Need-add-i Inv-loop μ-loop
+add-i c = search needs
+
+loop-less : tie.Need-loop-less Inv-loop μ-loop
+loop-less c = search needs
+
+loop-again : tie.Need-loop-again Inv-loop μ-loop
+loop-again c = search needs
+
+returns : tie.Need-returns Inv-loop μ-loop
+returns c = search needs
+
+pub of-file-spec : {M : Type 1} → statement M
+of-file-spec =
+    tie.close
+    (tie.spec
+    Inv-loop
+    μ-loop
+    pair-requires
+    loop-holds
+    pair-requires-2
+    behind-requires
+    part-requires
+    of-day-requires
+    behind-requires-2
+    behind-requires-3
+    add-i
+    loop-less
+    loop-again
+    returns)

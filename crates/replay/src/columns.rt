@@ -1,0 +1,123 @@
+// The parts of a day as tables to lend. Each is read whole, zeros behind what the day has, and lent as its beginning.
+use crate::bytes::byte_at;
+use crate::bytes::number;
+use crate::bytes::part;
+use crate::bytes::value;
+use day::vehicle::Van;
+ghost use mathlib.Core.Path.{_≡_};
+ghost use lib.ListN.{length};
+
+// A column of `n` numbers at a position.
+pub fn numbers(table: &[u8], day: &[u8], at: usize, n: usize) -> [f64; 64]
+    ensures { λ r. ⌜ 64 ≡ length r ⌝ }
+{
+    let bytes = part(day, at, n);
+    let mut column = [0.0f64; 64];
+    let mut i = 0;
+    while i < 64 {
+        column[i] = number(table, byte_at(bytes, i));
+        i += 1;
+    }
+    column
+}
+
+// A table of numbers, a row after another.
+pub fn rows(table: &[u8], day: &[u8], at: usize, n: usize) -> [f64; 4096]
+    ensures { λ r. ⌜ 4096 ≡ length r ⌝ }
+{
+    let bytes = part(day, at, n);
+    let mut entries = [0.0f64; 4096];
+    let mut i = 0;
+    while i < 4096 {
+        entries[i] = number(table, byte_at(bytes, i));
+        i += 1;
+    }
+    entries
+}
+
+// A whole number, -1 where it is too large: a demand or capacity that is refused.
+fn signed(value: u64) -> i32 {
+    if value < 2147483648 {
+        return value as i32;
+    }
+    -1
+}
+
+pub fn demands(table: &[u8], day: &[u8], at: usize, n: usize) -> [i32; 64]
+    ensures { λ r. ⌜ 64 ≡ length r ⌝ }
+{
+    let bytes = part(day, at, n);
+    let mut column = [0i32; 64];
+    let mut i = 0;
+    while i < 64 {
+        column[i] = signed(value(table, byte_at(bytes, i)));
+        i += 1;
+    }
+    column
+}
+
+fn place(byte: u8) -> u16 {
+    byte as u16
+}
+
+// Visits, or lengths of lists.
+pub fn places(day: &[u8], at: usize, n: usize) -> [u16; 64]
+    ensures { λ r. ⌜ 64 ≡ length r ⌝ }
+{
+    let bytes = part(day, at, n);
+    let mut column = [0u16; 64];
+    let mut i = 0;
+    while i < 64 {
+        column[i] = place(byte_at(bytes, i));
+        i += 1;
+    }
+    column
+}
+
+// The first `n` numbers, none where there are fewer.
+pub fn first_numbers(column: &[f64], n: usize) -> &[f64] {
+    if n > column.len() {
+        return &column[0..0];
+    }
+    &column[0..n]
+}
+
+pub fn first_demands(column: &[i32], n: usize) -> &[i32] {
+    if n > column.len() {
+        return &column[0..0];
+    }
+    &column[0..n]
+}
+
+pub fn first_places(column: &[u16], n: usize) -> &[u16] {
+    if n > column.len() {
+        return &column[0..0];
+    }
+    &column[0..n]
+}
+
+// An id, 0 where it is too large.
+fn id(value: u64) -> u32 {
+    if value < 4294967296 {
+        return value as u32;
+    }
+    0
+}
+
+// The van at a position.
+pub fn van(table: &[u8], day: &[u8], at: usize) -> Van {
+    let bytes = part(day, at, 11);
+    Van {
+        id: id(value(table, byte_at(bytes, 0))),
+        depot: value(table, byte_at(bytes, 1)) as usize,
+        capacity: signed(value(table, byte_at(bytes, 2))),
+        cost_per_distance: number(table, byte_at(bytes, 3)),
+        fixed_cost: number(table, byte_at(bytes, 4)),
+        flags: byte_at(bytes, 5),
+        max_distance: number(table, byte_at(bytes, 6)),
+        max_duration: number(table, byte_at(bytes, 7)),
+        earliest: number(table, byte_at(bytes, 8)),
+        latest: number(table, byte_at(bytes, 9)),
+        duration: number(table, byte_at(bytes, 10)),
+    }
+}

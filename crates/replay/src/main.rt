@@ -1,0 +1,35 @@
+// The stored sample of the published Rust's answers (oracle/README.md, 'The stored sample'), replayed through the planner's entries and compared bit for bit.
+// It prints how many runs of each kind agree and how many differ, or only `malformed` where the file isn't of that form. Each kind has its own pass over
+// the file, so that a pass carries two counts and nothing else. Every read is tested: no file, whatever its bytes, can be read outside of.
+mod bytes; // bytes by position, words and numbers
+mod layout; // where the parts of a day lie
+mod columns; // the parts of a day as tables to lend
+mod whole; // whether the file has the stored form
+mod runs; // one function for each kind of run
+mod score; // how many runs of a kind agree
+
+fn line(kind: &[u8], data: &[u8], tag: u8) {
+    let score = score::of_file(data, tag);
+    io::write_all(1, kind);
+    io::print_decimal(1, score.agree);
+    io::write_all(1, b" agree, ");
+    io::print_decimal(1, score.differ);
+    io::write_all(1, b" differ\n");
+}
+
+fn replay(data: &[u8]) {
+    if !whole::file_is_whole(data) {
+        io::write_all(1, b"malformed\n");
+        return;
+    }
+    line(b"feasible ", data, runs::FEASIBLE);
+    line(b"eval ", data, runs::EVAL);
+    line(b"schedule ", data, runs::SCHEDULE);
+    line(b"distance ", data, runs::DISTANCE);
+}
+
+fn main() {
+    let mut buffer = io::large_buffer();
+    let n = io::read_full(0, &mut buffer);
+    replay(&buffer[..n]);
+}
