@@ -12,7 +12,10 @@ after made r = record { word = r .word; moves = made + r .moves; last = r .last 
 
 -- none is made yet
 pub begins : {S : Type 0} (step : S → Option S) (limit : ℕ) (s : S) → after 0 (run step (limit - 0) s) ≡ run step limit s
-begins step limit s = let e : limit - 0 ≡ limit = omega arith in rw e
+begins step limit s =
+    let e : limit - 0 ≡ limit = omega arith in
+    let z : 0 + run step limit s .moves ≡ run step limit s .moves = omega arith in
+    rw (e, z) refl
 
 module _ {S : Type 0} (step : S → Option S) (limit made : ℕ) (s : S) where
   -- no move is left

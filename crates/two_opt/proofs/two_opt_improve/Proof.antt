@@ -22,13 +22,13 @@ run-moves-requires c κs =
     let pre = c .before .before .before .before .before .before .before .before .before .before .before .before .before .pre in (
       record {
         formed = pre .0;
-        depot-there = pre .1 .0;
-        plain = pre .2;
+        depot-there = pre .1 .0 .0;
+        plain = pre .1 .1;
         floor = rw (c .before .before .before .gain-floor .ensures, c .before .before .before .before .scale .ensures);
         symmetric = c .before .before .is-symmetric .ensures;
         needed = c .before .route-checks-needed .ensures;
       },
-      pre .1 .1,
+      pre .1 .0 .1,
     )
 
 same-length : tie.Need-same-length
