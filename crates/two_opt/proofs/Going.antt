@@ -17,7 +17,7 @@ use Rattle.two_opt.specs.declared.Found.{Found}
 use Rattle.two_opt.specs.declared.Found.the-variants.{At, Nothing}
 use Rattle.two_opt.specs.TwoOpt.{placeAfter, from, turnedAt, nextTurn, led, Searched}
 use Rattle.two_opt.proofs.Runs.{after, ends-settled, ends-stopped, goes-on}
-use Rattle.two_opt.proofs.Turns.{left-as-it-was, left-turned, turned-back, turned-length}
+use Rattle.two_opt.proofs.Turns.{left-as-it-was, left-turned, turned-back}
 
 -- the list and the answer that a whole run hands back
 abbrev pub Answers : Outcome (Sweep (List ℕ) Reversal) → List ℕ → Ended → Type 0
@@ -47,12 +47,11 @@ module _ (c : Columns) (t : Terms) (limit made : ℕ) (xs ys : List ℕ) (ahead 
     pub stops : limit ≤ made → (zs : List ℕ) → zs ≡ turnedAt ys p → Answers whole zs (Stopped made)
     unfolding endedAs
     stops used zs back =
-        let turned-here = left-turned p s e in
+        let turn = left-turned p s e in
         let all = sym so-far ∙ ends-stopped (nextTurn c t) limit made _ next-state one-left used in
-        rw all (turned-back xs ys zs p (turned-here .1) (turned-here .2) (turned-here .0) back, refl)
+        rw all (turned-back xs ys zs p (turn .ordered) (turn .there) (turn .becomes) back, refl)
 
     pub goes : made < limit → rest c t limit (made + 1) ys (placeAfter (length xs) p) ≡ whole
     goes more =
-        let turned-here = left-turned p s e in
-        let long : length ys ≡ length xs = ap length (turned-here .0) ∙ turned-length xs p (turned-here .1) in
-        rw (long, turned-here .0) (sym (goes-on (nextTurn c t) limit made _ next-state one-left more) ∙ so-far)
+        let turn = left-turned p s e in
+        rw (turn .same-length, turn .becomes) (sym (goes-on (nextTurn c t) limit made _ next-state one-left more) ∙ so-far)

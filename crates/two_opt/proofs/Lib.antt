@@ -3,3 +3,4 @@ pub mod Turns
 pub mod Runs
 pub mod Tried
 pub mod Going
+pub mod Claimed

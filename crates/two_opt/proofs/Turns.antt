@@ -94,13 +94,18 @@ pub left-as-it-was : {m : Option (Sweep (List ℕ) Reversal)} {xs ys : List ℕ}
 unfolding leaves
 left-as-it-was s e = rw e at (s .left)
 
-pub left-turned : {m : Option (Sweep (List ℕ) Reversal)} {xs ys : List ℕ} {r : Found} (p : Place) → Searched m xs ys r → r ≡ At p
-    → (ys ≡ turnedAt xs p) × (p .first < p .last) × (p .last < length xs)
+pub record Turned (xs ys : List ℕ) (p : Place) : Type 0 where
+  pub becomes : ys ≡ turnedAt xs p
+  pub ordered : p .first < p .last
+  pub there : p .last < length xs
+  pub same-length : length ys ≡ length xs
+
+pub left-turned : {m : Option (Sweep (List ℕ) Reversal)} {xs ys : List ℕ} {r : Found} (p : Place) → Searched m xs ys r → r ≡ At p → Turned xs ys p
 unfolding leaves Inside
-left-turned p s e =
+left-turned {xs = xs} p s e =
     let turned-here = rw e at (s .left) in
     let inside = rw e at (s .inside) in
-    (turned-here, inside .0, inside .1)
+    record { becomes = turned-here; ordered = inside .0; there = inside .1; same-length = ap length turned-here ∙ turned-length xs p (inside .0) }
 
 -- the next move is ahead; or the first of a new sweep
 pub found-ahead : (c : Columns) (t : Terms) (xs ys : List ℕ) (ps : List Reversal) (r : Found) (p : Place) → r ≡ At p

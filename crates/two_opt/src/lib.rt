@@ -94,11 +94,12 @@ fn try_reversal(
     let limits = terms.limits;
     let first = place.first;
     let last = place.last;
+    let end = last + 1;
     let delta = two_opt_delta(l, distances, terms.symmetric, depot, list, first, last);
     if !counts_as_gain(delta, terms.floor) {
         return false;
     }
-    reverse(list, first, last + 1);
+    reverse(list, first, end);
     if passes(
         terms.needed,
         l,
@@ -115,7 +116,7 @@ fn try_reversal(
     ) {
         return true;
     }
-    reverse(list, first, last + 1);
+    reverse(list, first, end); // refused, so turned back
     false
 }
 
@@ -174,15 +175,15 @@ fn next_move(
     distances: &[f64],
     times: &[f64],
     list: &mut [u16],
-    ahead: Place,
+    start: Place,
 ) -> Found
     requires { ⌜ Worked (columnsAt (terms .l) flags service ready due penalty distances times) terms × Visits (terms .l) (now list) ⌝ }
-    requires { ⌜ InSweep (length (now list)) ahead ⌝ }
+    requires { ⌜ InSweep (length (now list)) start ⌝ }
     ensures { λ r.
         ⌜ Searched
         (nextTurn
         (columnsAt (terms .l) (flags .entry) (service .entry) (ready .entry) (due .entry) (penalty .entry) (distances .entry) (times .entry)) terms
-        (record { now = now (list .entry); ahead = from (length (now (list .entry))) ahead }))
+        (record { now = now (list .entry); ahead = from (length (now (list .entry))) start }))
         (now (list .entry)) (now (list .exit)) r ⌝ }
 {
     let found = first_move(
@@ -195,7 +196,7 @@ fn next_move(
         distances,
         times,
         list,
-        ahead,
+        start,
     );
     if let Found::At(place) = found {
         return Found::At(place);

@@ -1,9 +1,7 @@
 -- `first_move`: the first move from the place at hand on is the first from the start on, and the list is as it was. The measure is how many places are
 -- left.
 use borrow.Author.Needs.{needs}
-use native.Mathlib.Omega.{arith}
-use Prim.Native.Nat.{ℕ}
-use mathlib.Core.Path.{_≡_, refl, sym, ap, _∙_}
+use mathlib.Core.Path.{_≡_, refl, ap, _∙_}
 use lib.ListN.{length}
 use Rattle.evaluation.specs.Columns.{columns}
 use Rattle.two_opt.specs.TwoOpt.{InSweep, from, firstTurn, leaves, Inside}
@@ -26,29 +24,44 @@ loop-holds c = (refl, refl, c .before .before .before .before .before .before .b
 
 try-reversal-requires : tie.Need-try-reversal-requires Inv-loop μ-loop
 try-reversal-requires c κs =
-    let pre = c .before .before .before .before .before .before .before .before .before .before .before .before .pre in
-    let inv = c .before .before .before .loop .inv in
-    (rw (inv .0) (pre .0), rw (inv .0) (inv .2 .ordered, c .before .if1 .taken))
+    let at-test = c .before in
+    let at-loop = at-test .before .before in
+    let pre = at-loop .before .before .before .before .before .before .before .before .before .pre in
+    let inv = at-loop .loop .inv in
+    (rw (inv .0) (pre .0), rw (inv .0) (inv .2 .ordered, at-test .if1 .taken))
 
 same-length : tie.Need-same-length Inv-loop μ-loop
-same-length c = c .before .before .before .try-reversal .kept .1 .1 .1 .1 .1 .1 .1 .1 .0 ∙ ap length (c .before .before .before .before .before .before .before .loop .inv .0)
+same-length c =
+    let at = c .before .before .before in
+    at .try-reversal .kept .1 .1 .1 .1 .1 .1 .1 .1 .0 ∙ ap length (at .before .before .before .before .loop .inv .0)
 
 returns : tie.Need-returns Inv-loop μ-loop
 returns c =
-    let inv = c .before .before .before .before .before .before .before .loop .inv in
-    found-here _ _ _ _ _ _ (inv .0) (inv .2 .ordered) (c .before .before .before .before .before .if1 .taken) (inv .3) _ (c .before .before .before .try-reversal .ensures .0) (c .before .before .before .try-reversal .ensures .1) (c .if2 .taken)
+    let at = c .before .before .before in
+    let at-test = at .before .before in
+    let inv = at-test .before .before .loop .inv in
+    found-here _ _ _ _ _ _ (inv .0) (inv .2 .ordered) (at-test .if1 .taken) (inv .3) _ (at .try-reversal .ensures .0) (at .try-reversal .ensures .1)
+    (c .if2 .taken)
 
 place-after-requires : tie.Need-place-after-requires Inv-loop μ-loop
-place-after-requires c κs = (c .before .before .before .before .before .before .before .loop .inv .2 .ordered, c .before .before .before .before .before .if1 .taken)
+place-after-requires c κs =
+    let at-test = c .before .before .before .before .before in
+    (at-test .before .before .loop .inv .2 .ordered, at-test .if1 .taken)
 
 loop-less : tie.Need-loop-less Inv-loop μ-loop
-loop-less c = rw (c .place-after .ensures) (left-less _ _ (c .before .before .before .before .before .before .before .before .loop .inv .2 .ordered) (c .before .before .before .before .before .before .if1 .taken))
+loop-less c =
+    let at-test = c .before .before .before .before .before .before in
+    rw (c .place-after .ensures) (left-less _ _ (at-test .before .before .loop .inv .2 .ordered) (at-test .if1 .taken))
 
 loop-again : tie.Need-loop-again Inv-loop μ-loop
 loop-again c =
-    let inv = c .before .before .before .before .before .before .before .before .loop .inv in
-    let next = not-here _ _ _ _ _ _ (inv .0) (inv .2 .ordered) (c .before .before .before .before .before .before .if1 .taken) (inv .3) _ (c .before .before .before .before .try-reversal .ensures .0) (c .before .before .before .before .try-reversal .ensures .1) (c .before .if2 .left) in
-    rw (c .place-after .ensures) (next .0, refl, still-in _ _ (inv .2 .ordered) (c .before .before .before .before .before .before .if1 .taken), next .1)
+    let at = c .before .before .before .before in
+    let at-test = at .before .before in
+    let inv = at-test .before .before .loop .inv in
+    let rest =
+    not-here _ _ _ _ _ _ (inv .0) (inv .2 .ordered) (at-test .if1 .taken) (inv .3) _ (at .try-reversal .ensures .0) (at .try-reversal .ensures .1)
+    (c .before .if2 .left) in
+    rw (c .place-after .ensures) (rest .0, refl, still-in _ _ (inv .2 .ordered) (at-test .if1 .taken), rest .1)
 
 same-length-2 : tie.Need-same-length-2 Inv-loop μ-loop
 same-length-2 c = ap length (c .before .before .loop .inv .0)

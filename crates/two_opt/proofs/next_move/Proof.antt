@@ -21,13 +21,20 @@ enum-told : tie.Need-enum-told
 enum-told c = search needs
 
 first-move-requires-2 : tie.Need-first-move-requires-2
-first-move-requires-2 c κs = (rw (left-as-it-was (c .before .before .before .before .before .first-move .ensures) (c .before .enum-told .given .1)) (c .before .before .before .before .before .before .before .before .before .before .before .before .before .before .before .pre .0), start-in _)
+first-move-requires-2 c κs =
+    let at-first = c .before .before .before .before .before in
+    let pre = at-first .before .before .before .before .before .before .before .before .before .before .pre in
+    (rw (left-as-it-was (at-first .first-move .ensures) (c .before .enum-told .given .1)) (pre .0), start-in _)
 
 same-length-2 : tie.Need-same-length-2
 same-length-2 c = search needs
 
 returns-2 : tie.Need-returns-2
-returns-2 c = found-anew _ _ _ _ _ _ _ _ (c .before .before .before .before .enum-told .given .1) (c .before .before .before .before .before .before .before .before .first-move .ensures) (c .before .before .first-move2 .ensures)
+returns-2 c =
+    let at-second = c .before .before in
+    let at-told = at-second .before .before in
+    let at-first = at-told .before .before .before .before in
+    found-anew _ _ _ _ _ _ _ _ (at-told .enum-told .given .1) (at-first .first-move .ensures) (at-second .first-move2 .ensures)
 
 pub next-move-spec : {M : Type 1} → statement M
 next-move-spec =

@@ -19,12 +19,13 @@ route-checks-needed-requires c κs = search needs
 
 run-moves-requires : tie.Need-run-moves-requires
 run-moves-requires c κs =
-    let pre = c .before .before .before .before .before .before .before .before .before .before .before .before .before .pre in (
+    let at-scale = c .before .before .before .before in
+    let pre = at-scale .before .before .before .before .before .before .before .before .before .pre in (
       record {
         formed = pre .0;
         depot-there = pre .1 .0 .0;
         plain = pre .1 .1;
-        floor = rw (c .before .before .before .gain-floor .ensures, c .before .before .before .before .scale .ensures);
+        floor = rw (c .before .before .before .gain-floor .ensures, at-scale .scale .ensures);
         symmetric = c .before .before .is-symmetric .ensures;
         needed = c .before .route-checks-needed .ensures;
       },
