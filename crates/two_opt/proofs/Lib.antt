@@ -1,0 +1,6 @@
+pub mod Places
+pub mod Turns
+pub mod Runs
+pub mod Tried
+pub mod Going
+pub mod Claimed

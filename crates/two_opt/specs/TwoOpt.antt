@@ -1,0 +1,98 @@
+-- 2-opt as the code walks it: its places one after another, what a search from a place on answers, and the constants of a run. Assumes nothing.
+use mathlib.Core.Path.{_≡_}
+use mathlib.Core.Bool.{Bool, true, cond}
+use mathlib.Core.Option.{Option, none, some}
+use mathlib.Core.List.{List, []}
+use Prim.Native.Nat.{ℕ, _+_, _<_, _≤_}
+use lib.Dec.{ltb}
+use lib.ListN.{length}
+use lib.Ieee.{Float}
+use Rattle.numbers.specs.Operations.{zero64}
+use Rattle.numbers.specs.Floor.{gainFloor}
+use Rattle.day.specs.Matrix.{scaleOf, symmetric}
+use Rattle.day.specs.Refusal.{allPlain}
+use Rattle.edits.specs.Edits.{reversed}
+use Rattle.evaluation.specs.Columns.{Columns, Formed}
+use Rattle.evaluation.specs.Route.{checksNeeded}
+use Rattle.descent.specs.Permitted.{two-opt}
+use Rattle.descent.specs.Search.{Search, Judge, Sweep, ok, firstMove, next}
+use Rattle.descent.specs.Within.{Reversal, two-opt-search}
+use Rattle.descent.proofs.Loops.{reversals-from}
+use Rattle.deltas.specs.Judged.{float-judge}
+use Rattle.engine.specs.Engine.{checksOf, mapOf}
+use Rattle.two_opt.specs.declared.Terms.{Terms}
+use Rattle.two_opt.specs.declared.Place.{Place}
+use Rattle.two_opt.specs.declared.Found.{Found}
+use Rattle.two_opt.specs.declared.Found.the-variants.{At, Nothing}
+
+-- what a run works out once, before its first move, from the day's columns and the van
+pub record Worked (c : Columns) (t : Terms) : Type 0 where
+  pub formed : Formed c
+  pub depot-there : t .depot < c .l
+  pub plain : allPlain (c .distances) ≡ true
+  pub floor : t .floor ≡ gainFloor (scaleOf (c .distances))
+  pub symmetric : t .symmetric ≡ symmetric (c .l) (c .distances)
+  pub needed : t .needed ≡ checksNeeded (c .flags) (t .limits)
+
+-- the search and the judge of 2-opt on these columns
+abbrev pub searching : Columns → Terms → Search (List ℕ) Reversal Reversal
+searching c t = two-opt-search (checksOf [] c (t .limits) (t .depot))
+
+abbrev pub judging : Columns → Terms → Judge (List ℕ) Reversal Float
+judging c t = float-judge two-opt (mapOf (c .l) (c .distances) (t .depot) zero64)
+
+-- ---- places
+
+-- the reversal of a place
+abbrev pub reversalAt : Place → Reversal
+reversalAt p = record { first = p .first; last = p .last }
+
+-- the place that follows in a sweep of n visits: the next end of the row, or the first of the next row
+unfoldable pub placeAfter : ℕ → Place → Place
+placeAfter n p = cond (ltb (p .last + 1) n) (record { first = p .first; last = p .last + 1 }) (record { first = p .first + 1; last = p .first + 2 })
+
+-- a place of a sweep of n visits; or, where its end is past the last visit, the end of the sweep
+pub record InSweep (n : ℕ) (p : Place) : Type 0 where
+  pub ordered : p .first < p .last
+  pub ends : n ≤ p .last → n ≤ p .first + 1
+
+-- the places from one on
+unfoldable pub from : ℕ → Place → List Reversal
+from n p = reversals-from n (p .first) (p .last)
+
+-- ---- moves
+
+-- whether the reversal at a place counts as a gain and passes
+unfoldable pub gains : Columns → Terms → List ℕ → Place → Bool
+gains c t xs p = ok (searching c t) (judging c t) xs (reversalAt p)
+
+-- the list with the visits of a place turned round
+abbrev pub turnedAt : List ℕ → Place → List ℕ
+turnedAt xs p = reversed (p .first) (p .last + 1) xs
+
+-- the first move at some places, and the next move of a run
+unfoldable pub firstTurn : Columns → Terms → List ℕ → List Reversal → Option (Sweep (List ℕ) Reversal)
+firstTurn c t = firstMove (searching c t) (judging c t)
+
+unfoldable pub nextTurn : Columns → Terms → Sweep (List ℕ) Reversal → Option (Sweep (List ℕ) Reversal)
+nextTurn c t = next (searching c t) (judging c t)
+
+-- what a search that found a place leads to, and what it leaves of the list
+unfoldable pub led : List ℕ → Found → Option (Sweep (List ℕ) Reversal)
+led xs Nothing = none
+led xs (At p) = some (record { now = turnedAt xs p; ahead = from (length xs) (placeAfter (length xs) p) })
+
+unfoldable pub leaves : List ℕ → Found → List ℕ
+leaves xs Nothing = xs
+leaves xs (At p) = turnedAt xs p
+
+-- a place that was found has its visits
+unfoldable pub Inside : ℕ → Found → Type 0
+Inside n Nothing = Unit {0}
+Inside n (At p) = (p .first < p .last) × (p .last < n)
+
+-- a search that should lead to `move` has found this, and made it of the list
+pub record Searched (move : Option (Sweep (List ℕ) Reversal)) (before after : List ℕ) (found : Found) : Type 0 where
+  pub leads : led before found ≡ move
+  pub left : after ≡ leaves before found
+  pub inside : Inside (length before) found
