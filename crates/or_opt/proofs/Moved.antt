@@ -19,10 +19,6 @@ pub is-put : (xs : List ℕ) (p : Piece) → putBefore (p .from) (p .size) (p .t
 unfolding putBefore
 is-put xs p = refl
 
-pub length-moved : (xs : List ℕ) (p : Piece) → Fits (length xs) p → length (put-before xs p) ≡ length xs
-length-moved xs p fits =
-    rw (← (is-put xs p)) (same-length xs (putBefore (p .from) (p .size) (p .to) xs) (same-putBefore (p .from) (p .size) (p .to) xs (fits .apart)))
-
 pub visits-moved : (l : ℕ) (xs : List ℕ) (p : Piece) → Visits l xs → Fits (length xs) p → Visits l (put-before xs p)
 visits-moved l xs p v fits =
     let ys = putBefore (p .from) (p .size) (p .to) xs in

@@ -18,7 +18,7 @@ module _ {S : Type 0} (step : S → Option S) (limit : ℕ) (start : S) where
     pub last : run step fuel s .last ≡ run step limit start .last
 
   -- what the run answers, where it ends at s after so many moves
-  pub Answered : Ended → S → Type 0
+  abbrev pub Answered : Ended → S → Type 0
   Answered r s = (s ≡ run step limit start .last) × (r ≡ endedAs (run step limit start .word) (run step limit start .moves))
 
   pub going-starts : Going 0 start
@@ -26,7 +26,6 @@ module _ {S : Type 0} (step : S → Option S) (limit : ℕ) (start : S) where
 
   ended : (moves : ℕ) (s : S) (w : Word) (g : Going moves s) → run step (g .fuel) s ≡ record { word = w; moves = 0; last = s }
       → Answered (endedAs w moves) s
-  unfolding Answered
   ended moves s w g e =
       let word : w ≡ run step limit start .word = sym (ap (λ (o : Outcome S). o .word) e) ∙ g .word in
       let none-more : run step (g .fuel) s .moves ≡ 0 = ap (λ (o : Outcome S). o .moves) e in

@@ -9,18 +9,21 @@ use native.Mathlib.Omega.{arith}
 use lib.ListN.{length}
 use lib.Ieee.{lt}
 use Rattle.evaluation.specs.Columns.{Columns}
-use Rattle.descent.specs.Order.{range, each}
+use Rattle.edits.specs.Edits.{putBefore}
+use Rattle.descent.specs.Order.{range}
 use Rattle.descent.specs.Search.{Sweep, firstLeast, ok, taken, firstMove, next}
 use Rattle.descent.specs.Within.{Piece, pieces, put-before}
 use Rattle.descent.proofs.Loops.{range-step, range-done, place-passed, place-moved, next-ahead, next-sweep}
 use Rattle.descent.proofs.Sweeps.{first-least-some}
 use Rattle.descent.proofs.OrOpt.{Positioned, pieces-in}
-use Rattle.or_opt.specs.OrOpt.{last-position, searchOf, judgeOf, deltaAt, Fits, chosen, choice, to-each, row, placed, pieceOf, Apt, leads}
+use Rattle.or_opt.specs.OrOpt.{last-position, searchOf, judgeOf, deltaAt, Asked, Fits, chosen, choice, to-each, row, placed, pieceOf, Apt, leads}
 use Rattle.or_opt.specs.declared.Terms.{Terms}
 use Rattle.or_opt.specs.declared.Change.{Change}
 use Rattle.or_opt.specs.declared.Best.{Best}
 use Rattle.or_opt.specs.declared.Best.the-variants.{Nothing, Move}
 use Rattle.or_opt.proofs.Choosing.{then-more}
+use Rattle.or_opt.proofs.Moved.{is-put, asked-moved}
+use Rattle.or_opt.proofs.Running.{Going, going-moves}
 
 -- no piece as long as the list, or longer
 pub too-long : (n size : ℕ) → n ≤ size → pieces last-position n size ≡ []
@@ -93,3 +96,14 @@ module _ (c : Columns) (t : Terms) (xs : List ℕ) where
       → leads xs r ≡ next (searchOf c t) (judgeOf c t) (record { now = xs; ahead = range size 4 })
   unfolding leads
   is-anew size r e f = f ∙ sym (next-sweep (searchOf c t) (judgeOf c t) (record { now = xs; ahead = range size 4 }) (sym e))
+
+  -- a run goes on behind the move that was made, with a list of the same visits
+  pub moved-on : (limit moves size : ℕ) (start : Sweep (List ℕ) ℕ) (m : Change) (ys : List ℕ) → Asked c t xs → Fits (length xs) (placed m)
+      → Going (next (searchOf c t) (judgeOf c t)) limit start moves (record { now = xs; ahead = range size 4 }) → moves < limit
+      → leads xs (Move m) ≡ next (searchOf c t) (judgeOf c t) (record { now = xs; ahead = range size 4 })
+      → ys ≡ putBefore (m .from) (m .size) (m .to) xs
+      → Going (next (searchOf c t) (judgeOf c t)) limit start (moves + 1) (record { now = ys; ahead = range (m .size + 1) 4 }) × Asked c t ys
+  unfolding leads
+  moved-on limit moves size start m ys asked fits g h e f =
+      let made : ys ≡ put-before xs (placed m) = f ∙ is-put xs (placed m) in
+      (rw (add-one (m .size), made) (going-moves _ limit start moves _ _ g h (sym e)), rw made (asked-moved c t xs (placed m) asked fits))
