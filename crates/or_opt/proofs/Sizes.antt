@@ -1,8 +1,8 @@
 -- The piece lengths in turn: what is taken at a length has that length and can be moved, and a sweep goes on with the next. Assumes nothing.
 use mathlib.Core.Path.{_≡_, refl, sym, ap, _∙_}
-use mathlib.Core.Logic.{_⊎_, inl, inr}
-use mathlib.Core.Option.{Option, none, some}
-use mathlib.Core.List.{List, [], _∷_}
+use mathlib.Core.Logic.{inl, inr}
+use mathlib.Core.Option.{Option, some}
+use mathlib.Core.List.{List, []}
 use Prim.Native.Nat.{ℕ, suc, _+_, _-_, _≤_, _<_}
 use native.Mathlib.Numerals.{add-one}
 use native.Mathlib.Omega.{arith}
@@ -16,7 +16,7 @@ use Rattle.descent.specs.Within.{Piece, pieces, put-before}
 use Rattle.descent.proofs.Loops.{range-step, range-done, place-passed, place-moved, next-ahead, next-sweep}
 use Rattle.descent.proofs.Sweeps.{first-least-some}
 use Rattle.descent.proofs.OrOpt.{Positioned, pieces-in}
-use Rattle.or_opt.specs.OrOpt.{last-position, searchOf, judgeOf, deltaAt, Asked, Fits, chosen, choice, to-each, row, placed, pieceOf, Apt, leads}
+use Rattle.or_opt.specs.OrOpt.{last-position, searchOf, judgeOf, deltaAt, Asked, Fits, chosen, choice, to-each, row, placed, pieceOf, leads}
 use Rattle.or_opt.specs.declared.Terms.{Terms}
 use Rattle.or_opt.specs.declared.Change.{Change}
 use Rattle.or_opt.specs.declared.Best.{Best}

@@ -10,15 +10,12 @@ use deltas::removal_gain;
 use edits::append;
 use edits::move_piece;
 use engine::Ended;
-use engine::passes;
 use evaluation::route::route_checks_needed;
 use evaluation::route::route_feasible;
 use numbers::gain_floor;
 ghost use mathlib.Core.Path.{_≡_};
 ghost use mathlib.Core.Logic.{_⊎_};
-ghost use mathlib.Core.Bool.{not, _||_};
 ghost use mathlib.Core.List.{[], _∷_};
-ghost use mathlib.Core.Option.{none};
 ghost use Prim.Native.Nat.{suc, _+_, _<_, _≤_};
 ghost use lib.ListN.{length};
 ghost use Rattle.numbers.specs.Operations.{zero64};
@@ -205,7 +202,18 @@ fn consider(
         return best;
     }
     if !moved_passes(
-        flags, service, ready, due, penalty, distances, times, terms, list, size, from, to,
+        flags,
+        service,
+        ready,
+        due,
+        penalty,
+        distances,
+        times,
+        terms,
+        list,
+        size,
+        from,
+        to,
     ) {
         return best;
     }
@@ -247,7 +255,18 @@ fn best_between(
     let mut to = start;
     while to < end {
         found = consider(
-            flags, service, ready, due, penalty, distances, times, terms, list, piece, to, found,
+            flags,
+            service,
+            ready,
+            due,
+            penalty,
+            distances,
+            times,
+            terms,
+            list,
+            piece,
+            to,
+            found,
         );
         to += 1;
     }
@@ -280,12 +299,36 @@ fn best_from(
     let gain = removal_gain(terms.l, distances, terms.depot, list, size, from);
     let piece = Segment { size, from, gain };
     let before = best_between(
-        flags, service, ready, due, penalty, distances, times, terms, list, piece, 0, from, best,
+        flags,
+        service,
+        ready,
+        due,
+        penalty,
+        distances,
+        times,
+        terms,
+        list,
+        piece,
+        0,
+        from,
+        best,
     );
     let start = from + size + 1;
     let end = last_position(list.len(), size) + 1;
     best_between(
-        flags, service, ready, due, penalty, distances, times, terms, list, piece, start, end, before,
+        flags,
+        service,
+        ready,
+        due,
+        penalty,
+        distances,
+        times,
+        terms,
+        list,
+        piece,
+        start,
+        end,
+        before,
     )
 }
 
@@ -316,7 +359,18 @@ fn best_piece(
     let mut from = 0;
     while from + size <= n {
         best = best_from(
-            flags, service, ready, due, penalty, distances, times, terms, list, size, from, best,
+            flags,
+            service,
+            ready,
+            due,
+            penalty,
+            distances,
+            times,
+            terms,
+            list,
+            size,
+            from,
+            best,
         );
         from += 1;
     }
@@ -345,7 +399,16 @@ fn first_move(
     let mut size = first;
     while size < 4 {
         let best = best_piece(
-            flags, service, ready, due, penalty, distances, times, terms, list, size,
+            flags,
+            service,
+            ready,
+            due,
+            penalty,
+            distances,
+            times,
+            terms,
+            list,
+            size,
         );
         if let Best::Move(change) = best {
             return Best::Move(change);
@@ -375,12 +438,32 @@ fn next_move(
         × Apt (length (now (list .entry))) r) ⌝ }
 {
     let best = first_move(
-        flags, service, ready, due, penalty, distances, times, terms, list, ahead,
+        flags,
+        service,
+        ready,
+        due,
+        penalty,
+        distances,
+        times,
+        terms,
+        list,
+        ahead,
     );
     if let Best::Move(change) = best {
         return Best::Move(change);
     }
-    first_move(flags, service, ready, due, penalty, distances, times, terms, list, 1)
+    first_move(
+        flags,
+        service,
+        ready,
+        due,
+        penalty,
+        distances,
+        times,
+        terms,
+        list,
+        1,
+    )
 }
 
 // Or-opt on one list, in place, until no change gains any more or the limit is used up.
@@ -402,8 +485,8 @@ pub fn or_opt_improve(
     requires { ⌜ (depot < l) × Visits l (now list) ⌝ }
     ensures { λ r.
         ⌜ (let c = columnsAt l (flags .entry) (service .entry) (ready .entry) (due .entry) (penalty .entry) (distances .entry) (times .entry) in
-        let run = run-of (or-opt n-minus-length) (checksOf [] c limits depot) (float-judge (or-opt n-minus-length) (mapOf l (now (distances .entry)) depot zero64))
-        limit (now (list .entry)) in
+        let run = run-of (or-opt n-minus-length) (checksOf [] c limits depot)
+        (float-judge (or-opt n-minus-length) (mapOf l (now (distances .entry)) depot zero64)) limit (now (list .entry)) in
         (now (list .exit) ≡ run .last .now) × (r ≡ endedAs (run .word) (run .moves))) ⌝ }
 {
     let needed = route_checks_needed(flags, limits);
@@ -419,7 +502,16 @@ pub fn or_opt_improve(
     let mut moves = 0;
     loop {
         let best = next_move(
-            flags, service, ready, due, penalty, distances, times, terms, list, ahead,
+            flags,
+            service,
+            ready,
+            due,
+            penalty,
+            distances,
+            times,
+            terms,
+            list,
+            ahead,
         );
         let Best::Move(change) = best else {
             return Ended::Settled(moves);

@@ -3,23 +3,17 @@ use Rattle.or_opt.specs.OrOpt.{barOf}
 use borrow.Author.Needs.{needs}
 use Rattle.or_opt.proofs.bar.Statement.{statement}
 use Rattle.or_opt.proofs.bar.Tie as tie
-use Rattle.or_opt.proofs.bar.Reads as reads
-use Rattle.or_opt.proofs.bar.Lts as lts
 
--- src/lib.rt:84:26
 enum-told : tie.Need-enum-told
 enum-told c = search needs
 
--- src/lib.rt:85:20
 enum-known-best : tie.Need-enum-known-best
 enum-known-best c = search needs
 
--- src/lib.rt:80:1
 returns : tie.Need-returns
 unfolding neg barOf
 returns c = search needs
 
--- src/lib.rt:80:1
 returns-2 : tie.Need-returns-2
 unfolding barOf
 returns-2 c = search needs

@@ -1,7 +1,7 @@
 -- `best_between`: the best so far and the positions still ahead choose what the best at the start and all positions do.
 use mathlib.Core.Path.{_≡_, refl, sym, _∙_}
 use mathlib.Core.Logic.{⊎-elim, inl, inr}
-use Prim.Native.Nat.{_+_, _-_, _≤_}
+use Prim.Native.Nat.{_-_, _≤_}
 use native.Mathlib.Omega.{arith}
 use borrow.Author.Needs.{needs}
 use Rattle.evaluation.specs.Columns.{columns}
@@ -10,9 +10,6 @@ use Rattle.or_opt.specs.OrOpt.{choice, to-each, pieceOf, Known}
 use Rattle.or_opt.proofs.Choosing.{turn-one, end-one}
 use Rattle.or_opt.proofs.best_between.Statement.{statement}
 use Rattle.or_opt.proofs.best_between.Tie as tie
-use Rattle.or_opt.proofs.best_between.Reads as reads
-use Rattle.or_opt.proofs.best_between.Lts as lts
-use Rattle.or_opt.proofs.consider.Reads as consider-reads
 
 abbrev Inv-loop : tie.InvT-loop
 Inv-loop flags service ready due penalty distances times terms list piece start end found₀ to₀ found to =
@@ -26,18 +23,26 @@ abbrev μ-loop : tie.MeasureT-loop
 μ-loop flags service ready due penalty distances times terms list piece start end found₀ to₀ found to = end - to
 
 loop-holds : tie.Need-loop-holds Inv-loop μ-loop
-loop-holds c = (omega arith, refl, c .before .before .before .before .before .before .before .before .pre .1 .1 .1 .1)
+loop-holds c =
+    let start = c .before .before .before .before .before .before .before .before in
+    (omega arith, refl, start .pre .1 .1 .1 .1)
 
 consider-requires : tie.Need-consider-requires Inv-loop μ-loop
 consider-requires c κs =
+    let start = c .before .before .before .before .before .before .before .before .before .before in
     let below = c .loop-test .taken in
     let from-start = c .before .loop .inv .0 in
-    let reach = c .before .before .before .before .before .before .before .before .before .before .pre .1 .0 .1 in
-    (c .before .before .before .before .before .before .before .before .before .before .pre .0, (record {
-        inside = c .before .before .before .before .before .before .before .before .before .before .pre .1 .0 .0;
-        there = omega arith;
-        apart = ⊎-elim (λ before. inl (omega arith)) (λ behind. inr (omega arith)) (c .before .before .before .before .before .before .before .before .before .before .pre .1 .1 .0);
-    }, (c .before .before .before .before .before .before .before .before .before .before .pre .1 .1 .1 .0, c .before .loop .inv .2)))
+    let reach = start .pre .1 .0 .1 in (
+      start .pre .0,
+      (
+        record {
+          inside = start .pre .1 .0 .0;
+          there = omega arith;
+          apart = ⊎-elim (λ before. inl (omega arith)) (λ behind. inr (omega arith)) (start .pre .1 .1 .0);
+        },
+        (start .pre .1 .1 .1 .0, c .before .loop .inv .2),
+      ),
+    )
 
 add-to : tie.Need-add-to Inv-loop μ-loop
 add-to c = search needs
@@ -47,9 +52,10 @@ loop-less c = search needs
 
 loop-again : tie.Need-loop-again Inv-loop μ-loop
 loop-again c =
-    let from-start = c .before .before .loop .inv .0 in (
+    let turn = c .before .before .loop in
+    let from-start = turn .inv .0 in (
       omega arith,
-      turn-one _ _ _ _ _ _ _ (c .before .loop-test .taken) (c .consider .ensures .0) ∙ c .before .before .loop .inv .1,
+      turn-one _ _ _ _ _ _ _ (c .before .loop-test .taken) (c .consider .ensures .0) ∙ turn .inv .1,
       c .consider .ensures .1,
     )
 

@@ -7,34 +7,37 @@ use Rattle.descent.specs.Within.{Piece}
 use Rattle.or_opt.proofs.Moved.{made-is, visits-moved}
 use Rattle.or_opt.proofs.candidate_passes.Statement.{statement}
 use Rattle.or_opt.proofs.candidate_passes.Tie as tie
-use Rattle.or_opt.proofs.candidate_passes.Reads as reads
-use Rattle.or_opt.proofs.candidate_passes.Lts as lts
-use Rattle.edits.proofs.append.Reads as append-reads
-use Rattle.edits.proofs.move_piece.Reads as move-piece-reads
-use Rattle.evaluation.proofs.route.route_feasible.Reads as route-feasible-reads
 
 append-requires : tie.Need-append-requires
 append-requires c κs = search needs
 
 move-piece-requires : tie.Need-move-piece-requires
 move-piece-requires c κs =
-    let whole = appended-whole (c .before .before .before .append .ensures) (sym (c .before .before .before .before .before .before .before .before .before .before .before .before .before .before .pre .1 .1)) in
-    (rw whole (c .before .before .before .before .before .before .before .before .before .before .before .before .before .before .pre .1 .0 .inside), (rw whole (c .before .before .before .before .before .before .before .before .before .before .before .before .before .before .pre .1 .0 .there), c .before .before .before .before .before .before .before .before .before .before .before .before .before .before .pre .1 .0 .apart))
+    let start = c .before .before .before .before .before .before .before .before .before .before .before .before .before .before in
+    let whole = appended-whole (c .before .before .before .append .ensures) (sym (start .pre .1 .1)) in
+    (rw whole (start .pre .1 .0 .inside), (rw whole (start .pre .1 .0 .there), start .pre .1 .0 .apart))
 
 route-feasible-requires : tie.Need-route-feasible-requires
 route-feasible-requires c κs =
-    let p : Piece = record { size = c .before .before .before .before .before .before .before .before .before .before .before .before .before .before .before .before .before .before .before .args .size; from = c .before .before .before .before .before .before .before .before .before .before .before .before .before .before .before .before .before .before .before .args .from; to = c .before .before .before .before .before .before .before .before .before .before .before .before .before .before .before .before .before .before .before .args .to } in
-    let whole = appended-whole (c .before .before .before .before .before .before .before .before .append .ensures) (sym (c .before .before .before .before .before .before .before .before .before .before .before .before .before .before .before .before .before .before .before .pre .1 .1)) in
-    (c .before .before .before .before .before .before .before .before .before .before .before .before .before .before .before .before .before .before .before .pre .0 .formed, (c .before .before .before .before .before .before .before .before .before .before .before .before .before .before .before .before .before .before .before .pre .0 .depot-there, rw (made-is _ _ _ p whole (c .before .before .before .before .move-piece .ensures)) (visits-moved _ _ p (c .before .before .before .before .before .before .before .before .before .before .before .before .before .before .before .before .before .before .before .pre .0 .visits) (c .before .before .before .before .before .before .before .before .before .before .before .before .before .before .before .before .before .before .before .pre .1 .0))))
+    let appended = c .before .before .before .before .before .before .before .before in
+    let start = appended .before .before .before .before .before .before .before .before .before .before .before in
+    let move-piece = c .before .before .before .before .move-piece in
+    let p : Piece = record { size = start .args .size; from = start .args .from; to = start .args .to } in
+    let whole = appended-whole (appended .append .ensures) (sym (start .pre .1 .1)) in
+    let made = made-is _ _ _ p whole (move-piece .ensures) in
+    (start .pre .0 .formed, (start .pre .0 .depot-there, rw made (visits-moved _ _ p (start .pre .0 .visits) (start .pre .1 .0))))
 
 same-length : tie.Need-same-length
 same-length c = search needs
 
 returns : tie.Need-returns
 returns c =
-    let p : Piece = record { size = c .before .before .before .before .before .before .before .before .before .before .before .before .before .before .before .before .before .before .before .before .args .size; from = c .before .before .before .before .before .before .before .before .before .before .before .before .before .before .before .before .before .before .before .before .args .from; to = c .before .before .before .before .before .before .before .before .before .before .before .before .before .before .before .before .before .before .before .before .args .to } in
-    let whole = appended-whole (c .before .before .before .before .before .before .before .before .before .append .ensures) (sym (c .before .before .before .before .before .before .before .before .before .before .before .before .before .before .before .before .before .before .before .before .pre .1 .1)) in
-    c .route-feasible .ensures ∙ ap (feasible _ _ _) (made-is _ _ _ p whole (c .before .before .before .before .before .move-piece .ensures))
+    let appended = c .before .before .before .before .before .before .before .before .before in
+    let start = appended .before .before .before .before .before .before .before .before .before .before .before in
+    let move-piece = c .before .before .before .before .before .move-piece in
+    let p : Piece = record { size = start .args .size; from = start .args .from; to = start .args .to } in
+    let whole = appended-whole (appended .append .ensures) (sym (start .pre .1 .1)) in
+    c .route-feasible .ensures ∙ ap (feasible _ _ _) (made-is _ _ _ p whole (move-piece .ensures))
 
 pub candidate-passes-spec : {M : Type 1} → statement M
 candidate-passes-spec =

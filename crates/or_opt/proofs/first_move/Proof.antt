@@ -10,9 +10,6 @@ use Rattle.or_opt.specs.OrOpt.{searchOf, judgeOf, pieceOf, Apt}
 use Rattle.or_opt.proofs.Sizes.{fits-taken, size-moves, size-passed, sizes-done}
 use Rattle.or_opt.proofs.first_move.Statement.{statement}
 use Rattle.or_opt.proofs.first_move.Tie as tie
-use Rattle.or_opt.proofs.first_move.Reads as reads
-use Rattle.or_opt.proofs.first_move.Lts as lts
-use Rattle.or_opt.proofs.best_piece.Reads as best-piece-reads
 
 abbrev Inv-loop : tie.InvT-loop
 Inv-loop flags service ready due penalty distances times terms list first size₀ size =
@@ -26,7 +23,9 @@ loop-holds : tie.Need-loop-holds Inv-loop μ-loop
 loop-holds c = refl
 
 best-piece-requires : tie.Need-best-piece-requires Inv-loop μ-loop
-best-piece-requires c κs = (c .before .before .before .before .before .before .before .before .before .before .pre, c .loop-test .taken)
+best-piece-requires c κs =
+    let start = c .before .before .before .before .before .before .before .before .before .before in
+    (start .pre, c .loop-test .taken)
 
 enum-known-best : tie.Need-enum-known-best Inv-loop μ-loop
 enum-known-best c = search needs
@@ -34,8 +33,11 @@ enum-known-best c = search needs
 returns : tie.Need-returns Inv-loop μ-loop
 unfolding Apt
 returns c =
+    let start = c .before .before .before .before .before .before .before .before .before .before .before .before .before .before in
+    let turn = c .before .before .before .before .before .loop in
+    let loop-test = c .before .before .before .before .loop-test in
     let taken = ap pieceOf (sym (c .before .best .given .1)) ∙ c .before .before .before .best-piece .ensures in
-    (size-moves _ (c .before .before .before .before .before .before .before .before .before .before .before .before .before .before .args .terms) _ _ _ (c .before .before .before .before .loop-test .taken) taken ∙ c .before .before .before .before .before .loop .inv, fits-taken _ (c .before .before .before .before .before .before .before .before .before .before .before .before .before .before .args .terms) _ _ _ taken .1)
+    (size-moves _ (start .args .terms) _ _ _ (loop-test .taken) taken ∙ turn .inv, fits-taken _ (start .args .terms) _ _ _ taken .1)
 
 enum-told : tie.Need-enum-told Inv-loop μ-loop
 enum-told c = search needs
@@ -48,11 +50,16 @@ loop-less c = omega (arith, c .before .before .before .loop-test .taken)
 
 loop-again : tie.Need-loop-again Inv-loop μ-loop
 loop-again c =
-    size-passed _ (c .before .before .before .before .before .before .before .before .before .before .before .before .before .args .terms) _ _ (c .before .before .before .loop-test .taken) (ap pieceOf (sym (c .enum-told .given .1)) ∙ c .before .before .best-piece .ensures) ∙ c .before .before .before .before .loop .inv
+    let start = c .before .before .before .before .before .before .before .before .before .before .before .before .before in
+    let turn = c .before .before .before .before .loop in
+    let nothing = ap pieceOf (sym (c .enum-told .given .1)) ∙ c .before .before .best-piece .ensures in
+    size-passed _ (start .args .terms) _ _ (c .before .before .before .loop-test .taken) nothing ∙ turn .inv
 
 returns-2 : tie.Need-returns-2 Inv-loop μ-loop
 unfolding Apt
-returns-2 c = (sizes-done _ (c .before .before .before .before .before .before .before .before .before .before .args .terms) _ _ (c .loop-test .left) ∙ c .before .loop .inv, tt)
+returns-2 c =
+    let start = c .before .before .before .before .before .before .before .before .before .before in
+    (sizes-done _ (start .args .terms) _ _ (c .loop-test .left) ∙ c .before .loop .inv, tt)
 
 pub first-move-spec : {M : Type 1} → statement M
 first-move-spec =

@@ -15,9 +15,12 @@ enum-known-best c = search needs
 
 returns : tie.Need-returns
 returns c =
-    let list = c .before .before .before .before .before .before .before .before .before .before .before .before .args .list .now in
+    let start = c .before .before .before .before .before .before .before .before .before .before .before .before in
+    let first-move = c .before .before .before .first-move in
+    let list = start .args .list .now in
     let best = c .before .best .given .1 in
-    (is-ahead _ (c .before .before .before .before .before .before .before .before .before .before .before .before .args .terms) _ (c .before .before .before .before .before .before .before .before .before .before .before .before .args .ahead) _ (ap (leads list) (sym best) ∙ c .before .before .before .first-move .ensures .0), subst (Apt (length list)) best (c .before .before .before .first-move .ensures .1))
+    let found = ap (leads list) (sym best) ∙ first-move .ensures .0 in
+    (is-ahead _ (start .args .terms) _ (start .args .ahead) _ found, subst (Apt (length list)) best (first-move .ensures .1))
 
 enum-told : tie.Need-enum-told
 enum-told c = search needs
@@ -27,8 +30,9 @@ first-move-requires-2 c κs = search needs
 
 returns-2 : tie.Need-returns-2
 returns-2 c =
-    let none-ahead = ap (leads (c .before .before .before .before .before .before .before .before .before .before .before .before .args .list .now)) (sym (c .before .enum-told .given .1)) ∙ c .before .before .before .first-move .ensures .0 in
-    (is-anew _ (c .before .before .before .before .before .before .before .before .before .before .before .before .args .terms) _ (c .before .before .before .before .before .before .before .before .before .before .before .before .args .ahead) _ none-ahead (c .first-move2 .ensures .0), c .first-move2 .ensures .1)
+    let start = c .before .before .before .before .before .before .before .before .before .before .before .before in
+    let none-ahead = ap (leads (start .args .list .now)) (sym (c .before .enum-told .given .1)) ∙ c .before .before .before .first-move .ensures .0 in
+    (is-anew _ (start .args .terms) _ (start .args .ahead) _ none-ahead (c .first-move2 .ensures .0), c .first-move2 .ensures .1)
 
 pub next-move-spec : {M : Type 1} → statement M
 next-move-spec =

@@ -15,13 +15,6 @@ use Rattle.or_opt.proofs.Sizes.{moved-on}
 use Rattle.or_opt.proofs.Running.{Going, going-starts, going-settles, going-stops}
 use Rattle.or_opt.proofs.or_opt_improve.Statement.{statement}
 use Rattle.or_opt.proofs.or_opt_improve.Tie as tie
-use Rattle.or_opt.proofs.or_opt_improve.Reads as reads
-use Rattle.or_opt.proofs.or_opt_improve.Lts as lts
-use Rattle.day.proofs.matrix.scale.Reads as scale-reads
-use Rattle.edits.proofs.move_piece.Reads as move-piece-reads
-use Rattle.evaluation.proofs.route.route_checks_needed.Reads as route-checks-needed-reads
-use Rattle.numbers.proofs.gain_floor.Reads as gain-floor-reads
-use Rattle.or_opt.proofs.next_move.Reads as next-move-reads
 
 abbrev Inv-loop : tie.InvT-loop
 Inv-loop l flags service ready due penalty distances times depot list₀ limit needed floor terms ahead₀ moves₀ list ahead moves =
@@ -43,17 +36,18 @@ gain-floor-requires : tie.Need-gain-floor-requires Inv-loop μ-loop
 gain-floor-requires c κs = search needs
 
 loop-holds : tie.Need-loop-holds Inv-loop μ-loop
-loop-holds c = (
-  going-starts _ _ _,
-  record {
-    formed = c .before .before .before .before .before .before .before .before .before .before .before .pre .0;
-    depot-there = c .before .before .before .before .before .before .before .before .before .before .before .pre .1 .0;
-    visits = c .before .before .before .before .before .before .before .before .before .before .before .pre .1 .1;
-    needed = c .before .before .route-checks-needed .ensures;
-    floor = c .gain-floor .ensures ∙ ap gainFloor (c .before .scale .ensures);
-  },
-  refl,
-)
+loop-holds c =
+    let start = c .before .before .before .before .before .before .before .before .before .before .before in (
+      going-starts _ _ _,
+      record {
+        formed = start .pre .0;
+        depot-there = start .pre .1 .0;
+        visits = start .pre .1 .1;
+        needed = c .before .before .route-checks-needed .ensures;
+        floor = c .gain-floor .ensures ∙ ap gainFloor (c .before .scale .ensures);
+      },
+      refl,
+    )
 
 next-move-requires : tie.Need-next-move-requires Inv-loop μ-loop
 next-move-requires c κs = c .before .loop .inv .1
@@ -70,8 +64,9 @@ same-length c = c .before .before .before .before .loop .inv .2
 returns : tie.Need-returns Inv-loop μ-loop
 unfolding run-of leads
 returns c =
-    let none-left = ap (leads (c .before .before .before .before .loop .list)) (sym (c .enum-told .given .1)) ∙ c .before .before .next-move .ensures .0 in
-    let answer = going-settles _ _ _ _ _ (c .before .before .before .before .loop .inv .0) (sym none-left) in
+    let turn = c .before .before .before .before .loop in
+    let none-left = ap (leads (turn .list)) (sym (c .enum-told .given .1)) ∙ c .before .before .next-move .ensures .0 in
+    let answer = going-settles _ _ _ _ _ (turn .inv .0) (sym none-left) in
     (ap (λ (s : Sweep (List ℕ) ℕ). s .now) (answer .0), answer .1)
 
 same-length-2 : tie.Need-same-length-2 Inv-loop μ-loop
@@ -80,24 +75,34 @@ same-length-2 c = c .before .before .before .before .before .before .loop .inv .
 returns-2 : tie.Need-returns-2 Inv-loop μ-loop
 unfolding run-of leads
 returns-2 c =
-    let one-left = ap (leads (c .before .before .before .before .before .before .loop .list)) (sym (c .before .before .best .given .1)) ∙ c .before .before .before .before .next-move .ensures .0 in
-    let answer = going-stops _ _ _ _ _ _ (c .before .before .before .before .before .before .loop .inv .0) (c .if1 .taken) (sym one-left) in
+    let turn = c .before .before .before .before .before .before .loop in
+    let next-move = c .before .before .before .before .next-move in
+    let one-left = ap (leads (turn .list)) (sym (c .before .before .best .given .1)) ∙ next-move .ensures .0 in
+    let answer = going-stops _ _ _ _ _ _ (turn .inv .0) (c .if1 .taken) (sym one-left) in
     (ap (λ (s : Sweep (List ℕ) ℕ). s .now) (answer .0), answer .1)
 
 move-piece-requires : tie.Need-move-piece-requires Inv-loop μ-loop
 unfolding Apt
 move-piece-requires c κs =
-    let fits = subst (Apt (length (c .before .before .before .before .before .before .before .loop .list))) (c .before .before .before .best .given .1) (c .before .before .before .before .before .next-move .ensures .1) in
+    let turn = c .before .before .before .before .before .before .before .loop in
+    let next-move = c .before .before .before .before .before .next-move in
+    let fits = subst (Apt (length (turn .list))) (c .before .before .before .best .given .1) (next-move .ensures .1) in
     (fits .inside, (fits .there, fits .apart))
 
 add-ahead : tie.Need-add-ahead Inv-loop μ-loop
 unfolding Apt
 add-ahead c =
-    let fits = subst (Apt (length (c .before .before .before .before .before .before .before .before .before .before .before .loop .list))) (c .before .before .before .before .before .before .before .best .given .1) (c .before .before .before .before .before .before .before .before .before .next-move .ensures .1) in
-    omega (arith, fits .inside, c .before .before .before .before .before .before .before .before .before .before .before .loop .inv .1 .visits .few)
+    let turn = c .before .before .before .before .before .before .before .before .before .before .before .loop in
+    let next-move = c .before .before .before .before .before .before .before .before .before .next-move in
+    let best = c .before .before .before .before .before .before .before .best in
+    let fits = subst (Apt (length (turn .list))) (best .given .1) (next-move .ensures .1) in
+    omega (arith, fits .inside, turn .inv .1 .visits .few)
 
 add-moves : tie.Need-add-moves Inv-loop μ-loop
-add-moves c = omega (arith, c .before .before .before .before .before .if1 .left, c .before .before .before .before .before .before .before .before .before .before .before .before .before .before .before .before .before .before .before .before .before .before .before .fits .limit)
+add-moves c =
+    let turn = c .before .before .before .before .before .before .before .before .before .before .before in
+    let start = turn .before .before .before .before .before .before .before .before .before .before .before .before in
+    omega (arith, c .before .before .before .before .before .if1 .left, start .fits .limit)
 
 loop-less : tie.Need-loop-less Inv-loop μ-loop
 loop-less c = omega (arith, c .before .before .before .before .before .if1 .left)
@@ -105,12 +110,17 @@ loop-less c = omega (arith, c .before .before .before .before .before .if1 .left
 loop-again : tie.Need-loop-again Inv-loop μ-loop
 unfolding Apt
 loop-again c =
-    let m = c .before .before .before .before .before .before .before .best .given .0 .0 in
-    let list = c .before .before .before .before .before .before .before .before .before .before .before .loop .list in
-    let fits = subst (Apt (length list)) (c .before .before .before .before .before .before .before .best .given .1) (c .before .before .before .before .before .before .before .before .before .next-move .ensures .1) in
-    let one-left = ap (leads list) (sym (c .before .before .before .before .before .before .before .best .given .1)) ∙ c .before .before .before .before .before .before .before .before .before .next-move .ensures .0 in
-    let on = moved-on _ _ _ _ _ (c .before .before .before .before .before .before .before .before .before .before .before .loop .ahead) _ m _ (c .before .before .before .before .before .before .before .before .before .before .before .loop .inv .1) fits (c .before .before .before .before .before .before .before .before .before .before .before .loop .inv .0) (c .before .before .before .before .before .if1 .left) one-left (c .before .before .before .move-piece .ensures) in
-    (on .0, on .1, c .before .before .before .move-piece .kept .0 ∙ c .before .before .before .before .before .before .before .before .before .before .before .loop .inv .2)
+    let turn = c .before .before .before .before .before .before .before .before .before .before .before .loop in
+    let next-move = c .before .before .before .before .before .before .before .before .before .next-move in
+    let best = c .before .before .before .before .before .before .before .best in
+    let if1 = c .before .before .before .before .before .if1 in
+    let move-piece = c .before .before .before .move-piece in
+    let m = best .given .0 .0 in
+    let list = turn .list in
+    let fits = subst (Apt (length list)) (best .given .1) (next-move .ensures .1) in
+    let one-left = ap (leads list) (sym (best .given .1)) ∙ next-move .ensures .0 in
+    let on = moved-on _ _ _ _ _ (turn .ahead) _ m _ (turn .inv .1) fits (turn .inv .0) (if1 .left) one-left (move-piece .ensures) in
+    (on .0, on .1, move-piece .kept .0 ∙ turn .inv .2)
 
 pub or-opt-improve-spec : {M : Type 1} → statement M
 or-opt-improve-spec =
