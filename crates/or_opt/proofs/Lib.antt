@@ -1,0 +1,5 @@
+pub mod Choosing
+pub mod Moved
+pub mod Sizes
+pub mod Running
+pub mod Claimed
