@@ -1,0 +1,25 @@
+-- `append_turned`: the callee of each arm appends what the definition says.
+use borrow.Author.Needs.{needs}
+use Rattle.three_opt.proofs.append_turned.Statement.{statement}
+use Rattle.three_opt.proofs.append_turned.Tie as tie
+
+append-stretch-reversed-requires : tie.Need-append-stretch-reversed-requires
+append-stretch-reversed-requires c κs = search needs
+
+same-length : tie.Need-same-length
+same-length c = search needs
+
+returns : tie.Need-returns
+returns c = (c .before .before .append-stretch-reversed .ensures .0, rw (c .before .before .before .before .if1 .taken) (c .before .before .append-stretch-reversed .ensures .1 .filled))
+
+append-stretch-requires : tie.Need-append-stretch-requires
+append-stretch-requires c κs = search needs
+
+same-length-2 : tie.Need-same-length-2
+same-length-2 c = search needs
+
+returns-2 : tie.Need-returns-2
+returns-2 c = (c .before .before .append-stretch .ensures .0, rw (c .before .before .before .before .if1 .left) (c .before .before .append-stretch .ensures .1 .filled))
+
+pub append-turned-spec : {M : Type 1} → statement M
+append-turned-spec = tie.close (tie.spec append-stretch-reversed-requires same-length returns append-stretch-requires same-length-2 returns-2)
