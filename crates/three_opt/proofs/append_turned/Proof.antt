@@ -10,7 +10,10 @@ same-length : tie.Need-same-length
 same-length c = search needs
 
 returns : tie.Need-returns
-returns c = (c .before .before .append-stretch-reversed .ensures .0, rw (c .before .before .before .before .if1 .taken) (c .before .before .append-stretch-reversed .ensures .1 .filled))
+returns c =
+    let at-append-stretch-reversed = c .before .before in
+    let at-if1 = at-append-stretch-reversed .before .before in
+    (at-append-stretch-reversed .append-stretch-reversed .ensures .0, rw (at-if1 .if1 .taken) (at-append-stretch-reversed .append-stretch-reversed .ensures .1 .filled))
 
 append-stretch-requires : tie.Need-append-stretch-requires
 append-stretch-requires c κs = search needs
@@ -19,7 +22,10 @@ same-length-2 : tie.Need-same-length-2
 same-length-2 c = search needs
 
 returns-2 : tie.Need-returns-2
-returns-2 c = (c .before .before .append-stretch .ensures .0, rw (c .before .before .before .before .if1 .left) (c .before .before .append-stretch .ensures .1 .filled))
+returns-2 c =
+    let at-append-stretch = c .before .before in
+    let at-if1 = at-append-stretch .before .before in
+    (at-append-stretch .append-stretch .ensures .0, rw (at-if1 .if1 .left) (at-append-stretch .append-stretch .ensures .1 .filled))
 
 pub append-turned-spec : {M : Type 1} → statement M
 append-turned-spec = tie.close (tie.spec append-stretch-reversed-requires same-length returns append-stretch-requires same-length-2 returns-2)

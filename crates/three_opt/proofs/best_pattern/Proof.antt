@@ -19,13 +19,21 @@ abbrev μ-loop : tie.MeasureT-loop
 μ-loop setup flags service ready due penalty distances times list buffer₀ place cut best₀ pattern₀ buffer best pattern = 8 - pattern
 
 cut-at-requires : tie.Need-cut-at-requires Inv-loop μ-loop
-cut-at-requires c κs = ((c .before .before .before .before .before .before .before .before .before .pre .0 .formed .tables .of-distances, c .before .before .before .before .before .before .before .before .before .pre .0 .marked, listed (c .before .before .before .before .before .before .before .before .before .pre .0) (c .before .before .before .before .before .before .before .before .before .pre .1 .0 .0)), (c .before .before .before .before .before .before .before .before .before .pre .1 .1 .i-first, c .before .before .before .before .before .before .before .before .before .pre .1 .1 .j-next, c .before .before .before .before .before .before .before .before .before .pre .1 .1 .k-there))
+cut-at-requires c κs =
+    let start = c .before .before .before .before .before .before .before .before .before in
+    ((start .pre .0 .formed .tables .of-distances, start .pre .0 .marked, listed (start .pre .0) (start .pre .1 .0 .0)), (start .pre .1 .1 .i-first, start .pre .1 .1 .j-next, start .pre .1 .1 .k-there))
 
 loop-holds : tie.Need-loop-holds Inv-loop μ-loop
-loop-holds c = (scan-start _ _ _ _ _ _ (c .before .before .before .before .before .before .before .before .before .before .before .pre .0 .floor), refl)
+loop-holds c =
+    let start = c .before .before .before .before .before .before .before .before .before .before .before in
+    (scan-start _ _ _ _ _ _ (start .pre .0 .floor), refl)
 
 better-of-requires : tie.Need-better-of-requires Inv-loop μ-loop
-better-of-requires c κs = (c .before .before .before .before .before .before .before .before .before .before .before .before .before .before .pre .0, ((c .before .before .before .before .before .before .before .before .before .before .before .before .before .before .pre .1 .0 .0, omega (arith, c .before .before .loop .inv .1, c .before .before .before .before .before .before .before .before .before .before .before .before .before .before .pre .1 .0 .1)), ((c .before .before .before .before .before .before .before .before .before .before .before .before .before .before .pre .1 .1, c .before .loop-test .taken), c .before .before .before .before .cut-at .ensures)))
+better-of-requires c κs =
+    let at-loop = c .before .before in
+    let at-cut-at = at-loop .before .before in
+    let start = at-cut-at .before .before .before .before .before .before .before .before .before .before in
+    (start .pre .0, ((start .pre .1 .0 .0, omega (arith, at-loop .loop .inv .1, start .pre .1 .0 .1)), ((start .pre .1 .1, c .before .loop-test .taken), at-cut-at .cut-at .ensures)))
 
 add-pattern : tie.Need-add-pattern Inv-loop μ-loop
 add-pattern c = search needs
@@ -34,13 +42,31 @@ loop-less : tie.Need-loop-less Inv-loop μ-loop
 loop-less c = search needs
 
 loop-again : tie.Need-loop-again Inv-loop μ-loop
-loop-again c = (rw (c .before .before .better-of .ensures) (scan-turn _ _ _ _ _ _ _ (c .before .before .before .before .loop-test .taken) (c .before .before .before .before .before .loop .inv .0)), c .before .before .better-of .kept .1 .1 .1 .1 .1 .1 .1 .1 .1 .0 ∙ c .before .before .before .before .before .loop .inv .1)
+loop-again c =
+    let at-better-of = c .before .before in
+    let at-loop-test = at-better-of .before .before in
+    let at-loop = at-loop-test .before in
+    (rw (at-better-of .better-of .ensures) (scan-turn _ _ _ _ _ _ _ (at-loop-test .loop-test .taken) (at-loop .loop .inv .0)), at-better-of .better-of .kept .1 .1 .1 .1 .1 .1 .1 .1 .1 .0 ∙ at-loop .loop .inv .1)
 
 same-length : tie.Need-same-length Inv-loop μ-loop
 same-length c = c .before .loop .inv .1
 
 returns : tie.Need-returns Inv-loop μ-loop
-returns c = (scan-end _ _ _ _ _ _ _ (c .loop-test .left) (c .before .loop .inv .0), c .before .loop .inv .0 .below)
+returns c =
+    let at-loop = c .before in
+    (scan-end _ _ _ _ _ _ _ (c .loop-test .left) (at-loop .loop .inv .0), at-loop .loop .inv .0 .below)
 
 pub best-pattern-spec : {M : Type 1} → statement M
-best-pattern-spec = tie.close (tie.spec Inv-loop μ-loop cut-at-requires loop-holds better-of-requires add-pattern loop-less loop-again same-length returns)
+best-pattern-spec =
+    tie.close
+    (tie.spec
+    Inv-loop
+    μ-loop
+    cut-at-requires
+    loop-holds
+    better-of-requires
+    add-pattern
+    loop-less
+    loop-again
+    same-length
+    returns)

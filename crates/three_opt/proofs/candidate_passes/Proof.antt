@@ -10,7 +10,9 @@ use Rattle.three_opt.proofs.candidate_passes.Tie as tie
 
 returns : tie.Need-returns
 unfolding passing
-returns c = off _ _ (not-true (c .before .before .before .before .before .before .before .before .before .before .before .args .setup .needed) (c .if1 .taken))
+returns c =
+    let start = c .before .before .before .before .before .before .before .before .before .before .before in
+    off _ _ (not-true (start .args .setup .needed) (c .if1 .taken))
 
 reconnected-into-requires : tie.Need-reconnected-into-requires
 reconnected-into-requires c κs = search needs
@@ -25,19 +27,30 @@ part-passes-end : tie.Need-part-passes-end
 part-passes-end c = search needs
 
 passes-requires : tie.Need-passes-requires
-passes-requires c κs = (
-  c .before .before .before .before .before .before .before .before .before .before .before .before .before .before .before .before .before .before .pre .0 .formed,
-  (
-    c .before .before .before .before .before .before .before .before .before .before .before .before .before .before .before .before .before .before .pre .0 .depot-there,
-    rw (front (c .before .before .before .before .before .reconnected-into .result) (c .before .before .before .before .before .reconnected-into .last .0) _ (c .before .before .before .before .before .reconnected-into .ensures .1)) (visits-reconnected _ _ _ (c .before .before .before .before .before .before .before .before .before .before .before .before .before .before .before .before .before .before .pre .1 .1 .0) _ (c .before .before .before .before .before .before .before .before .before .before .before .before .before .before .before .before .before .before .pre .1 .0 .0)),
-  ),
-)
+passes-requires c κs =
+    let at-reconnected-into = c .before .before .before .before .before in
+    let further1 = at-reconnected-into .before .before .before .before .before .before .before .before .before in
+    let start = further1 .before .before .before .before in
+    (start .pre .0 .formed, (start .pre .0 .depot-there,
+    rw (front (at-reconnected-into .reconnected-into .result) (at-reconnected-into .reconnected-into .last .0) _ (at-reconnected-into .reconnected-into .ensures .1)) (visits-reconnected _ _ _ (start .pre .1 .1 .0) _ (start .pre .1 .0 .0))))
 
 same-length : tie.Need-same-length
 same-length c = search needs
 
 returns-2 : tie.Need-returns-2
-returns-2 c = c .passes .ensures ∙ ap (passing _ _ _ _) (front (c .before .before .before .before .before .before .reconnected-into .result) (c .before .before .before .before .before .before .reconnected-into .last .0) _ (c .before .before .before .before .before .before .reconnected-into .ensures .1))
+returns-2 c =
+    let at-reconnected-into = c .before .before .before .before .before .before in
+    c .passes .ensures ∙ ap (passing _ _ _ _) (front (at-reconnected-into .reconnected-into .result) (at-reconnected-into .reconnected-into .last .0) _ (at-reconnected-into .reconnected-into .ensures .1))
 
 pub candidate-passes-spec : {M : Type 1} → statement M
-candidate-passes-spec = tie.close (tie.spec returns reconnected-into-requires sub-passes part-passes-start part-passes-end passes-requires same-length returns-2)
+candidate-passes-spec =
+    tie.close
+    (tie.spec
+    returns
+    reconnected-into-requires
+    sub-passes
+    part-passes-start
+    part-passes-end
+    passes-requires
+    same-length
+    returns-2)

@@ -29,39 +29,71 @@ loop-holds : tie.Need-loop-holds Inv-loop μ-loop
 loop-holds c = (ap (firstMove _ _ _) (sym (cuts-start _ (c .if1 .left))), standing-start _ (c .if1 .left), refl)
 
 best-pattern-requires : tie.Need-best-pattern-requires Inv-loop μ-loop
-best-pattern-requires c κs = (c .before .before .before .before .before .before .before .before .before .before .before .before .before .before .pre .0, ((c .before .before .before .before .before .before .before .before .before .before .before .before .before .before .pre .1 .0, omega (arith, c .before .before .before .loop .inv .2, c .before .before .before .before .before .before .before .before .before .before .before .before .before .before .pre .1 .1)), record { i-first = c .before .before .before .loop .inv .1 .i-first; j-next = c .before .before .before .loop .inv .1 .j-next; k-there = c .before .if2 .taken }))
+best-pattern-requires c κs =
+    let at-loop = c .before .before .before in
+    let start = at-loop .before .before .before .before .before .before .before .before .before .before .before in
+    (start .pre .0, ((start .pre .1 .0, omega (arith, at-loop .loop .inv .2, start .pre .1 .1)), record { i-first = at-loop .loop .inv .1 .i-first; j-next = at-loop .loop .inv .1 .j-next; k-there = c .before .if2 .taken }))
 
 same-length : tie.Need-same-length Inv-loop μ-loop
-same-length c = c .before .before .before .best-pattern .kept .1 .1 .1 .1 .1 .1 .1 .1 .1 .0 ∙ c .before .before .before .before .before .before .before .loop .inv .2
+same-length c =
+    let at-best-pattern = c .before .before .before in
+    let at-loop = at-best-pattern .before .before .before .before in
+    at-best-pattern .best-pattern .kept .1 .1 .1 .1 .1 .1 .1 .1 .1 .0 ∙ at-loop .loop .inv .2
 
 returns-2 : tie.Need-returns-2 Inv-loop μ-loop
-returns-2 c = (
-  found-here _ _ _ _ _ _ _ _ (cuts-turn _ _ (c .before .before .before .before .before .before .before .loop .inv .1) (c .before .before .before .before .before .if2 .taken)) (c .before .before .before .best-pattern .ensures .0) (c .if3 .taken) ∙ c .before .before .before .before .before .before .before .loop .inv .0,
-  record { one-of = c .before .before .before .best-pattern .ensures .1; inside = λ h. record { i-first = c .before .before .before .before .before .before .before .loop .inv .1 .i-first; j-next = c .before .before .before .before .before .before .before .loop .inv .1 .j-next; k-there = c .before .before .before .before .before .if2 .taken } },
-)
+returns-2 c =
+    let at-best-pattern = c .before .before .before in
+    let at-if2 = at-best-pattern .before .before in
+    let at-loop = at-if2 .before .before in
+    (found-here _ _ _ _ _ _ _ _ (cuts-turn _ _ (at-loop .loop .inv .1) (at-if2 .if2 .taken)) (at-best-pattern .best-pattern .ensures .0) (c .if3 .taken) ∙ at-loop .loop .inv .0,
+    record { one-of = at-best-pattern .best-pattern .ensures .1; inside = λ h. record { i-first = at-loop .loop .inv .1 .i-first; j-next = at-loop .loop .inv .1 .j-next; k-there = at-if2 .if2 .taken } })
 
 place-after-requires : tie.Need-place-after-requires Inv-loop μ-loop
-place-after-requires c κs = (record { i-first = c .before .before .before .before .before .before .before .loop .inv .1 .i-first; j-next = c .before .before .before .before .before .before .before .loop .inv .1 .j-next; k-there = c .before .before .before .before .before .if2 .taken }, omega (arith, c .before .before .before .before .before .before .before .before .before .before .before .before .before .before .before .before .before .before .pre .1 .0 .few))
+place-after-requires c κs =
+    let at-if2 = c .before .before .before .before .before in
+    let at-loop = at-if2 .before .before in
+    let start = at-loop .before .before .before .before .before .before .before .before .before .before .before in
+    (record { i-first = at-loop .loop .inv .1 .i-first; j-next = at-loop .loop .inv .1 .j-next; k-there = at-if2 .if2 .taken }, omega (arith, start .pre .1 .0 .few))
 
 loop-less : tie.Need-loop-less Inv-loop μ-loop
-loop-less c = rw (c .place-after .ensures) (cuts-fewer _ _ (c .before .before .before .before .before .before .before .before .loop .inv .1) (c .before .before .before .before .before .before .if2 .taken))
+loop-less c =
+    let at-if2 = c .before .before .before .before .before .before in
+    let at-loop = at-if2 .before .before in
+    rw (c .place-after .ensures) (cuts-fewer _ _ (at-loop .loop .inv .1) (at-if2 .if2 .taken))
 
 loop-again : tie.Need-loop-again Inv-loop μ-loop
 loop-again c =
-    rw (c .place-after .ensures) (
-      passed-on _ _ _ _ _ _ _ _ (cuts-turn _ _ (c .before .before .before .before .before .before .before .before .loop .inv .1) (c .before .before .before .before .before .before .if2 .taken)) (c .before .before .before .before .best-pattern .ensures .0) (omega (arith, c .before .if3 .left)) ∙ c .before .before .before .before .before .before .before .before .loop .inv .0,
-      standing-turn _ _ (c .before .before .before .before .before .before .before .before .loop .inv .1) (c .before .before .before .before .before .before .if2 .taken),
-      c .before .before .before .before .best-pattern .kept .1 .1 .1 .1 .1 .1 .1 .1 .1 .0 ∙ c .before .before .before .before .before .before .before .before .loop .inv .2,
-    )
+    let at-best-pattern = c .before .before .before .before in
+    let at-if2 = at-best-pattern .before .before in
+    let at-loop = at-if2 .before .before in
+    rw (c .place-after .ensures)
+    (passed-on _ _ _ _ _ _ _ _ (cuts-turn _ _ (at-loop .loop .inv .1) (at-if2 .if2 .taken)) (at-best-pattern .best-pattern .ensures .0) (omega (arith, c .before .if3 .left)) ∙ at-loop .loop .inv .0,
+    standing-turn _ _ (at-loop .loop .inv .1) (at-if2 .if2 .taken), at-best-pattern .best-pattern .kept .1 .1 .1 .1 .1 .1 .1 .1 .1 .0 ∙ at-loop .loop .inv .2)
 
 same-length-2 : tie.Need-same-length-2 Inv-loop μ-loop
-same-length-2 c = c .before .before .loop .inv .2
+same-length-2 c =
+    let at-loop = c .before .before in
+    at-loop .loop .inv .2
 
 returns-3 : tie.Need-returns-3 Inv-loop μ-loop
-returns-3 c = (
-  made-none _ _ refl ∙ sym (none-there _ _ _ _) ∙ ap (firstMove _ _ _) (sym (cuts-end _ _ (c .before .before .loop .inv .1) (c .if2 .left))) ∙ c .before .before .loop .inv .0,
-  record { one-of = omega arith; inside = λ h. absurd (h refl) },
-)
+returns-3 c =
+    let at-loop = c .before .before in
+    (made-none _ _ refl ∙ sym (none-there _ _ _ _) ∙ ap (firstMove _ _ _) (sym (cuts-end _ _ (at-loop .loop .inv .1) (c .if2 .left))) ∙ at-loop .loop .inv .0,
+    record { one-of = omega arith; inside = λ h. absurd (h refl) })
 
 pub first-move-spec : {M : Type 1} → statement M
-first-move-spec = tie.close (tie.spec Inv-loop μ-loop returns loop-holds best-pattern-requires same-length returns-2 place-after-requires loop-less loop-again same-length-2 returns-3)
+first-move-spec =
+    tie.close
+    (tie.spec
+    Inv-loop
+    μ-loop
+    returns
+    loop-holds
+    best-pattern-requires
+    same-length
+    returns-2
+    place-after-requires
+    loop-less
+    loop-again
+    same-length-2
+    returns-3)

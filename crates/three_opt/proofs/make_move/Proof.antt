@@ -20,7 +20,11 @@ same-length-2 : tie.Need-same-length-2
 same-length-2 c = search needs
 
 returns : tie.Need-returns
-returns c = appended-whole (c .before .before .append-stretch .ensures .1) (ap length (c .before .before .before .before .before .before .before .reconnected-into .ensures .1) ∙ length-reconnected (c .before .before .before .before .before .before .before .before .before .before .before .before .before .args .list .now) (c .before .before .before .before .before .before .before .before .before .before .before .before .before .args .found .place) (c .before .before .before .before .before .before .before .before .before .before .before .before .before .args .found .pattern) (c .before .before .before .before .before .before .before .before .before .before .before .before .before .pre .0 .0)) ∙ c .before .before .before .before .before .before .before .reconnected-into .ensures .1
+returns c =
+    let at-append-stretch = c .before .before in
+    let at-reconnected-into = at-append-stretch .before .before .before .before .before in
+    let start = at-reconnected-into .before .before .before .before .before .before in
+    appended-whole (at-append-stretch .append-stretch .ensures .1) (ap length (at-reconnected-into .reconnected-into .ensures .1) ∙ length-reconnected (start .args .list .now) (start .args .found .place) (start .args .found .pattern) (start .pre .0 .0)) ∙ at-reconnected-into .reconnected-into .ensures .1
 
 pub make-move-spec : {M : Type 1} → statement M
 make-move-spec = tie.close (tie.spec reconnected-into-requires append-stretch-requires same-length same-length-2 returns)

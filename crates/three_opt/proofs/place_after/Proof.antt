@@ -28,7 +28,10 @@ add-t7 c = search needs
 
 returns-2 : tie.Need-returns-2
 unfolding placeAfter
-returns-2 c = other _ _ _ _ (le-ltb _ _ (c .before .before .before .before .if1 .left)) (picked _ _ _ _ (lt-ltb _ _ (c .before .before .if2 .taken)) refl)
+returns-2 c =
+    let at-if2 = c .before .before in
+    let at-if1 = at-if2 .before .before in
+    other _ _ _ _ (le-ltb _ _ (at-if1 .if1 .left)) (picked _ _ _ _ (lt-ltb _ _ (at-if2 .if2 .taken)) refl)
 
 add-t3 : tie.Need-add-t3
 add-t3 c = search needs
@@ -41,7 +44,10 @@ add-t9 c = search needs
 
 returns-3 : tie.Need-returns-3
 unfolding placeAfter
-returns-3 c = other _ _ _ _ (le-ltb _ _ (c .before .before .before .before .before .if1 .left)) (other _ _ _ _ (le-ltb _ _ (c .before .before .before .if2 .left)) refl)
+returns-3 c =
+    let at-if2 = c .before .before .before in
+    let at-if1 = at-if2 .before .before in
+    other _ _ _ _ (le-ltb _ _ (at-if1 .if1 .left)) (other _ _ _ _ (le-ltb _ _ (at-if2 .if2 .left)) refl)
 
 pub place-after-spec : {M : Type 1} → statement M
 place-after-spec = tie.close (tie.spec add-if1 add-t5 returns add-if2 add-t6 add-t7 returns-2 add-t3 add-t8 add-t9 returns-3)

@@ -30,10 +30,25 @@ same-length : tie.Need-same-length
 same-length c = search needs
 
 returns : tie.Need-returns
-returns c = (
-  omega (arith, c .before .before .before .before .before .before .before .before .before .before .append-stretch .ensures .0, c .before .before .before .before .before .before .append-pieces .ensures .0, c .before .before .append-stretch2 .ensures .0, c .before .before .before .before .before .before .before .before .before .before .before .before .before .before .before .before .before .before .pre .0 .0 .i-first, c .before .before .before .before .before .before .before .before .before .before .before .before .before .before .before .before .before .before .pre .0 .0 .j-next, c .before .before .before .before .before .before .before .before .before .before .before .before .before .before .before .before .before .before .pre .0 .0 .k-there),
-  built (c .before .before .before .before .before .before .before .before .before .before .before .before .before .before .before .before .before .before .args .list .now) (c .before .before .before .before .before .before .before .before .before .before .before .before .before .before .before .before .before .before .args .place) (c .before .before .before .before .before .before .before .before .before .before .before .before .before .before .before .before .before .before .args .pattern) _ (c .before .before .before .before .before .before .before .before .before .before .before .before .way-of .ensures) (c .before .before .before .before .before .before .before .before .before .before .append-stretch .ensures .1 .filled) (c .before .before .before .before .before .before .append-pieces .ensures .1) (c .before .before .append-stretch2 .ensures .1 .filled),
-)
+returns c =
+    let at-append-stretch2 = c .before .before in
+    let at-append-pieces = at-append-stretch2 .before .before .before .before in
+    let at-append-stretch = at-append-pieces .before .before .before .before in
+    let at-way-of = at-append-stretch .before .before in
+    let start = at-way-of .before .before .before .before .before .before in
+    (omega (arith, at-append-stretch .append-stretch .ensures .0, at-append-pieces .append-pieces .ensures .0, at-append-stretch2 .append-stretch2 .ensures .0, start .pre .0 .0 .i-first, start .pre .0 .0 .j-next, start .pre .0 .0 .k-there),
+    built (start .args .list .now) (start .args .place) (start .args .pattern) _ (at-way-of .way-of .ensures) (at-append-stretch .append-stretch .ensures .1 .filled) (at-append-pieces .append-pieces .ensures .1) (at-append-stretch2 .append-stretch2 .ensures .1 .filled))
 
 pub reconnected-into-spec : {M : Type 1} → statement M
-reconnected-into-spec = tie.close (tie.spec add-b add-c add-d way-of-requires append-stretch-requires append-pieces-requires append-stretch-requires-2 same-length returns)
+reconnected-into-spec =
+    tie.close
+    (tie.spec
+    add-b
+    add-c
+    add-d
+    way-of-requires
+    append-stretch-requires
+    append-pieces-requires
+    append-stretch-requires-2
+    same-length
+    returns)

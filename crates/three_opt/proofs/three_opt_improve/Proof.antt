@@ -13,7 +13,9 @@ gain-floor-requires : tie.Need-gain-floor-requires
 gain-floor-requires c κs = search needs
 
 is-symmetric-requires : tie.Need-is-symmetric-requires
-is-symmetric-requires c κs = c .before .before .before .before .before .before .before .before .before .before .pre .0 .tables .of-distances
+is-symmetric-requires c κs =
+    let start = c .before .before .before .before .before .before .before .before .before .before in
+    start .pre .0 .tables .of-distances
 
 route-checks-needed-requires : tie.Need-route-checks-needed-requires
 route-checks-needed-requires c κs = search needs
@@ -22,22 +24,37 @@ slice-aggregate-descend : tie.Need-slice-aggregate-descend
 slice-aggregate-descend c = search needs
 
 descend-requires : tie.Need-descend-requires
-descend-requires c κs = (
-  record {
-    formed = c .before .before .before .before .before .before .before .before .before .before .before .before .before .before .pre .0;
-    depot-there = c .before .before .before .before .before .before .before .before .before .before .before .before .before .before .pre .1 .0 .0;
-    floor = c .before .before .before .before .gain-floor .ensures ∙ ap gainFloor (c .before .before .before .before .before .scale .ensures);
-    marked = record { right = c .before .before .before .is-symmetric .ensures; plain = c .before .before .before .before .before .before .before .before .before .before .before .before .before .before .pre .1 .1 };
-    needed = c .before .before .route-checks-needed .ensures;
-  },
-  (c .before .before .before .before .before .before .before .before .before .before .before .before .before .before .pre .1 .0 .1, omega (arith, c .before .before .before .before .before .before .before .before .before .before .before .before .before .before .pre .1 .0 .1 .few)),
-)
+descend-requires c κs =
+    let at-route-checks-needed = c .before .before in
+    let at-is-symmetric = at-route-checks-needed .before in
+    let at-gain-floor = at-is-symmetric .before in
+    let at-scale = at-gain-floor .before in
+    let start = at-scale .before .before .before .before .before .before .before .before .before in
+    (record {
+    formed = start .pre .0;
+    depot-there = start .pre .1 .0 .0;
+    floor = at-gain-floor .gain-floor .ensures ∙ ap gainFloor (at-scale .scale .ensures);
+    marked = record { right = at-is-symmetric .is-symmetric .ensures; plain = start .pre .1 .1 };
+    needed = at-route-checks-needed .route-checks-needed .ensures;
+    }, (start .pre .1 .0 .1, omega (arith, start .pre .1 .0 .1 .few)))
 
 same-length : tie.Need-same-length
 same-length c = search needs
 
 returns : tie.Need-returns
-returns c = c .before .before .before .descend .ensures
+returns c =
+    let at-descend = c .before .before .before in
+    at-descend .descend .ensures
 
 pub three-opt-improve-spec : {M : Type 1} → statement M
-three-opt-improve-spec = tie.close (tie.spec scale-requires gain-floor-requires is-symmetric-requires route-checks-needed-requires slice-aggregate-descend descend-requires same-length returns)
+three-opt-improve-spec =
+    tie.close
+    (tie.spec
+    scale-requires
+    gain-floor-requires
+    is-symmetric-requires
+    route-checks-needed-requires
+    slice-aggregate-descend
+    descend-requires
+    same-length
+    returns)
