@@ -1,0 +1,529 @@
+// Intra-route 3-opt (Lin 1965), ports local_search/three_opt.rs. Places are triples i < j < k, a list being cut behind its visits i, j and k; at a
+// place the pieces B and C between the cuts take the least of the seven patterns that counts and passes, ties to the lower pattern; after a move the
+// search starts again.
+//
+// The Rust sorts the patterns that count and takes the first that passes. Here they are scanned in order, and one is tested only where its delta is
+// below the best that passed so far: the same answer, and where none passes, which is where a search spends its time, the same tests.
+use day::matrix::is_symmetric;
+use day::matrix::scale;
+use day::vehicle::RouteLimits;
+use deltas::Cut;
+use deltas::cut_at;
+use deltas::pattern_change;
+use edits::append_stretch;
+use edits::append_stretch_reversed;
+use engine::Ended;
+use engine::passes;
+use evaluation::route::route_checks_needed;
+use numbers::gain_floor;
+ghost use mathlib.Core.Path.{_≡_};
+ghost use mathlib.Core.Bool.{true};
+ghost use mathlib.Core.List.{[], _++_};
+ghost use Prim.Native.Nat.{_+_, _-_, _<_, _≤_};
+ghost use lib.ListN.{length, take};
+ghost use lib.Seq.{slice};
+ghost use Rattle.numbers.specs.Operations.{zero64};
+ghost use Rattle.day.specs.Matrix.{leg};
+ghost use Rattle.day.specs.Refusal.{allPlain};
+ghost use Rattle.edits.specs.Edits.{Appended};
+ghost use Rattle.evaluation.specs.Columns.{columnsAt, Formed, Visits};
+ghost use Rattle.descent.specs.Permitted.{turn, arranged, three-opt};
+ghost use Rattle.descent.specs.Search.{taken, firstMove};
+ghost use Rattle.descent.specs.Within.{cuts, reconnect};
+ghost use Rattle.descent.specs.Engines.{run-of};
+ghost use Rattle.deltas.specs.Deltas.{cutAt};
+ghost use Rattle.deltas.specs.Judged.{float-judge};
+ghost use Rattle.engine.specs.Engine.{passing, checksOf, mapOf, endedAs};
+ghost use Rattle.three_opt.specs.ThreeOpt.{searchOf, judgeOf, Prepared, Inside, cutOf, wayOf, arrangement, reconnection, moveOf, better, placeAfter, madeBy, Within};
+
+// What is worked out once before the first move.
+pub struct Setup {
+    pub l: usize,
+    pub depot: usize,
+    pub limits: RouteLimits,
+    // The least gain that counts.
+    pub floor: f64,
+    // Whether each distance equals its mirror.
+    pub symmetric: bool,
+    // Whether candidates have to be checked.
+    pub needed: bool,
+}
+
+// The list is cut behind its visits i, j and k.
+pub struct Place {
+    pub i: usize,
+    pub j: usize,
+    pub k: usize,
+}
+
+// How the pieces B and C are put back.
+pub struct Way {
+    pub exchanged: bool,
+    pub b_turned: bool,
+    pub c_turned: bool,
+}
+
+// The best pattern so far with its delta; 0 is none, and its delta is minus the floor.
+pub struct Choice {
+    pub pattern: usize,
+    pub delta: f64,
+}
+
+// A pattern at a place; 0 is none.
+pub struct Found {
+    pub place: Place,
+    pub pattern: usize,
+}
+
+// The Rust's patterns by their numbers.
+fn way_of(pattern: usize) -> Way
+    requires { ⌜ pattern < 8 ⌝ }
+    ensures { λ r. ⌜ arrangement r ≡ wayOf pattern ⌝ }
+{
+    match pattern {
+        0 => Way {
+            exchanged: false,
+            b_turned: false,
+            c_turned: false,
+        },
+        1 => Way {
+            exchanged: false,
+            b_turned: false,
+            c_turned: true,
+        },
+        2 => Way {
+            exchanged: false,
+            b_turned: true,
+            c_turned: false,
+        },
+        3 => Way {
+            exchanged: false,
+            b_turned: true,
+            c_turned: true,
+        },
+        4 => Way {
+            exchanged: true,
+            b_turned: false,
+            c_turned: false,
+        },
+        5 => Way {
+            exchanged: true,
+            b_turned: true,
+            c_turned: false,
+        },
+        6 => Way {
+            exchanged: true,
+            b_turned: false,
+            c_turned: true,
+        },
+        _ => Way {
+            exchanged: true,
+            b_turned: true,
+            c_turned: true,
+        },
+    }
+}
+
+// ---- a candidate
+
+// Appends a stretch as it is, or turned round.
+fn append_turned(
+    turned: bool,
+    buffer: &mut [u16],
+    count: usize,
+    list: &[u16],
+    from: usize,
+    to: usize,
+) -> usize
+    requires { ⌜ (from ≤ to) × (to ≤ length (now list)) ⌝ }
+    requires { ⌜ count + (to - from) ≤ length (now buffer) ⌝ }
+    ensures { λ r. ⌜ r ≡ count + (to - from) ⌝ }
+    ensures { λ r. ⌜ take r (now (buffer .exit)) ≡ take count (now (buffer .entry)) ++ turn turned (slice from to (now (list .entry))) ⌝ }
+{
+    if turned {
+        return append_stretch_reversed(buffer, count, list, from, to);
+    }
+    append_stretch(buffer, count, list, from, to)
+}
+
+// Appends the pieces B, from b to c, and C, from c to d.
+fn append_pieces(
+    way: Way,
+    buffer: &mut [u16],
+    count: usize,
+    list: &[u16],
+    b: usize,
+    c: usize,
+    d: usize,
+) -> usize
+    requires { ⌜ (b ≤ c) × (c ≤ d) × (d ≤ length (now list)) ⌝ }
+    requires { ⌜ count + (d - b) ≤ length (now buffer) ⌝ }
+    ensures { λ r. ⌜ r ≡ count + (d - b) ⌝ }
+    ensures { λ r. ⌜ take r (now (buffer .exit)) ≡ take count (now (buffer .entry)) ++ arranged (arrangement way) (slice b c (now (list .entry))) (slice c d (now (list .entry))) ⌝ }
+{
+    if way.exchanged {
+        let middle = append_turned(way.c_turned, buffer, count, list, c, d);
+        return append_turned(way.b_turned, buffer, middle, list, b, c);
+    }
+    let middle = append_turned(way.b_turned, buffer, count, list, b, c);
+    append_turned(way.c_turned, buffer, middle, list, c, d)
+}
+
+// Builds the list as a pattern has it, at the front of the buffer.
+fn reconnected_into(buffer: &mut [u16], list: &[u16], place: Place, pattern: usize) -> usize
+    requires { ⌜ Inside (length (now list)) place × (pattern < 8) ⌝ }
+    requires { ⌜ length (now list) ≤ length (now buffer) ⌝ }
+    ensures { λ r. ⌜ r ≡ length (now (list .entry)) ⌝ }
+    ensures { λ r. ⌜ take r (now (buffer .exit)) ≡ reconnect (now (list .entry)) (reconnection place pattern) ⌝ }
+{
+    let b = place.i + 1;
+    let c = place.j + 1;
+    let d = place.k + 1;
+    let way = way_of(pattern);
+    let head = append_stretch(buffer, 0, list, 0, b);
+    let pieces = append_pieces(way, buffer, head, list, b, c, d);
+    append_stretch(buffer, pieces, list, d, list.len())
+}
+
+// Whether the list as a pattern has it passes. Where no check is needed it is not built.
+fn candidate_passes(
+    setup: Setup,
+    flags: &[u8],
+    service: &[f64],
+    ready: &[f64],
+    due: &[f64],
+    penalty: &[f64],
+    distances: &[f64],
+    times: &[f64],
+    list: &[u16],
+    buffer: &mut [u16],
+    place: Place,
+    pattern: usize,
+) -> bool
+    requires { ⌜ Prepared setup (columnsAt (setup .l) flags service ready due penalty distances times) ⌝ }
+    requires { ⌜ Visits (setup .l) (now list) × (length (now list) ≤ length (now buffer)) ⌝ }
+    requires { ⌜ Inside (length (now list)) place × (pattern < 8) ⌝ }
+    ensures { λ r.
+        ⌜ r ≡ passing (setup .needed)
+        (columnsAt (setup .l) (flags .entry) (service .entry) (ready .entry) (due .entry) (penalty .entry) (distances .entry) (times .entry))
+        (setup .limits) (setup .depot)
+        (reconnect (now (list .entry)) (reconnection place pattern)) ⌝ }
+{
+    if !setup.needed {
+        return true;
+    }
+    let end = reconnected_into(buffer, list, place, pattern);
+    let limits = setup.limits;
+    passes(
+        setup.needed,
+        setup.l,
+        flags,
+        service,
+        ready,
+        due,
+        penalty,
+        distances,
+        times,
+        limits,
+        setup.depot,
+        &buffer[0..end],
+    )
+}
+
+// The better of the best pattern so far and one more.
+fn better_of(
+    setup: Setup,
+    flags: &[u8],
+    service: &[f64],
+    ready: &[f64],
+    due: &[f64],
+    penalty: &[f64],
+    distances: &[f64],
+    times: &[f64],
+    list: &[u16],
+    buffer: &mut [u16],
+    place: Place,
+    cut: Cut,
+    best: Choice,
+    pattern: usize,
+) -> Choice
+    requires { ⌜ Prepared setup (columnsAt (setup .l) flags service ready due penalty distances times) ⌝ }
+    requires { ⌜ Visits (setup .l) (now list) × (length (now list) ≤ length (now buffer)) ⌝ }
+    requires { ⌜ Inside (length (now list)) place × (pattern < 8) ⌝ }
+    requires { ⌜ cut ≡ cutAt (leg (setup .l) (now distances)) (setup .depot) (now list) (place .i) (place .j) (place .k) ⌝ }
+    ensures { λ r.
+        ⌜ (let c = columnsAt (setup .l) (flags .entry) (service .entry) (ready .entry) (due .entry) (penalty .entry) (distances .entry) (times .entry)
+        in r ≡ better (searchOf c (setup .limits) (setup .depot)) (judgeOf c (setup .depot)) (now (list .entry)) place best pattern) ⌝ }
+{
+    let way = way_of(pattern);
+    let delta = pattern_change(
+        setup.l,
+        distances,
+        cut,
+        way.exchanged,
+        way.b_turned,
+        way.c_turned,
+    );
+    if !(delta < best.delta) {
+        return best;
+    }
+    if !candidate_passes(
+        setup,
+        flags,
+        service,
+        ready,
+        due,
+        penalty,
+        distances,
+        times,
+        list,
+        buffer,
+        place,
+        pattern,
+    ) {
+        return best;
+    }
+    Choice { pattern, delta }
+}
+
+// The pattern to take at a place.
+fn best_pattern(
+    setup: Setup,
+    flags: &[u8],
+    service: &[f64],
+    ready: &[f64],
+    due: &[f64],
+    penalty: &[f64],
+    distances: &[f64],
+    times: &[f64],
+    list: &[u16],
+    buffer: &mut [u16],
+    place: Place,
+) -> usize
+    requires { ⌜ Prepared setup (columnsAt (setup .l) flags service ready due penalty distances times) ⌝ }
+    requires { ⌜ Visits (setup .l) (now list) × (length (now list) ≤ length (now buffer)) ⌝ }
+    requires { ⌜ Inside (length (now list)) place ⌝ }
+    ensures { λ r.
+        ⌜ (let c = columnsAt (setup .l) (flags .entry) (service .entry) (ready .entry) (due .entry) (penalty .entry) (distances .entry) (times .entry)
+        in moveOf place r ≡ taken (searchOf c (setup .limits) (setup .depot)) (judgeOf c (setup .depot)) (now (list .entry)) (cutOf place)) ⌝ }
+    ensures { λ r. ⌜ r < 8 ⌝ }
+{
+    let cut = cut_at(
+        setup.l,
+        distances,
+        setup.symmetric,
+        setup.depot,
+        list,
+        place.i,
+        place.j,
+        place.k,
+    );
+    let mut best = Choice {
+        pattern: 0,
+        delta: -setup.floor,
+    };
+    let mut pattern = 1;
+    while pattern < 8 {
+        best = better_of(
+            setup,
+            flags,
+            service,
+            ready,
+            due,
+            penalty,
+            distances,
+            times,
+            list,
+            buffer,
+            place,
+            cut,
+            best,
+            pattern,
+        );
+        pattern += 1;
+    }
+    best.pattern
+}
+
+// ---- the search
+
+// The place behind a place.
+fn place_after(n: usize, place: Place) -> Place
+    requires { ⌜ Inside n place × (n ≤ 64) ⌝ }
+    ensures { λ r. ⌜ r ≡ placeAfter n place ⌝ }
+{
+    if place.k + 1 < n {
+        return Place {
+            i: place.i,
+            j: place.j,
+            k: place.k + 1,
+        };
+    }
+    if place.j + 2 < n {
+        return Place {
+            i: place.i,
+            j: place.j + 1,
+            k: place.j + 2,
+        };
+    }
+    Place {
+        i: place.i + 1,
+        j: place.i + 2,
+        k: place.i + 3,
+    }
+}
+
+// The first place that has a move, and its pattern.
+fn first_move(
+    setup: Setup,
+    flags: &[u8],
+    service: &[f64],
+    ready: &[f64],
+    due: &[f64],
+    penalty: &[f64],
+    distances: &[f64],
+    times: &[f64],
+    list: &[u16],
+    buffer: &mut [u16],
+) -> Found
+    requires { ⌜ Prepared setup (columnsAt (setup .l) flags service ready due penalty distances times) ⌝ }
+    requires { ⌜ Visits (setup .l) (now list) × (length (now list) ≤ length (now buffer)) ⌝ }
+    ensures { λ r.
+        ⌜ (let c = columnsAt (setup .l) (flags .entry) (service .entry) (ready .entry) (due .entry) (penalty .entry) (distances .entry) (times .entry)
+        in madeBy (now (list .entry)) r
+        ≡ firstMove (searchOf c (setup .limits) (setup .depot)) (judgeOf c (setup .depot)) (now (list .entry)) (cuts (length (now (list .entry))))) ⌝ }
+    ensures { λ r. ⌜ Within (length (now (list .entry))) r ⌝ }
+{
+    let mut place = Place { i: 0, j: 1, k: 2 };
+    if list.len() < 4 {
+        return Found { place, pattern: 0 };
+    }
+    while place.k < list.len() {
+        let pattern = best_pattern(
+            setup,
+            flags,
+            service,
+            ready,
+            due,
+            penalty,
+            distances,
+            times,
+            list,
+            buffer,
+            place,
+        );
+        if pattern != 0 {
+            return Found { place, pattern };
+        }
+        place = place_after(list.len(), place);
+    }
+    Found { place, pattern: 0 }
+}
+
+// Makes a move: the list is built in the buffer and copied back.
+fn make_move(list: &mut [u16], buffer: &mut [u16], found: Found)
+    requires { ⌜ Inside (length (now list)) (found .place) × (found .pattern < 8) ⌝ }
+    requires { ⌜ length (now list) ≤ length (now buffer) ⌝ }
+    ensures { λ _. ⌜ now (list .exit) ≡ reconnect (now (list .entry)) (reconnection (found .place) (found .pattern)) ⌝ }
+{
+    let place = found.place;
+    let end = reconnected_into(buffer, list, place, found.pattern);
+    append_stretch(list, 0, buffer, 0, end);
+}
+
+// Makes move after move until none is left or the limit is used up.
+fn descend(
+    setup: Setup,
+    flags: &[u8],
+    service: &[f64],
+    ready: &[f64],
+    due: &[f64],
+    penalty: &[f64],
+    distances: &[f64],
+    times: &[f64],
+    list: &mut [u16],
+    buffer: &mut [u16],
+    limit: u32,
+) -> Ended
+    requires { ⌜ Prepared setup (columnsAt (setup .l) flags service ready due penalty distances times) ⌝ }
+    requires { ⌜ Visits (setup .l) (now list) × (length (now list) ≤ length (now buffer)) ⌝ }
+    ensures { λ r.
+        ⌜ (let c = columnsAt (setup .l) (flags .entry) (service .entry) (ready .entry) (due .entry) (penalty .entry) (distances .entry) (times .entry) in
+        let run = run-of three-opt (checksOf [] c (setup .limits) (setup .depot))
+        (float-judge three-opt (mapOf (setup .l) (now (distances .entry)) (setup .depot) zero64)) limit (now (list .entry))
+        in (now (list .exit) ≡ run .last .now) × (r ≡ endedAs (run .word) (run .moves))) ⌝ }
+{
+    let mut moves = 0;
+    loop {
+        let found = first_move(
+            setup,
+            flags,
+            service,
+            ready,
+            due,
+            penalty,
+            distances,
+            times,
+            list,
+            buffer,
+        );
+        if found.pattern == 0 {
+            return Ended::Settled(moves);
+        }
+        if limit <= moves {
+            return Ended::Stopped(moves);
+        }
+        make_move(list, buffer, found);
+        moves += 1;
+    }
+}
+
+// 3-opt of one list, changed in place, with at most `limit` moves.
+pub fn three_opt_improve(
+    l: usize,
+    flags: &[u8],
+    service: &[f64],
+    ready: &[f64],
+    due: &[f64],
+    penalty: &[f64],
+    distances: &[f64],
+    times: &[f64],
+    limits: RouteLimits,
+    depot: usize,
+    list: &mut [u16],
+    limit: u32,
+) -> Ended
+    requires { ⌜ Formed (columnsAt l flags service ready due penalty distances times) ⌝ }
+    requires { ⌜ (depot < l) × Visits l (now list) ⌝ }
+    requires { ⌜ allPlain (now distances) ≡ true ⌝ }
+    ensures { λ r.
+        ⌜ (let c = columnsAt l (flags .entry) (service .entry) (ready .entry) (due .entry) (penalty .entry) (distances .entry) (times .entry) in
+        let run = run-of three-opt (checksOf [] c limits depot) (float-judge three-opt (mapOf l (now (distances .entry)) depot zero64)) limit (now (list .entry))
+        in (now (list .exit) ≡ run .last .now) × (r ≡ endedAs (run .word) (run .moves))) ⌝ }
+{
+    let floor = gain_floor(scale(distances));
+    let symmetric = is_symmetric(l, distances);
+    let needed = route_checks_needed(flags, limits);
+    let setup = Setup {
+        l,
+        depot,
+        limits,
+        floor,
+        symmetric,
+        needed,
+    };
+    let mut buffer = [0u16; 64];
+    descend(
+        setup,
+        flags,
+        service,
+        ready,
+        due,
+        penalty,
+        distances,
+        times,
+        list,
+        &mut buffer,
+        limit,
+    )
+}
