@@ -1,0 +1,4 @@
+pub mod Onward
+pub mod Choice
+pub mod Layouts
+pub mod Passes
