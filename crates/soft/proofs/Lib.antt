@@ -2,3 +2,4 @@ pub mod Onward
 pub mod Choice
 pub mod Layouts
 pub mod Passes
+pub mod Counts
