@@ -1,0 +1,5 @@
+pub mod Onward
+pub mod Choice
+pub mod Layouts
+pub mod Passes
+pub mod Counts

@@ -1,0 +1,36 @@
+-- `improve`: the floor is the table's, and the buffer is long enough for any list.
+use native.Mathlib.Omega.{arith}
+use mathlib.Core.Path.{_≡_, ap, _∙_}
+use Rattle.numbers.specs.Floor.{gainFloor}
+use borrow.Author.Needs.{needs}
+use Rattle.soft.proofs.improve.Statement.{statement}
+use Rattle.soft.proofs.improve.Tie as tie
+
+scale-requires : tie.Need-scale-requires
+scale-requires c κs = search needs
+
+gain-floor-requires : tie.Need-gain-floor-requires
+gain-floor-requires c κs = search needs
+
+slice-aggregate-descend : tie.Need-slice-aggregate-descend
+slice-aggregate-descend c = search needs
+
+descend-requires : tie.Need-descend-requires
+descend-requires c κs = (c .before .before .before .before .before .before .before .before .before .before .before .before .pre .0, (c .before .before .before .before .before .before .before .before .before .before .before .before .pre .1, omega (arith, c .before .before .before .before .before .before .before .before .before .before .before .before .pre .1 .1 .few)))
+
+same-length : tie.Need-same-length
+same-length c = search needs
+
+returns : tie.Need-returns
+returns c = rw (← (c .before .before .before .before .before .before .gain-floor .ensures ∙ ap gainFloor (c .before .before .before .before .before .before .before .scale .ensures))) (c .before .before .before .descend .ensures)
+
+pub improve-spec : {M : Type 1} → statement M
+improve-spec =
+    tie.close
+    (tie.spec
+    scale-requires
+    gain-floor-requires
+    slice-aggregate-descend
+    descend-requires
+    same-length
+    returns)

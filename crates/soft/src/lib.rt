@@ -1,0 +1,281 @@
+// local_search/soft.rs: the search within a list where a day has a soft window. A move that shortens a list can make its van late, and one that
+// lengthens it can save the lateness, so every neighbour is priced whole, and the one of least effective cost is taken (steepest descent).
+//
+// The Rust's closure over all neighbours is a loop over places here (neighbours.rt), each laid out in one lent buffer (layout.rt). The best so far
+// is kept by its numbers, and made again at the end of the pass.
+pub mod layout;
+pub mod neighbours;
+use crate::layout::lay_out;
+use crate::layout::layout_of;
+use crate::layout::make;
+use crate::neighbours::Found;
+use crate::neighbours::Neighbourhood;
+use crate::neighbours::Place;
+use crate::neighbours::after;
+use crate::neighbours::first_place;
+use day::matrix::scale;
+use day::vehicle::RouteLimits;
+use engine::Ended;
+use evaluation::route::effective_cost;
+use numbers::gain_floor;
+ghost use mathlib.Core.Path.{_≡_};
+ghost use Prim.Native.Nat.{_<_, _≤_};
+ghost use lib.ListN.{length};
+ghost use Rattle.numbers.specs.Floor.{gainFloor};
+ghost use Rattle.day.specs.Matrix.{scaleOf};
+ghost use Rattle.evaluation.specs.Columns.{columnsAt, Formed, Visits};
+ghost use Rattle.evaluation.specs.Route.{effectiveCost};
+ghost use Rattle.descent.specs.Search.{taken};
+ghost use Rattle.engine.specs.Engine.{endedAs};
+ghost use Rattle.soft.specs.Soft.{made, soft-search, soft-judge, soft-run};
+ghost use Rattle.soft.specs.Places.{meant, Inside, chosen, better, Known};
+
+// The best neighbour so far, and the cost that a better one must be below.
+pub struct Best {
+    pub bound: f64,
+    pub found: Found,
+}
+
+impl Best {
+    // Of equal costs the first stays.
+    fn or(self, price: f64, place: Place) -> Best
+        ensures { λ r. ⌜ r ≡ better self price place ⌝ }
+    {
+        if price < self.bound {
+            return Best {
+                bound: price,
+                found: Found::At(place),
+            };
+        }
+        self
+    }
+}
+
+// What the neighbour at a place costs.
+fn price_of(
+    l: usize,
+    flags: &[u8],
+    service: &[f64],
+    ready: &[f64],
+    due: &[f64],
+    penalty: &[f64],
+    distances: &[f64],
+    times: &[f64],
+    limits: RouteLimits,
+    depot: usize,
+    list: &[u16],
+    buffer: &mut [u16],
+    place: Place,
+) -> f64
+    requires { ⌜ Formed (columnsAt l flags service ready due penalty distances times) ⌝ }
+    requires { ⌜ (depot < l) × Visits l (now list) ⌝ }
+    requires { ⌜ (length (now list) ≤ length (now buffer)) × Inside (length (now list)) place ⌝ }
+    ensures { λ r.
+        ⌜ r ≡ effectiveCost
+        (columnsAt l (flags .entry) (service .entry) (ready .entry) (due .entry) (penalty .entry) (distances .entry) (times .entry))
+        limits
+        depot
+        (made (now (list .entry)) (meant place)) ⌝ }
+{
+    let n = list.len();
+    let p = layout_of(n, place);
+    lay_out(buffer, list, p);
+    effective_cost(
+        l,
+        flags,
+        service,
+        ready,
+        due,
+        penalty,
+        distances,
+        times,
+        limits,
+        depot,
+        &buffer[0..n],
+    )
+}
+
+// One pass: the first least of the neighbours that beat the list's cost by more than the floor.
+fn best_neighbour(
+    l: usize,
+    flags: &[u8],
+    service: &[f64],
+    ready: &[f64],
+    due: &[f64],
+    penalty: &[f64],
+    distances: &[f64],
+    times: &[f64],
+    limits: RouteLimits,
+    depot: usize,
+    which: Neighbourhood,
+    list: &[u16],
+    buffer: &mut [u16],
+    cost: f64,
+    floor: f64,
+) -> Best
+    requires { ⌜ Formed (columnsAt l flags service ready due penalty distances times) ⌝ }
+    requires { ⌜ (depot < l) × Visits l (now list) ⌝ }
+    requires { ⌜ length (now list) ≤ length (now buffer) ⌝ }
+    requires { ⌜ cost ≡ effectiveCost (columnsAt l flags service ready due penalty distances times) limits depot (now list) ⌝ }
+    ensures { λ r.
+        ⌜ (let price = effectiveCost
+        (columnsAt l (flags .entry) (service .entry) (ready .entry) (due .entry) (penalty .entry) (distances .entry) (times .entry))
+        limits
+        depot in
+        let xs = now (list .entry) in
+        (chosen (r .found) ≡ taken (soft-search which) (soft-judge price floor) xs tt) × Known (λ m. price (made xs m)) (length xs) r) ⌝ }
+{
+    let n = list.len();
+    let mut best = Best {
+        bound: cost - floor,
+        found: Found::Nothing,
+    };
+    let mut here = first_place(which, n);
+    loop {
+        let Found::At(place) = here else {
+            return best;
+        };
+        let price = price_of(
+            l,
+            flags,
+            service,
+            ready,
+            due,
+            penalty,
+            distances,
+            times,
+            limits,
+            depot,
+            list,
+            buffer,
+            place,
+        );
+        best = best.or(price, place);
+        here = after(n, place);
+    }
+}
+
+// Passes until none finds a neighbour, or the limit forbids a move. The cost of a list is the price of the neighbour that it was.
+fn descend(
+    l: usize,
+    flags: &[u8],
+    service: &[f64],
+    ready: &[f64],
+    due: &[f64],
+    penalty: &[f64],
+    distances: &[f64],
+    times: &[f64],
+    limits: RouteLimits,
+    depot: usize,
+    which: Neighbourhood,
+    list: &mut [u16],
+    buffer: &mut [u16],
+    floor: f64,
+    limit: u32,
+) -> Ended
+    requires { ⌜ Formed (columnsAt l flags service ready due penalty distances times) ⌝ }
+    requires { ⌜ (depot < l) × Visits l (now list) ⌝ }
+    requires { ⌜ length (now list) ≤ length (now buffer) ⌝ }
+    ensures { λ r.
+        ⌜ (let run = soft-run which
+        (columnsAt l (flags .entry) (service .entry) (ready .entry) (due .entry) (penalty .entry) (distances .entry) (times .entry))
+        limits
+        depot
+        floor
+        limit
+        (now (list .entry)) in
+        (now (list .exit) ≡ run .last .now) × (r ≡ endedAs (run .word) (run .moves))) ⌝ }
+{
+    let mut moves = 0;
+    let mut cost = effective_cost(
+        l,
+        flags,
+        service,
+        ready,
+        due,
+        penalty,
+        distances,
+        times,
+        limits,
+        depot,
+        list,
+    );
+    loop {
+        let best = best_neighbour(
+            l,
+            flags,
+            service,
+            ready,
+            due,
+            penalty,
+            distances,
+            times,
+            limits,
+            depot,
+            which,
+            list,
+            buffer,
+            cost,
+            floor,
+        );
+        let found = best.found;
+        let Found::At(place) = found else {
+            return Ended::Settled(moves);
+        };
+        if moves == limit {
+            return Ended::Stopped(moves);
+        }
+        make(list, buffer, place);
+        cost = best.bound;
+        moves = moves + 1;
+    }
+}
+
+// Steepest descent over the effective cost, in one neighbourhood. The list is changed in place.
+pub fn improve(
+    l: usize,
+    flags: &[u8],
+    service: &[f64],
+    ready: &[f64],
+    due: &[f64],
+    penalty: &[f64],
+    distances: &[f64],
+    times: &[f64],
+    limits: RouteLimits,
+    depot: usize,
+    which: Neighbourhood,
+    list: &mut [u16],
+    limit: u32,
+) -> Ended
+    requires { ⌜ Formed (columnsAt l flags service ready due penalty distances times) ⌝ }
+    requires { ⌜ (depot < l) × Visits l (now list) ⌝ }
+    ensures { λ r.
+        ⌜ (let run = soft-run which
+        (columnsAt l (flags .entry) (service .entry) (ready .entry) (due .entry) (penalty .entry) (distances .entry) (times .entry))
+        limits
+        depot
+        (gainFloor (scaleOf (now (distances .entry))))
+        limit
+        (now (list .entry)) in
+        (now (list .exit) ≡ run .last .now) × (r ≡ endedAs (run .word) (run .moves))) ⌝ }
+{
+    let floor = gain_floor(scale(distances));
+    let mut buffer = [0u16; 64];
+    descend(
+        l,
+        flags,
+        service,
+        ready,
+        due,
+        penalty,
+        distances,
+        times,
+        limits,
+        depot,
+        which,
+        list,
+        &mut buffer,
+        floor,
+        limit,
+    )
+}
