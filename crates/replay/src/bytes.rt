@@ -4,7 +4,7 @@ ghost use mathlib.Core.Bool.{not};
 ghost use mathlib.Core.Path.{_≡_};
 ghost use lib.Ieee.{binary64, nanBits};
 
-pub const NOWHERE: usize = 0xffff_ffff_ffff_ffff;
+const NOWHERE: usize = 0xffff_ffff_ffff_ffff;
 
 // The byte at a position, 0 where there is none.
 pub fn byte_at(bytes: &[u8], at: usize) -> u8 {

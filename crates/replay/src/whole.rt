@@ -29,7 +29,7 @@ fn are_known(table: &[u8], bytes: &[u8]) -> bool {
 // Whether no word of a table is a NaN's.
 fn are_floats(table: &[u8]) -> bool {
     let mut i = 0;
-    while i < 255 {
+    while i < 128 {
         if !is_float(word(table, i)) {
             return false;
         }

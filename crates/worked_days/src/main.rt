@@ -3,10 +3,12 @@
 mod line; // the day and its van
 mod print; // lines and numbers
 mod check; // distance, windows, break
+mod table; // what the searches work out of a table
 mod asked; // the list asked for
 mod refused; // refusals 1 to 10
 
 fn main() {
+    table::table();
     check::distances();
     check::windows();
     check::soft_window();

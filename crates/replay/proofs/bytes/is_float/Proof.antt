@@ -2,8 +2,7 @@
 use mathlib.Core.Bool.{not, true, false}
 use mathlib.Core.Path.{_≡_, refl}
 use borrow.Author.Tests.{eq-eqb, ne-eqb}
-use lib.Dec.{eqb}
-use lib.Ieee.{binary64, nanBits}
+use lib.Ieee.{nanBits}
 use Rattle.replay.proofs.bytes.is_float.Statement.{statement}
 use Rattle.replay.proofs.bytes.is_float.Tie as tie
 

@@ -8,7 +8,7 @@ abbrev Inv-loop : tie.InvT-loop
 Inv-loop table i₀ i = Unit
 
 abbrev μ-loop : tie.MeasureT-loop
-μ-loop table i₀ i = 255 - i
+μ-loop table i₀ i = 128 - i
 
 loop-holds : tie.Need-loop-holds Inv-loop μ-loop
 loop-holds c = search needs
