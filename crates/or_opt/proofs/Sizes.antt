@@ -25,11 +25,15 @@ use Rattle.or_opt.proofs.Choosing.{then-more}
 use Rattle.or_opt.proofs.Moved.{is-put, asked-moved}
 use Rattle.or_opt.proofs.Running.{Going, going-moves}
 
--- no piece as long as the list, or longer
-pub too-long : (n size : ℕ) → n ≤ size → pieces last-position n size ≡ []
-too-long n size h =
+-- the last position is within the list, whichever it is
+reach : (n size : ℕ) → last-position n size ≤ n
+reach n size = omega arith
+
+-- a piece as long as the list, or longer, has no position to go to
+pub too-long : (last : ℕ → ℕ → ℕ) → ((n size : ℕ) → last n size ≤ n) → (n size : ℕ) → n ≤ size → pieces last n size ≡ []
+too-long last within n size h =
     let none-left : n - size ≡ 0 = omega arith in
-    rw none-left (rw (range-done (suc (0 + size)) 1 (omega arith)))
+    rw (none-left, range-done (suc (0 + size)) (suc (last n size)) (omega (arith, within n size)))
 
 module _ (c : Columns) (t : Terms) (xs : List ℕ) where
   -- a row of positions, those before the piece and then those behind it
@@ -46,7 +50,7 @@ module _ (c : Columns) (t : Terms) (xs : List ℕ) where
 
   pub none-chosen : (size : ℕ) → length xs ≤ size → pieceOf Nothing ≡ taken (searchOf c t) (judgeOf c t) xs size
   unfolding taken firstLeast pieceOf
-  none-chosen size h = rw (too-long (length xs) size h) refl
+  none-chosen size h = rw (too-long last-position reach (length xs) size h)
 
   -- what is taken is of this length, and can be moved
   pub fits-taken : (size : ℕ) (m : Change) → pieceOf (Move m) ≡ taken (searchOf c t) (judgeOf c t) xs size → (m .size ≡ size) × Fits (length xs) (placed m)
@@ -54,7 +58,7 @@ module _ (c : Columns) (t : Terms) (xs : List ℕ) where
   fits-taken size m e =
       let there = first-least-some (ok (searchOf c t) (judgeOf c t) xs) (λ p best. lt (deltaAt c t xs p) (deltaAt c t xs best))
       (pieces last-position (length xs) size) (placed m) (sym e) in
-      let at = pieces-in last-position (λ n p. omega arith) (length xs) size (placed m) (there .0) in
+      let at = pieces-in last-position reach (length xs) size (placed m) (there .0) in
       let same : m .size ≡ size = at .0 in
       let inside : m .from + size ≤ length xs = at .1 in
       (same, go same inside (at .2))
@@ -63,7 +67,8 @@ module _ (c : Columns) (t : Terms) (xs : List ℕ) where
       go same inside (inl earlier) = record { inside = omega arith; there = omega arith; apart = inl earlier }
       go same inside (inr later) =
           let behind : m .from + size < m .to = later .0 in
-          let last : m .to ≤ length xs - size = later .1 in
+          let last : m .to ≤ last-position (length xs) size = later .1 in
+          let within = reach (length xs) size in
           record { inside = omega arith; there = omega arith; apart = inr (omega arith) }
 
   -- at a length that has a move; at one that has none; behind the last

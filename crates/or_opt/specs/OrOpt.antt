@@ -26,6 +26,7 @@ use Rattle.or_opt.specs.declared.Best.the-variants.{Nothing, Move}
 abbrev pub last-position : ℕ → ℕ → ℕ
 last-position = n-minus-length
 
+-- Or-opt with that last position
 abbrev pub engine : Engine
 engine = or-opt last-position
 
@@ -41,6 +42,7 @@ roadMap c t = mapOf (c .l) (c .distances) (t .depot) zero64
 abbrev pub judgeOf : Columns → Terms → Judge (List ℕ) Piece Float
 judgeOf c t = float-judge engine (roadMap c t)
 
+-- 01, Modules, 7: the change in distance of a candidate, bit for bit as the Rust works it out
 abbrev pub deltaAt : Columns → Terms → List ℕ → Piece → Float
 deltaAt c t = deltaOf engine (roadMap c t)
 
@@ -80,9 +82,11 @@ row n size from = to-each size from (range 0 from ++ range (suc (from + size)) (
 
 -- ---- the best so far
 
+-- the definition's candidate
 abbrev pub placed : Change → Piece
 placed m = record { size = m .size; from = m .from; to = m .to }
 
+-- the best so far as the definition has it
 unfoldable pub pieceOf : Best → Option Piece
 pieceOf Nothing = none
 pieceOf (Move m) = some (placed m)
