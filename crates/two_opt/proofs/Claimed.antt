@@ -1,8 +1,8 @@
 -- Demand 3 of what `two_opt_improve` answers: its run is the definition's, the fixed cost is in no delta of 2-opt, and its list is one list of at most 63
 -- visits. Assumes nothing but the premises of demand 3.
-use mathlib.Core.Path.{_≡_, refl, sym, _∙_}
+use mathlib.Core.Path.{_≡_, refl}
 use mathlib.Core.List.{List, [], _∷_}
-use Prim.Native.Nat.{ℕ, zero, suc, _<_, _≤_}
+use Prim.Native.Nat.{ℕ, zero, suc, _<_}
 use native.Mathlib.Omega.{arith}
 use lib.ListN.{length, getD}
 use lib.Ieee.{Float}
@@ -15,7 +15,6 @@ use Rattle.descent.specs.Engines.{run-of}
 use Rattle.descent.specs.Claim.{Claim}
 use Rattle.deltas.specs.Judged.{float-judge, roadsOf, WholeMap, Lent}
 use Rattle.deltas.proofs.Exact.{float-demand-3}
-use Rattle.engine.specs.declared.Ended.{Ended}
 use Rattle.engine.specs.Engine.{checksOf, mapOf, endedAs}
 
 -- an answer tells its word and its moves

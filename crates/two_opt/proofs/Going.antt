@@ -1,8 +1,8 @@
 -- A turn of the run loop: where the search finds nothing the run is settled, where the limit is used up stopped, else the rest of the run goes on from
 -- the list as it is now. Assumes nothing.
-use mathlib.Core.Path.{_≡_, refl, sym, ap, _∙_}
-use mathlib.Core.Option.{Option, none, some}
-use mathlib.Core.List.{List, []}
+use mathlib.Core.Path.{_≡_, refl, sym, _∙_}
+use mathlib.Core.Option.{some}
+use mathlib.Core.List.{List}
 use Prim.Native.Nat.{ℕ, _+_, _-_, _<_, _≤_}
 use lib.ListN.{length}
 use Rattle.evaluation.specs.Columns.{Columns}

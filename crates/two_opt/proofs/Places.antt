@@ -2,8 +2,7 @@
 -- Assumes nothing.
 use mathlib.Core.Path.{_≡_, refl, sym, ap, _∙_}
 use mathlib.Core.Bool.{Bool, true, false, cond}
-use mathlib.Core.Logic.{⊎-elim}
-use mathlib.Core.List.{List, [], _∷_}
+use mathlib.Core.List.{[], _∷_}
 use Prim.Native.Nat.{ℕ, zero, suc, _+_, _-_, _<_, _≤_}
 use native.Mathlib.Numerals.{add-one}
 use native.Mathlib.Omega.{arith}
@@ -13,7 +12,7 @@ use lib.ListN.{length}
 use Rattle.descent.specs.Within.{reversals}
 use Rattle.descent.proofs.Loops.{reversals-from, reversals-start, reversals-turn, reversals-next, reversals-done}
 use Rattle.two_opt.specs.declared.Place.{Place}
-use Rattle.two_opt.specs.TwoOpt.{InSweep, reversalAt, placeAfter, from}
+use Rattle.two_opt.specs.TwoOpt.{InSweep, reversalAt, next-in-row, next-row, placeAfter, from}
 
 -- behind the last place of a row comes the next row, if there is one
 row-over : (n i : ℕ) → suc i < n → reversals-from n i n ≡ reversals-from n (suc i) (suc (suc i))
@@ -27,8 +26,7 @@ row-over n i h = go (ltb (suc i) (n - 1)) refl
 
 module _ (n : ℕ) (p : Place) (order : p .first < p .last) (there : p .last < n) where
   -- those ahead of a place are those from the next one on
-  step : (b : Bool) → ltb (p .last + 1) n ≡ b → from n (cond b (record { first = p .first; last = p .last + 1 }) (record { first = p .first + 1; last = p .first + 2 }))
-      ≡ reversals-from n (p .first) (suc (p .last))
+  step : (b : Bool) → ltb (p .last + 1) n ≡ b → from n (cond b (next-in-row p) (next-row p)) ≡ reversals-from n (p .first) (suc (p .last))
   unfolding from
   step true e = rw (add-one (p .last))
   step false e =
@@ -44,7 +42,7 @@ module _ (n : ℕ) (p : Place) (order : p .first < p .last) (there : p .last < n
   unfolding placeAfter
   still-in = go (ltb (p .last + 1) n) refl
     where
-      go : (b : Bool) → ltb (p .last + 1) n ≡ b → InSweep n (cond b (record { first = p .first; last = p .last + 1 }) (record { first = p .first + 1; last = p .first + 2 }))
+      go : (b : Bool) → ltb (p .last + 1) n ≡ b → InSweep n (cond b (next-in-row p) (next-row p))
       go true e = let h = ltb-true (p .last + 1) n e in record { ordered = omega arith; ends = λ past. absurd (omega arith) }
       go false e = record { ordered = omega arith; ends = λ past. omega arith }
 

@@ -1,9 +1,9 @@
 -- A run turn by turn: what a run has done so far and what a run from here on would do make the whole run. For any engine's run loop. Assumes nothing.
-use mathlib.Core.Path.{_≡_, refl, sym, ap, _∙_}
+use mathlib.Core.Path.{_≡_, refl}
 use mathlib.Core.Option.{Option, none, some}
-use Prim.Native.Nat.{ℕ, zero, suc, _+_, _-_, _<_, _≤_}
+use Prim.Native.Nat.{ℕ, suc, _+_, _-_, _<_, _≤_}
 use native.Mathlib.Omega.{arith}
-use Rattle.descent.specs.Search.{Word, settled, stopped, Outcome, run}
+use Rattle.descent.specs.Search.{settled, stopped, Outcome, run}
 use Rattle.descent.proofs.Loops.{run-settles, run-stops, run-moves}
 
 -- an outcome after some moves already made

@@ -1,6 +1,6 @@
 -- One place: the code's two tests, of the delta and of the list turned round, are the definition's one. Assumes nothing.
-use mathlib.Core.Path.{_≡_, refl, sym, ap, _∙_}
-use mathlib.Core.Bool.{Bool, true, false, _&&_}
+use mathlib.Core.Path.{_≡_, sym, _∙_}
+use mathlib.Core.Bool.{Bool, true, false}
 use mathlib.Core.List.{List}
 use Prim.Native.Nat.{ℕ}
 use lib.Ieee.{Float}
@@ -10,11 +10,10 @@ use Rattle.day.specs.Matrix.{leg, Square}
 use Rattle.evaluation.specs.Columns.{Columns, Visits}
 use Rattle.descent.specs.Search.{ok}
 use Rattle.deltas.specs.Deltas.{Marked, Listed, twoOptDelta}
-use Rattle.deltas.specs.Judged.{floorOf}
 use Rattle.engine.specs.Engine.{passing}
 use Rattle.two_opt.specs.declared.Terms.{Terms}
 use Rattle.two_opt.specs.declared.Place.{Place}
-use Rattle.two_opt.specs.TwoOpt.{Worked, searching, judging, reversalAt, gains, turnedAt}
+use Rattle.two_opt.specs.TwoOpt.{Worked, judging, reversalAt, gains, turnedAt}
 use Rattle.two_opt.proofs.Turns.{turned-is}
 
 -- what the delta asks
@@ -27,7 +26,8 @@ delta-asks c t xs w v = (
 )
 
 module _ (c : Columns) (t : Terms) (w : Worked c t) (xs : List ℕ) (p : Place) where
-  module _ (delta : Float) (is : delta ≡ twoOptDelta (leg (c .l) (c .distances)) (t .depot) xs (p .first) (p .last)) (counted : Bool) (told : counted ≡ counts delta (t .floor)) where
+  module _ (delta : Float) (is : delta ≡ twoOptDelta (leg (c .l) (c .distances)) (t .depot) xs (p .first) (p .last)) (counted : Bool)
+      (told : counted ≡ counts delta (t .floor)) where
     count-is : counted ≡ (judging c t .counts) (judging c t .delta xs (reversalAt p))
     count-is = rw (← (w .floor), ← is) told
 

@@ -1,28 +1,28 @@
 -- What a search answers is the definition's first move: a place whose reversal is not taken is passed over, and at one that is taken the move is made.
 -- Assumes nothing.
 use mathlib.Core.Path.{_≡_, refl, sym, ap, _∙_}
-use mathlib.Core.Bool.{Bool, true, false, cond, _&&_}
-use mathlib.Core.Option.{Option, none, some}
-use mathlib.Core.List.{List, [], _∷_}
-use Prim.Native.Nat.{ℕ, suc, _+_, _<_, _≤_}
+use mathlib.Core.Bool.{Bool, true, false, cond}
+use mathlib.Core.Option.{Option, none}
+use mathlib.Core.List.{List}
+use Prim.Native.Nat.{ℕ, _+_, _<_, _≤_}
 use native.Mathlib.Numerals.{add-one}
 use native.Mathlib.Omega.{arith}
-use lib.ListN.{length, getD}
+use lib.ListN.{length}
 use lib.Dec.{ltb}
 use borrow.Author.Tests.{lt-ltb, ltb-true}
-use lib.Ieee.{Float}
 use Rattle.edits.specs.Edits.{reversed}
 use Rattle.edits.proofs.Kept.{same-reversed, same-each, length-reversed}
 use Rattle.edits.proofs.Turns.{reversed-twice}
 use Rattle.evaluation.specs.Columns.{Columns, Visits}
-use Rattle.descent.specs.Search.{Sweep, ok, taken, firstMove, next}
-use Rattle.descent.specs.Within.{Reversal, turned, reversals}
+use Rattle.descent.specs.Search.{Sweep, taken, firstMove}
+use Rattle.descent.specs.Within.{Reversal, turned}
 use Rattle.descent.proofs.Loops.{place-passed, place-moved, one-taken, one-left, next-ahead, next-sweep}
 use Rattle.two_opt.specs.declared.Terms.{Terms}
 use Rattle.two_opt.specs.declared.Place.{Place}
 use Rattle.two_opt.specs.declared.Found.{Found}
 use Rattle.two_opt.specs.declared.Found.the-variants.{At, Nothing}
-use Rattle.two_opt.specs.TwoOpt.{searching, judging, reversalAt, placeAfter, from, gains, turnedAt, firstTurn, nextTurn, led, leaves, Inside, Searched, InSweep}
+use Rattle.two_opt.specs.TwoOpt.{searching, judging, InSweep, reversalAt, placeAfter, from, gains, turnedAt, firstTurn, nextTurn}
+use Rattle.two_opt.specs.TwoOpt.{led, leaves, Inside, Searched}
 use Rattle.two_opt.proofs.Places.{from-turn, from-end, from-start}
 
 -- a reversal in the definition's words
@@ -68,8 +68,8 @@ module _ (c : Columns) (t : Terms) (xs : List ℕ) (p : Place) (order : p .first
 
 -- the code's answer at a place: the search ends there, or goes on behind it with the list as it was
 module _ (c : Columns) (t : Terms) (xs list : List ℕ) (p start : Place) (same : list ≡ xs) (order : p .first < p .last) (there : p .last < length xs)
-    (so-far : firstTurn c t xs (from (length xs) p) ≡ firstTurn c t xs (from (length xs) start)) (answer : Bool) (is : answer ≡ gains c t list p) {after : List ℕ}
-    (becomes : after ≡ cond answer (turnedAt list p) list) where
+    (so-far : firstTurn c t xs (from (length xs) p) ≡ firstTurn c t xs (from (length xs) start)) (answer : Bool) (is : answer ≡ gains c t list p)
+    {after : List ℕ} (becomes : after ≡ cond answer (turnedAt list p) list) where
   pub found-here : answer ≡ true → Searched (firstTurn c t xs (from (length xs) start)) xs after (At p)
   unfolding leaves Inside
   found-here e =

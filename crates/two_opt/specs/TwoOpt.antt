@@ -34,10 +34,11 @@ pub record Worked (c : Columns) (t : Terms) : Type 0 where
   pub symmetric : t .symmetric ≡ symmetric (c .l) (c .distances)
   pub needed : t .needed ≡ checksNeeded (c .flags) (t .limits)
 
--- the search and the judge of 2-opt on these columns
+-- the search of 2-opt on these columns
 abbrev pub searching : Columns → Terms → Search (List ℕ) Reversal Reversal
 searching c t = two-opt-search (checksOf [] c (t .limits) (t .depot))
 
+-- and how it judges; the fixed cost is in no delta within a list
 abbrev pub judging : Columns → Terms → Judge (List ℕ) Reversal Float
 judging c t = float-judge two-opt (mapOf (c .l) (c .distances) (t .depot) zero64)
 
@@ -47,9 +48,17 @@ judging c t = float-judge two-opt (mapOf (c .l) (c .distances) (t .depot) zero64
 abbrev pub reversalAt : Place → Reversal
 reversalAt p = record { first = p .first; last = p .last }
 
--- the place that follows in a sweep of n visits: the next end of the row, or the first of the next row
+-- `for j in i + 1..n`: the next place of a row
+abbrev pub next-in-row : Place → Place
+next-in-row p = record { first = p .first; last = p .last + 1 }
+
+-- `for i in 0..n - 1`: the first place of the next row
+abbrev pub next-row : Place → Place
+next-row p = record { first = p .first + 1; last = p .first + 2 }
+
+-- the place that follows in a sweep of n visits
 unfoldable pub placeAfter : ℕ → Place → Place
-placeAfter n p = cond (ltb (p .last + 1) n) (record { first = p .first; last = p .last + 1 }) (record { first = p .first + 1; last = p .first + 2 })
+placeAfter n p = cond (ltb (p .last + 1) n) (next-in-row p) (next-row p)
 
 -- a place of a sweep of n visits; or, where its end is past the last visit, the end of the sweep
 pub record InSweep (n : ℕ) (p : Place) : Type 0 where
@@ -70,18 +79,20 @@ gains c t xs p = ok (searching c t) (judging c t) xs (reversalAt p)
 abbrev pub turnedAt : List ℕ → Place → List ℕ
 turnedAt xs p = reversed (p .first) (p .last + 1) xs
 
--- the first move at some places, and the next move of a run
+-- the first move at some places
 unfoldable pub firstTurn : Columns → Terms → List ℕ → List Reversal → Option (Sweep (List ℕ) Reversal)
 firstTurn c t = firstMove (searching c t) (judging c t)
 
+-- the next move of a run
 unfoldable pub nextTurn : Columns → Terms → Sweep (List ℕ) Reversal → Option (Sweep (List ℕ) Reversal)
 nextTurn c t = next (searching c t) (judging c t)
 
--- what a search that found a place leads to, and what it leaves of the list
+-- what a search that found this leads to. 01: 'it goes on from there'
 unfoldable pub led : List ℕ → Found → Option (Sweep (List ℕ) Reversal)
 led xs Nothing = none
 led xs (At p) = some (record { now = turnedAt xs p; ahead = from (length xs) (placeAfter (length xs) p) })
 
+-- what it leaves of the list
 unfoldable pub leaves : List ℕ → Found → List ℕ
 leaves xs Nothing = xs
 leaves xs (At p) = turnedAt xs p

@@ -16,7 +16,7 @@ use numbers::gain_floor;
 ghost use mathlib.Core.Path.{_≡_};
 ghost use mathlib.Core.Bool.{true, cond};
 ghost use mathlib.Core.List.{[]};
-ghost use Prim.Native.Nat.{_<_, _≤_};
+ghost use Prim.Native.Nat.{_<_};
 ghost use lib.ListN.{length};
 ghost use Rattle.numbers.specs.Operations.{zero64};
 ghost use Rattle.day.specs.Refusal.{allPlain};

@@ -1,6 +1,5 @@
 -- `first_move`: the first move from the place at hand on is the first from the start on, and the list is as it was. The measure is how many places are
 -- left.
-use borrow.Author.Needs.{needs}
 use mathlib.Core.Path.{_≡_, refl, ap, _∙_}
 use lib.ListN.{length}
 use Rattle.evaluation.specs.Columns.{columns}
