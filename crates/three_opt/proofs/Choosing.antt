@@ -52,7 +52,8 @@ module _ {C : Type 0} (delta : C → Float) (pass : C → Bool) (bound : Float) 
   counts-too (some best) c u e =
       T-true (lt (delta c) bound) (lt-trans (delta c) (delta best) bound (true-T (lt (delta c) (delta best)) e) (true-T (lt (delta best) bound) u))
 
-  pub onward-better : (o : Option C) (c : C) (cs : List C) → Counted o → (lt (delta c) (figure o) && pass c) ≡ true → onward o (c ∷ cs) ≡ onward (some c) cs
+  pub onward-better : (o : Option C) (c : C) (cs : List C) → Counted o → (lt (delta c) (figure o) && pass c) ≡ true
+      → onward o (c ∷ cs) ≡ onward (some c) cs
   onward-better none c cs u e = first-found may less c cs e
   onward-better (some best) c cs u e =
       let t = and-parts (lt (delta c) (delta best)) (pass c) e in

@@ -1,16 +1,15 @@
 -- A run that is under way: what it has come to and what it still comes to are the whole run, so the loop ends with the run's own answer.
--- And the search for the next move: a place that has none is passed, and one that has ends it. Assumes nothing.
+-- Within a sweep the next move is the first from the place on: a place that has none is passed. Assumes nothing.
 use mathlib.Core.Path.{_≡_, refl, sym, ap, _∙_}
 use mathlib.Core.Option.{Option, none, some}
-use mathlib.Core.List.{List, [], _∷_}
+use mathlib.Core.List.{List, []}
 use Prim.Native.Nat.{ℕ, zero, suc, _+_, _-_, _≤_, _<_}
-use native.Mathlib.Numerals.{add-one}
 use native.Mathlib.Omega.{arith}
 use lib.ListN.{length}
 use Rattle.day.specs.declared.vehicle.RouteLimits.{RouteLimits}
 use Rattle.evaluation.specs.Columns.{Columns}
 use Rattle.descent.specs.Search.{Sweep, Outcome, settled, stopped, taken, firstMove, next, run}
-use Rattle.descent.specs.Within.{Cut, Reconnection, cuts, reconnect}
+use Rattle.descent.specs.Within.{Cut, cuts, reconnect}
 use Rattle.descent.proofs.Loops.{place-passed, place-moved, next-sweep, run-settles, run-stops, run-moves}
 use Rattle.descent.specs.Permitted.{three-opt}
 use Rattle.descent.specs.Engines.{run-of}
@@ -19,9 +18,10 @@ use Rattle.deltas.specs.Judged.{float-judge}
 use Rattle.engine.specs.Engine.{checksOf, mapOf, endedAs}
 use Rattle.engine.specs.declared.Ended.{Ended}
 use Rattle.engine.specs.declared.Ended.the-variants.{Settled, Stopped}
-use Rattle.three_opt.specs.ThreeOpt.{searchOf, judgeOf, cutOf, reconnection, moveOf, madeBy}
+use Rattle.three_opt.specs.ThreeOpt.{searchOf, judgeOf, cutOf, reconnection, moveOf, placeAfter}
 use Rattle.three_opt.specs.declared.Place.{Place}
-use Rattle.three_opt.specs.declared.Found.{Found}
+use Rattle.three_opt.proofs.Places.{cutsFrom, Standing, cuts-start, cuts-few, standing-start, standing-inside, cuts-turn, standing-turn, cuts-end}
+use Rattle.three_opt.proofs.Reconnected.{length-reconnected}
 
 -- ---- one search
 
@@ -35,31 +35,10 @@ unfolding moveOf
 move-some place zero h = absurd (h refl)
 move-some place (suc p) h = refl
 
-pub made-none : (xs : List ℕ) (found : Found) → found .pattern ≡ 0 → madeBy xs found ≡ none
-unfolding madeBy
-made-none xs found e = rw (move-none (found .place) (found .pattern) e, madeBy)
-
-pub made-some : (xs : List ℕ) (found : Found) → (found .pattern ≡ 0 → ⊥)
-    → madeBy xs found ≡ some (record { now = reconnect xs (reconnection (found .place) (found .pattern)); ahead = [] })
-unfolding madeBy
-made-some xs found h = rw (move-some (found .place) (found .pattern) h, madeBy)
-
 module _ (c : Columns) (limits : RouteLimits) (depot : ℕ) (xs : List ℕ) where
   pub none-there : firstMove (searchOf c limits depot) (judgeOf c depot) xs [] ≡ none
   unfolding firstMove
   none-there = refl
-
-  module _ (place : Place) (p : ℕ) (ps qs : List Cut) (e : ps ≡ cutOf place ∷ qs)
-      (found : moveOf place p ≡ taken (searchOf c limits depot) (judgeOf c depot) xs (cutOf place)) where
-    pub passed-on : p ≡ 0 → firstMove (searchOf c limits depot) (judgeOf c depot) xs qs ≡ firstMove (searchOf c limits depot) (judgeOf c depot) xs ps
-    passed-on z =
-        rw e (sym (place-passed (searchOf c limits depot) (judgeOf c depot) xs (cutOf place) qs (sym found ∙ move-none place p z)))
-
-    pub found-here : (p ≡ 0 → ⊥) → madeBy xs (record { place = place; pattern = p }) ≡ firstMove (searchOf c limits depot) (judgeOf c depot) xs ps
-    unfolding searchOf
-    found-here h =
-        rw e (made-some xs (record { place = place; pattern = p }) h
-        ∙ sym (place-moved (searchOf c limits depot) (judgeOf c depot) xs (cutOf place) qs (reconnection place p) (sym found ∙ move-some place p h)))
 
 -- ---- a run
 
@@ -84,9 +63,11 @@ module _ {S : Type 0} (step : S → Option S) (limit : ℕ) (first : S) where
     pub going-settled : step now ≡ none → run step limit first ≡ record { word = settled; moves = moves; last = now }
     going-settled e =
         let none-more : moves + 0 ≡ moves = omega arith in
-        sym (going .same) ∙ ap (behind moves) (run-settles step (going .left) now e) ∙ ap (λ (n : ℕ). record { word = settled; moves = n; last = now }) none-more
+        sym (going .same) ∙ ap (behind moves) (run-settles step (going .left) now e)
+        ∙ ap (λ (n : ℕ). record { word = settled; moves = n; last = now }) none-more
 
-    pub going-stopped : (then : S) → step now ≡ some then → limit ≤ moves → run step limit first ≡ record { word = stopped; moves = moves; last = now }
+    pub going-stopped : (then : S) → step now ≡ some then → limit ≤ moves
+        → run step limit first ≡ record { word = stopped; moves = moves; last = now }
     going-stopped then e h =
         let none-more : moves + 0 ≡ moves = omega arith in
         let used : going .left ≡ 0 = omega (arith, going .whole) in
@@ -105,47 +86,101 @@ module _ {S : Type 0} (step : S → Option S) (limit : ℕ) (first : S) where
         }
       where
         shift : (r : Outcome S) → behind (moves + 1) r ≡ behind moves (record { word = r .word; moves = suc (r .moves); last = r .last })
-        shift r = let more : moves + 1 + r .moves ≡ moves + suc (r .moves) = omega arith in ap (λ (n : ℕ). record { word = r .word; moves = n; last = r .last }) more
+        shift r =
+            let more : moves + 1 + r .moves ≡ moves + suc (r .moves) = omega arith in
+            ap (λ (n : ℕ). record { word = r .word; moves = n; last = r .last }) more
 
--- a sweep that starts again: the next move is the first of all places that has one
-pub next-first : (c : Columns) (limits : RouteLimits) (depot : ℕ) (xs : List ℕ) (o : Option (Sweep (List ℕ) Cut))
-    → o ≡ firstMove (searchOf c limits depot) (judgeOf c depot) xs (cuts (length xs))
-    → next (searchOf c limits depot) (judgeOf c depot) (record { now = xs; ahead = [] }) ≡ o
-unfolding searchOf
-next-first c limits depot xs o e =
-    next-sweep (searchOf c limits depot) (judgeOf c depot) (record { now = xs; ahead = [] }) (none-there c limits depot xs) ∙ sym e
+-- ---- a run that passes from place to place
 
--- ---- what the loop answers
+module _ (c : Columns) (limits : RouteLimits) (depot limit : ℕ) (first : List ℕ) where
+  -- where a run stands after some moves, with what the search of this sweep comes to from a place on
+  pub record Sweeping (moves : ℕ) (xs : List ℕ) (place : Place) : Type 0 where
+    pub going : Going (next (searchOf c limits depot) (judgeOf c depot)) limit (record { now = first; ahead = [] }) moves (record { now = xs; ahead = [] })
+    pub rest : next (searchOf c limits depot) (judgeOf c depot) (record { now = xs; ahead = [] })
+        ≡ firstMove (searchOf c limits depot) (judgeOf c depot) xs (cutsFrom (length xs) place)
+    pub standing : Standing (length xs) place
+    pub four : 4 ≤ length xs
 
-module _ (c : Columns) (limits : RouteLimits) (depot limit : ℕ) (first : List ℕ) (moves : ℕ) (xs : List ℕ) where
-  abbrev pub Running : Type 0
-  Running = Going (next (searchOf c limits depot) (judgeOf c depot)) limit (record { now = first; ahead = [] }) moves (record { now = xs; ahead = [] })
+  -- a new sweep: the next move is the first of all places that has one
+  all-ahead : (xs : List ℕ) → next (searchOf c limits depot) (judgeOf c depot) (record { now = xs; ahead = [] })
+      ≡ firstMove (searchOf c limits depot) (judgeOf c depot) xs (cuts (length xs))
+  unfolding searchOf
+  all-ahead xs = next-sweep (searchOf c limits depot) (judgeOf c depot) (record { now = xs; ahead = [] }) (none-there c limits depot xs)
+
+  starts : (moves : ℕ) (xs : List ℕ) → 4 ≤ length xs
+      → Going (next (searchOf c limits depot) (judgeOf c depot)) limit (record { now = first; ahead = [] }) moves (record { now = xs; ahead = [] })
+      → Sweeping moves xs (record { i = 0; j = 1; k = 2 })
+  starts moves xs h going = record {
+    going = going;
+    rest = all-ahead xs ∙ ap (firstMove (searchOf c limits depot) (judgeOf c depot) xs) (cuts-start (length xs) h);
+    standing = standing-start (length xs) h;
+    four = h;
+  }
+
+  pub sweep-start : 4 ≤ length first → Sweeping 0 first (record { i = 0; j = 1; k = 2 })
+  sweep-start h = starts 0 first h (going-start _ limit _)
 
   -- what is to be shown of a list and an answer
-  abbrev pub Answered : Ended → Type 0
-  Answered r =
+  abbrev pub Answered : List ℕ → Ended → Type 0
+  Answered xs r =
       let run = run-of three-opt (checksOf [] c limits depot) (float-judge three-opt (mapOf (c .l) (c .distances) depot zero64)) limit first in
       (xs ≡ run .last .now) × (r ≡ endedAs (run .word) (run .moves))
 
-  module _ (running : Running) (found : Found)
-      (next-is : madeBy xs found ≡ firstMove (searchOf c limits depot) (judgeOf c depot) xs (cuts (length xs))) where
-    pub answers-settled : found .pattern ≡ 0 → Answered (Settled moves)
-    unfolding run-of searchOf judgeOf endedAs
-    answers-settled e =
-        let whole = going-settled _ _ _ moves _ running (next-first c limits depot xs (madeBy xs found) next-is ∙ made-none xs found e) in (
-          ap (λ (r : Outcome (Sweep (List ℕ) Cut)). r .last .now) (sym whole),
-          ap (λ (r : Outcome (Sweep (List ℕ) Cut)). endedAs (r .word) (r .moves)) (sym whole),
-        )
+  settles : (moves : ℕ) (xs : List ℕ)
+      → Going (next (searchOf c limits depot) (judgeOf c depot)) limit (record { now = first; ahead = [] }) moves (record { now = xs; ahead = [] })
+      → next (searchOf c limits depot) (judgeOf c depot) (record { now = xs; ahead = [] }) ≡ none → Answered xs (Settled moves)
+  unfolding run-of searchOf judgeOf endedAs
+  settles moves xs going e =
+      let whole = going-settled _ _ _ moves _ going e in (
+        ap (λ (r : Outcome (Sweep (List ℕ) Cut)). r .last .now) (sym whole),
+        ap (λ (r : Outcome (Sweep (List ℕ) Cut)). endedAs (r .word) (r .moves)) (sym whole),
+      )
 
-    pub answers-stopped : (found .pattern ≡ 0 → ⊥) → limit ≤ moves → Answered (Stopped moves)
-    unfolding run-of searchOf judgeOf endedAs
-    answers-stopped h used =
-        let whole = going-stopped _ _ _ moves _ running _ (next-first c limits depot xs (madeBy xs found) next-is ∙ made-some xs found h) used in (
-          ap (λ (r : Outcome (Sweep (List ℕ) Cut)). r .last .now) (sym whole),
-          ap (λ (r : Outcome (Sweep (List ℕ) Cut)). endedAs (r .word) (r .moves)) (sym whole),
-        )
+  -- a list of fewer than 4 visits has no places
+  pub few-settled : length first < 4 → Answered first (Settled 0)
+  few-settled h =
+      settles 0 first (going-start _ limit _)
+      (all-ahead first ∙ ap (firstMove (searchOf c limits depot) (judgeOf c depot) first) (cuts-few (length first) h) ∙ none-there c limits depot first)
 
-    pub goes-on : (found .pattern ≡ 0 → ⊥) → moves < limit
-        → Going (next (searchOf c limits depot) (judgeOf c depot)) limit (record { now = first; ahead = [] }) (moves + 1)
-        (record { now = reconnect xs (reconnection (found .place) (found .pattern)); ahead = [] })
-    goes-on h room = going-on _ _ _ moves _ running _ (next-first c limits depot xs (madeBy xs found) next-is ∙ made-some xs found h) room
+  module _ (moves : ℕ) (xs : List ℕ) (place : Place) (s : Sweeping moves xs place) where
+    -- the sweep is over
+    pub sweep-settled : length xs ≤ place .k → Answered xs (Settled moves)
+    sweep-settled h =
+        settles moves xs (s .going)
+        (s .rest ∙ ap (firstMove (searchOf c limits depot) (judgeOf c depot) xs) (cuts-end (length xs) place (s .standing) h)
+        ∙ none-there c limits depot xs)
+
+    module _ (there : place .k < length xs) (p : ℕ)
+        (found : moveOf place p ≡ taken (searchOf c limits depot) (judgeOf c depot) xs (cutOf place)) where
+      -- a place with no move is passed
+      pub sweep-passed : p ≡ 0 → Sweeping moves xs (placeAfter (length xs) place)
+      sweep-passed e = record {
+        going = s .going;
+        rest = s .rest ∙ ap (firstMove (searchOf c limits depot) (judgeOf c depot) xs) (cuts-turn (length xs) place (s .standing) there)
+            ∙ place-passed (searchOf c limits depot) (judgeOf c depot) xs (cutOf place) _ (sym found ∙ move-none place p e);
+        standing = standing-turn (length xs) place (s .standing) there;
+        four = s .four;
+      }
+
+      -- at one that has a move it is the next
+      next-move : (p ≡ 0 → ⊥) → next (searchOf c limits depot) (judgeOf c depot) (record { now = xs; ahead = [] })
+          ≡ some (record { now = reconnect xs (reconnection place p); ahead = [] })
+      unfolding searchOf
+      next-move h =
+          s .rest ∙ ap (firstMove (searchOf c limits depot) (judgeOf c depot) xs) (cuts-turn (length xs) place (s .standing) there)
+          ∙ place-moved (searchOf c limits depot) (judgeOf c depot) xs (cutOf place) _ (reconnection place p) (sym found ∙ move-some place p h)
+
+      pub sweep-stopped : (p ≡ 0 → ⊥) → limit ≤ moves → Answered xs (Stopped moves)
+      unfolding run-of searchOf judgeOf endedAs
+      sweep-stopped h used =
+          let whole = going-stopped _ _ _ moves _ (s .going) _ (next-move h) used in (
+            ap (λ (r : Outcome (Sweep (List ℕ) Cut)). r .last .now) (sym whole),
+            ap (λ (r : Outcome (Sweep (List ℕ) Cut)). endedAs (r .word) (r .moves)) (sym whole),
+          )
+
+      -- it is made, and the sweep starts again
+      pub sweep-moved : (p ≡ 0 → ⊥) → moves < limit → Sweeping (moves + 1) (reconnect xs (reconnection place p)) (record { i = 0; j = 1; k = 2 })
+      sweep-moved h room =
+          starts (moves + 1) (reconnect xs (reconnection place p))
+          (rw (length-reconnected xs place p (standing-inside (length xs) place (s .standing) there)) (s .four))
+          (going-on _ limit _ moves _ (s .going) _ (next-move h) room)

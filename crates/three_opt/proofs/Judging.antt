@@ -1,14 +1,12 @@
 -- One pattern more, as the code tries it: the delta that it works out is the judge's, and each of its three ends is the better of the two.
 -- Assumes nothing.
-use mathlib.Core.Path.{_≡_, refl, sym, ap, _∙_}
+use mathlib.Core.Path.{_≡_, sym, ap, _∙_}
 use mathlib.Core.Bool.{Bool, true, false, cond, _&&_}
 use mathlib.Core.List.{List}
 use Prim.Native.Nat.{ℕ, _+_}
 use lib.Ieee.{Float, lt}
 use Rattle.day.specs.Matrix.{leg}
-use Rattle.day.specs.declared.vehicle.RouteLimits.{RouteLimits}
 use Rattle.evaluation.specs.Columns.{Columns, Visits}
-use Rattle.evaluation.specs.Route.{checksNeeded}
 use Rattle.descent.specs.Permitted.{Arrangement}
 use Rattle.descent.specs.Within.{reconnect}
 use Rattle.deltas.specs.Changes.{Placed, patternChange}
@@ -33,14 +31,18 @@ cut-placed d l depot xs i j k cut e there =
     rw e (around-placed l depot xs there (i + 1) (k + 1), ends-placed l depot xs there (i + 1) (j + 1), ends-placed l depot xs there (j + 1) (k + 1))
 
 -- what the code works out is the judge's delta
-pub delta-is : (c : Columns) (depot : ℕ) (xs : List ℕ) (place : Place) (cut : Cut) (pattern : ℕ) (way : Arrangement) (x : Float)
+delta-is : (c : Columns) (depot : ℕ) (xs : List ℕ) (place : Place) (cut : Cut) (pattern : ℕ) (way : Arrangement) (x : Float)
     → cut ≡ cutAt (leg (c .l) (c .distances)) depot xs (place .i) (place .j) (place .k) → way ≡ wayOf pattern
     → x ≡ patternChange (leg (c .l) (c .distances)) cut (way .0) (way .1) (way .2) → x ≡ judgeOf c depot .delta xs (reconnection place pattern)
 unfolding judgeOf threeOptDelta
 delta-is c depot xs place cut pattern way x is-cut is-way e = rw (e, is-way, is-cut)
 
-module _ (s : Setup) (c : Columns) (xs : List ℕ) (place : Place) (best : Choice) (pattern : ℕ) (x : Float)
-    (is-delta : x ≡ judgeOf c (s .depot) .delta xs (reconnection place pattern)) where
+module _ (s : Setup) (c : Columns) (xs : List ℕ) (place : Place) (cut : Cut) (best : Choice) (pattern : ℕ) (way : Arrangement) (x : Float)
+    (is-cut : cut ≡ cutAt (leg (c .l) (c .distances)) (s .depot) xs (place .i) (place .j) (place .k)) (is-way : way ≡ wayOf pattern)
+    (is-change : x ≡ patternChange (leg (c .l) (c .distances)) cut (way .0) (way .1) (way .2)) where
+  is-delta : x ≡ judgeOf c (s .depot) .delta xs (reconnection place pattern)
+  is-delta = delta-is c (s .depot) xs place cut pattern way x is-cut is-way is-change
+
   -- not below the best so far
   pub better-far : lt x (best .delta) ≡ false → best ≡ better (searchOf c (s .limits) (s .depot)) (judgeOf c (s .depot)) xs place best pattern
   unfolding better judgeOf

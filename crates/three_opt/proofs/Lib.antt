@@ -1,6 +1,6 @@
 pub mod Choosing
-pub mod Places
-pub mod Going
-pub mod Reconnected
 pub mod Judging
+pub mod Places
+pub mod Reconnected
+pub mod Going
 pub mod Claimed

@@ -1,10 +1,10 @@
 -- The places from a place on: each is followed by the place behind it, so that one loop passes all of them in the order of the Rust's three.
 -- Assumes nothing.
-use mathlib.Core.Path.{_≡_, refl, sym, ap, _∙_}
+use mathlib.Core.Path.{_≡_, refl, ap, _∙_}
 use mathlib.Core.Bool.{Bool, true, false, cond}
-use mathlib.Core.Option.{Option, none, some}
 use mathlib.Core.List.{List, [], _∷_, _++_, map, append-assoc}
-use Prim.Native.Nat.{ℕ, zero, suc, _+_, _-_, _≤_, _<_}
+use Prim.Native.Nat.{ℕ, suc, _+_, _-_, _*_, _≤_, _<_}
+use native.Mathlib.Nat.{le-trans, mul-le-mul-right, div-le-self}
 use native.Mathlib.Numerals.{add-one}
 use native.Mathlib.Omega.{arith}
 use borrow.Author.Tests.{le-leb, lt-leb, ltb-true, ltb-false}
@@ -12,8 +12,9 @@ use lib.Dec.{ltb}
 use lib.ListN.{length}
 use Rattle.descent.specs.Order.{range, each}
 use Rattle.descent.specs.Within.{Cut, cuts}
+use Rattle.descent.proofs.Counts.{three-opt-cuts}
 use Rattle.descent.proofs.Loops.{range-step, range-done}
-use Rattle.three_opt.specs.ThreeOpt.{cutOf, placeAfter}
+use Rattle.three_opt.specs.ThreeOpt.{Inside, cutOf, placeAfter}
 use Rattle.three_opt.specs.declared.Place.{Place}
 
 -- the places of i and j from k on; of i with its middle from j on; with their first from i on
@@ -52,6 +53,9 @@ module _ (n : ℕ) where
 
   pub cuts-few : n < 4 → cuts n ≡ []
   cuts-few h = rw (lt-leb 4 n h, cuts)
+
+  pub standing-inside : (place : Place) → Standing n place → place .k < n → Inside n place
+  standing-inside place s h = record { i-first = s .i-first; j-next = s .j-next; k-there = h }
 
   pub standing-start : 4 ≤ n → Standing n (record { i = 0; j = 1; k = 2 })
   standing-start h = record { i-first = omega arith; j-next = omega arith; at-end = λ e. (omega arith, omega arith) }
@@ -170,3 +174,11 @@ module _ (n : ℕ) where
   -- the places ahead get fewer
   pub cuts-fewer : (place : Place) → Standing n place → place .k < n → length (cutsFrom n (placeAfter n place)) < length (cutsFrom n place)
   cuts-fewer place s h = rw (cuts-turn place s h) (omega arith)
+
+-- there are fewer than 262,145 places
+pub few-cuts : (n : ℕ) → 4 ≤ n → n ≤ 63 → length (cutsFrom n (record { i = 0; j = 1; k = 2 })) ≤ 262144
+few-cuts n four h =
+    let pairs : n * (n - 1) ≤ 64 * (n - 1) = mul-le-mul-right (n - 1) (omega arith) in
+    let fewer : n * (n - 1) ≤ 4096 = omega arith in
+    let triples : n * (n - 1) * (n - 2) ≤ 4096 * (n - 2) = mul-le-mul-right (n - 2) fewer in
+    rw (← (cuts-start n four), three-opt-cuts n four) (le-trans (div-le-self (n * (n - 1) * (n - 2)) 6) (omega arith))

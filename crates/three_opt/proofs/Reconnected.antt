@@ -1,9 +1,8 @@
 -- A reconnected list has the visits of the list, each as often: the pieces are arranged anew. So its length and its locations are kept.
 -- Assumes nothing.
-use mathlib.Core.Path.{_≡_, refl, sym, ap, _∙_}
-use mathlib.Core.Bool.{true}
+use mathlib.Core.Path.{_≡_, ap, _∙_}
 use mathlib.Core.List.{List, _++_}
-use Prim.Native.Nat.{ℕ, suc, _+_, _-_, _≤_, _<_}
+use Prim.Native.Nat.{ℕ, suc, _+_, _-_}
 use native.Mathlib.Omega.{arith}
 use native.Mathlib.Numerals.{add-one}
 use borrow.Author.Tests.{lt-ltb, ltb-true}
@@ -15,7 +14,7 @@ use Rattle.edits.proofs.Cuts.{cut4, to-end, lent}
 use Rattle.edits.proofs.Kept.{same-each, same-length}
 use Rattle.evaluation.specs.Columns.{Visits}
 use Rattle.descent.specs.Permitted.{Arrangement, arranged}
-use Rattle.descent.specs.Within.{Reconnection, reconnect}
+use Rattle.descent.specs.Within.{reconnect}
 use Rattle.descent.proofs.Kept.{total-arranged}
 use Rattle.three_opt.specs.ThreeOpt.{Inside, wayOf, reconnection}
 use Rattle.three_opt.specs.declared.Place.{Place}

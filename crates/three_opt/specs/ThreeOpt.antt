@@ -1,12 +1,12 @@
 -- 3-opt as the code goes about it: what a run keeps at hand, the patterns by their numbers, the best pattern so far, and the place behind a place.
 -- For the contracts of src/; the engine's own definition is `three-opt` of descent. Assumes nothing.
 use mathlib.Core.Path.{_≡_}
-use mathlib.Core.Bool.{Bool, true, false, cond, _&&_}
+use mathlib.Core.Bool.{false, cond, _&&_}
 use mathlib.Core.Option.{Option, none, some}
 use mathlib.Core.List.{List, [], _∷_}
 use Prim.Native.Nat.{ℕ, zero, suc, _+_, _<_}
 use lib.Dec.{ltb}
-use lib.ListN.{length, getD}
+use lib.ListN.{getD}
 use lib.Ieee.{Float}
 use Rattle.numbers.specs.Operations.{zero64}
 use Rattle.numbers.specs.Floor.{gainFloor}
@@ -15,8 +15,8 @@ use Rattle.day.specs.declared.vehicle.RouteLimits.{RouteLimits}
 use Rattle.evaluation.specs.Columns.{Columns, Formed}
 use Rattle.evaluation.specs.Route.{checksNeeded}
 use Rattle.descent.specs.Permitted.{Arrangement, seven, three-opt}
-use Rattle.descent.specs.Search.{Search, Judge, Sweep}
-use Rattle.descent.specs.Within.{Cut, Reconnection, reconnect}
+use Rattle.descent.specs.Search.{Search, Judge}
+use Rattle.descent.specs.Within.{Cut, Reconnection}
 use Rattle.descent.specs.Engines.{search-of}
 use Rattle.deltas.specs.Deltas.{Marked}
 use Rattle.deltas.specs.Judged.{float-judge}
@@ -25,7 +25,6 @@ use Rattle.three_opt.specs.declared.Setup.{Setup}
 use Rattle.three_opt.specs.declared.Place.{Place}
 use Rattle.three_opt.specs.declared.Way.{Way}
 use Rattle.three_opt.specs.declared.Choice.{Choice}
-use Rattle.three_opt.specs.declared.Found.{Found}
 
 -- the engine's search on a day, with a van's limits and depot
 unfoldable pub searchOf : Columns → RouteLimits → ℕ → Search (List ℕ) Cut Reconnection
@@ -86,12 +85,3 @@ placeAfter n place =
     (cond (ltb (place .j + 2) n)
     (record { i = place .i; j = place .j + 1; k = place .j + 2 })
     (record { i = place .i + 1; j = place .i + 2; k = place .i + 3 }))
-
--- what the move that was found makes of the list; 3-opt starts its sweep again
-unfoldable pub madeBy : List ℕ → Found → Option (Sweep (List ℕ) Cut)
-madeBy xs found = elim (moveOf (found .place) (found .pattern)) [ none ↦ none | some m ↦ some (record { now = reconnect xs m; ahead = [] }) ]
-
--- a pattern that was found is one of the seven, at a place of the list
-pub record Within (n : ℕ) (found : Found) : Type 0 where
-  pub one-of : found .pattern < 8
-  pub inside : (found .pattern ≡ 0 → ⊥) → Inside n (found .place)

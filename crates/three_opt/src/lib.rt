@@ -25,54 +25,48 @@ ghost use lib.Seq.{slice};
 ghost use Rattle.numbers.specs.Operations.{zero64};
 ghost use Rattle.day.specs.Matrix.{leg};
 ghost use Rattle.day.specs.Refusal.{allPlain};
-ghost use Rattle.edits.specs.Edits.{Appended};
 ghost use Rattle.evaluation.specs.Columns.{columnsAt, Formed, Visits};
 ghost use Rattle.descent.specs.Permitted.{turn, arranged, three-opt};
-ghost use Rattle.descent.specs.Search.{taken, firstMove};
-ghost use Rattle.descent.specs.Within.{cuts, reconnect};
+ghost use Rattle.descent.specs.Search.{taken};
+ghost use Rattle.descent.specs.Within.{reconnect};
 ghost use Rattle.descent.specs.Engines.{run-of};
 ghost use Rattle.deltas.specs.Deltas.{cutAt};
 ghost use Rattle.deltas.specs.Judged.{float-judge};
 ghost use Rattle.engine.specs.Engine.{passing, checksOf, mapOf, endedAs};
-ghost use Rattle.three_opt.specs.ThreeOpt.{searchOf, judgeOf, Prepared, Inside, cutOf, wayOf, arrangement, reconnection, moveOf, better, placeAfter, madeBy, Within};
+ghost use Rattle.three_opt.specs.ThreeOpt.{searchOf, judgeOf, Prepared, Inside, cutOf, wayOf, arrangement, reconnection};
+ghost use Rattle.three_opt.specs.ThreeOpt.{moveOf, better, placeAfter};
 
 // What is worked out once before the first move.
-pub struct Setup {
-    pub l: usize,
-    pub depot: usize,
-    pub limits: RouteLimits,
+struct Setup {
+    l: usize,
+    depot: usize,
+    limits: RouteLimits,
     // The least gain that counts.
-    pub floor: f64,
+    floor: f64,
     // Whether each distance equals its mirror.
-    pub symmetric: bool,
+    symmetric: bool,
     // Whether candidates have to be checked.
-    pub needed: bool,
+    needed: bool,
 }
 
 // The list is cut behind its visits i, j and k.
-pub struct Place {
-    pub i: usize,
-    pub j: usize,
-    pub k: usize,
+struct Place {
+    i: usize,
+    j: usize,
+    k: usize,
 }
 
 // How the pieces B and C are put back.
-pub struct Way {
-    pub exchanged: bool,
-    pub b_turned: bool,
-    pub c_turned: bool,
+struct Way {
+    exchanged: bool,
+    b_turned: bool,
+    c_turned: bool,
 }
 
 // The best pattern so far with its delta; 0 is none, and its delta is minus the floor.
-pub struct Choice {
-    pub pattern: usize,
-    pub delta: f64,
-}
-
-// A pattern at a place; 0 is none.
-pub struct Found {
-    pub place: Place,
-    pub pattern: usize,
+struct Choice {
+    pattern: usize,
+    delta: f64,
 }
 
 // The Rust's patterns by their numbers.
@@ -159,7 +153,9 @@ fn append_pieces(
     requires { ⌜ (b ≤ c) × (c ≤ d) × (d ≤ length (now list)) ⌝ }
     requires { ⌜ count + (d - b) ≤ length (now buffer) ⌝ }
     ensures { λ r. ⌜ r ≡ count + (d - b) ⌝ }
-    ensures { λ r. ⌜ take r (now (buffer .exit)) ≡ take count (now (buffer .entry)) ++ arranged (arrangement way) (slice b c (now (list .entry))) (slice c d (now (list .entry))) ⌝ }
+    ensures { λ r.
+        ⌜ take r (now (buffer .exit))
+        ≡ take count (now (buffer .entry)) ++ arranged (arrangement way) (slice b c (now (list .entry))) (slice c d (now (list .entry))) ⌝ }
 {
     if way.exchanged {
         let middle = append_turned(way.c_turned, buffer, count, list, c, d);
@@ -373,65 +369,18 @@ fn place_after(n: usize, place: Place) -> Place
     }
 }
 
-// The first place that has a move, and its pattern.
-fn first_move(
-    setup: Setup,
-    flags: &[u8],
-    service: &[f64],
-    ready: &[f64],
-    due: &[f64],
-    penalty: &[f64],
-    distances: &[f64],
-    times: &[f64],
-    list: &[u16],
-    buffer: &mut [u16],
-) -> Found
-    requires { ⌜ Prepared setup (columnsAt (setup .l) flags service ready due penalty distances times) ⌝ }
-    requires { ⌜ Visits (setup .l) (now list) × (length (now list) ≤ length (now buffer)) ⌝ }
-    ensures { λ r.
-        ⌜ (let c = columnsAt (setup .l) (flags .entry) (service .entry) (ready .entry) (due .entry) (penalty .entry) (distances .entry) (times .entry)
-        in madeBy (now (list .entry)) r
-        ≡ firstMove (searchOf c (setup .limits) (setup .depot)) (judgeOf c (setup .depot)) (now (list .entry)) (cuts (length (now (list .entry))))) ⌝ }
-    ensures { λ r. ⌜ Within (length (now (list .entry))) r ⌝ }
-{
-    let mut place = Place { i: 0, j: 1, k: 2 };
-    if list.len() < 4 {
-        return Found { place, pattern: 0 };
-    }
-    while place.k < list.len() {
-        let pattern = best_pattern(
-            setup,
-            flags,
-            service,
-            ready,
-            due,
-            penalty,
-            distances,
-            times,
-            list,
-            buffer,
-            place,
-        );
-        if pattern != 0 {
-            return Found { place, pattern };
-        }
-        place = place_after(list.len(), place);
-    }
-    Found { place, pattern: 0 }
-}
-
 // Makes a move: the list is built in the buffer and copied back.
-fn make_move(list: &mut [u16], buffer: &mut [u16], found: Found)
-    requires { ⌜ Inside (length (now list)) (found .place) × (found .pattern < 8) ⌝ }
+fn make_move(list: &mut [u16], buffer: &mut [u16], place: Place, pattern: usize)
+    requires { ⌜ Inside (length (now list)) place × (pattern < 8) ⌝ }
     requires { ⌜ length (now list) ≤ length (now buffer) ⌝ }
-    ensures { λ _. ⌜ now (list .exit) ≡ reconnect (now (list .entry)) (reconnection (found .place) (found .pattern)) ⌝ }
+    ensures { λ _. ⌜ now (list .exit) ≡ reconnect (now (list .entry)) (reconnection place pattern) ⌝ }
 {
-    let place = found.place;
-    let end = reconnected_into(buffer, list, place, found.pattern);
+    let end = reconnected_into(buffer, list, place, pattern);
     append_stretch(list, 0, buffer, 0, end);
 }
 
-// Makes move after move until none is left or the limit is used up.
+// Passes from place to place and makes move after move, until a sweep has found none or the limit is used up. A sweep starts again after a move, so
+// what is left of the limit falls, or else the places ahead do.
 fn descend(
     setup: Setup,
     flags: &[u8],
@@ -446,7 +395,7 @@ fn descend(
     limit: u32,
 ) -> Ended
     requires { ⌜ Prepared setup (columnsAt (setup .l) flags service ready due penalty distances times) ⌝ }
-    requires { ⌜ Visits (setup .l) (now list) × (length (now list) ≤ length (now buffer)) ⌝ }
+    requires { ⌜ Visits (setup .l) (now list) × (length (now list) ≤ length (now buffer)) × (4 ≤ length (now list)) ⌝ }
     ensures { λ r.
         ⌜ (let c = columnsAt (setup .l) (flags .entry) (service .entry) (ready .entry) (due .entry) (penalty .entry) (distances .entry) (times .entry) in
         let run = run-of three-opt (checksOf [] c (setup .limits) (setup .depot))
@@ -454,8 +403,9 @@ fn descend(
         in (now (list .exit) ≡ run .last .now) × (r ≡ endedAs (run .word) (run .moves))) ⌝ }
 {
     let mut moves = 0;
-    loop {
-        let found = first_move(
+    let mut place = Place { i: 0, j: 1, k: 2 };
+    while place.k < list.len() {
+        let pattern = best_pattern(
             setup,
             flags,
             service,
@@ -466,16 +416,20 @@ fn descend(
             times,
             list,
             buffer,
+            place,
         );
-        if found.pattern == 0 {
-            return Ended::Settled(moves);
+        if pattern == 0 {
+            place = place_after(list.len(), place);
+            continue;
         }
         if limit <= moves {
             return Ended::Stopped(moves);
         }
-        make_move(list, buffer, found);
+        make_move(list, buffer, place, pattern);
         moves += 1;
+        place = Place { i: 0, j: 1, k: 2 }; // starts again
     }
+    Ended::Settled(moves)
 }
 
 // 3-opt of one list, changed in place, with at most `limit` moves.
@@ -498,9 +452,13 @@ pub fn three_opt_improve(
     requires { ⌜ allPlain (now distances) ≡ true ⌝ }
     ensures { λ r.
         ⌜ (let c = columnsAt l (flags .entry) (service .entry) (ready .entry) (due .entry) (penalty .entry) (distances .entry) (times .entry) in
-        let run = run-of three-opt (checksOf [] c limits depot) (float-judge three-opt (mapOf l (now (distances .entry)) depot zero64)) limit (now (list .entry))
+        let run = run-of three-opt (checksOf [] c limits depot)
+        (float-judge three-opt (mapOf l (now (distances .entry)) depot zero64)) limit (now (list .entry))
         in (now (list .exit) ≡ run .last .now) × (r ≡ endedAs (run .word) (run .moves))) ⌝ }
 {
+    if list.len() < 4 {
+        return Ended::Settled(0);
+    }
     let floor = gain_floor(scale(distances));
     let symmetric = is_symmetric(l, distances);
     let needed = route_checks_needed(flags, limits);

@@ -12,8 +12,10 @@ same-length c = search needs
 returns : tie.Need-returns
 returns c =
     let at-append-stretch-reversed = c .before .before in
-    let at-if1 = at-append-stretch-reversed .before .before in
-    (at-append-stretch-reversed .append-stretch-reversed .ensures .0, rw (at-if1 .if1 .taken) (at-append-stretch-reversed .append-stretch-reversed .ensures .1 .filled))
+    let at-if1 = at-append-stretch-reversed .before .before in (
+      at-append-stretch-reversed .append-stretch-reversed .ensures .0,
+      rw (at-if1 .if1 .taken) (at-append-stretch-reversed .append-stretch-reversed .ensures .1 .filled),
+    )
 
 append-stretch-requires : tie.Need-append-stretch-requires
 append-stretch-requires c κs = search needs

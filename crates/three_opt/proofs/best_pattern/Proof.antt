@@ -1,7 +1,7 @@
 -- `best_pattern`: before each pattern the scan from the best so far comes to what is to be taken.
 use borrow.Author.Needs.{needs}
 use mathlib.Core.Path.{_≡_, refl, _∙_}
-use Prim.Native.Nat.{_-_, _≤_}
+use Prim.Native.Nat.{_-_}
 use native.Mathlib.Omega.{arith}
 use lib.ListN.{length}
 use Rattle.evaluation.specs.Columns.{columns}
@@ -20,8 +20,10 @@ abbrev μ-loop : tie.MeasureT-loop
 
 cut-at-requires : tie.Need-cut-at-requires Inv-loop μ-loop
 cut-at-requires c κs =
-    let start = c .before .before .before .before .before .before .before .before .before in
-    ((start .pre .0 .formed .tables .of-distances, start .pre .0 .marked, listed (start .pre .0) (start .pre .1 .0 .0)), (start .pre .1 .1 .i-first, start .pre .1 .1 .j-next, start .pre .1 .1 .k-there))
+    let start = c .before .before .before .before .before .before .before .before .before in (
+      (start .pre .0 .formed .tables .of-distances, start .pre .0 .marked, listed (start .pre .0) (start .pre .1 .0 .0)),
+      (start .pre .1 .1 .i-first, start .pre .1 .1 .j-next, start .pre .1 .1 .k-there),
+    )
 
 loop-holds : tie.Need-loop-holds Inv-loop μ-loop
 loop-holds c =
@@ -32,8 +34,13 @@ better-of-requires : tie.Need-better-of-requires Inv-loop μ-loop
 better-of-requires c κs =
     let at-loop = c .before .before in
     let at-cut-at = at-loop .before .before in
-    let start = at-cut-at .before .before .before .before .before .before .before .before .before .before in
-    (start .pre .0, ((start .pre .1 .0 .0, omega (arith, at-loop .loop .inv .1, start .pre .1 .0 .1)), ((start .pre .1 .1, c .before .loop-test .taken), at-cut-at .cut-at .ensures)))
+    let start = at-cut-at .before .before .before .before .before .before .before .before .before .before in (
+      start .pre .0,
+      (
+        (start .pre .1 .0 .0, omega (arith, at-loop .loop .inv .1, start .pre .1 .0 .1)),
+        ((start .pre .1 .1, c .before .loop-test .taken), at-cut-at .cut-at .ensures),
+      ),
+    )
 
 add-pattern : tie.Need-add-pattern Inv-loop μ-loop
 add-pattern c = search needs
@@ -45,8 +52,10 @@ loop-again : tie.Need-loop-again Inv-loop μ-loop
 loop-again c =
     let at-better-of = c .before .before in
     let at-loop-test = at-better-of .before .before in
-    let at-loop = at-loop-test .before in
-    (rw (at-better-of .better-of .ensures) (scan-turn _ _ _ _ _ _ _ (at-loop-test .loop-test .taken) (at-loop .loop .inv .0)), at-better-of .better-of .kept .1 .1 .1 .1 .1 .1 .1 .1 .1 .0 ∙ at-loop .loop .inv .1)
+    let at-loop = at-loop-test .before in (
+      rw (at-better-of .better-of .ensures) (scan-turn _ _ _ _ _ _ _ (at-loop-test .loop-test .taken) (at-loop .loop .inv .0)),
+      at-better-of .better-of .kept .1 .1 .1 .1 .1 .1 .1 .1 .1 .0 ∙ at-loop .loop .inv .1,
+    )
 
 same-length : tie.Need-same-length Inv-loop μ-loop
 same-length c = c .before .loop .inv .1

@@ -1,9 +1,7 @@
 -- `better_of`: the delta is the judge's, and each end is the better of the two.
 use borrow.Author.Needs.{needs}
-use Rattle.tests.specs.All.{no, yes}
-use mathlib.Core.Path.{refl}
 use borrow.Author.Tests.{not-true, not-false}
-use Rattle.three_opt.proofs.Judging.{listed, cut-placed, delta-is, better-far, better-refused, better-taken}
+use Rattle.three_opt.proofs.Judging.{listed, cut-placed, better-far, better-refused, better-taken}
 use Rattle.three_opt.proofs.better_of.Statement.{statement}
 use Rattle.three_opt.proofs.better_of.Tie as tie
 
@@ -21,7 +19,8 @@ returns c =
     let at-pattern-change = c .before .before in
     let at-way-of = at-pattern-change .before in
     let start = at-way-of .before .before .before .before .before .before .before .before .before .before in
-    better-far (start .args .setup) _ _ _ _ _ _ (delta-is _ _ _ _ _ _ _ _ (start .pre .1 .1 .1) (at-way-of .way-of .ensures) (at-pattern-change .pattern-change .ensures)) (not-true _ (c .if1 .taken))
+    better-far (start .args .setup) _ _ _ _ _ _ _ _ (start .pre .1 .1 .1) (at-way-of .way-of .ensures) (at-pattern-change .pattern-change .ensures)
+    (not-true _ (c .if1 .taken))
 
 candidate-passes-requires : tie.Need-candidate-passes-requires
 candidate-passes-requires c κs = search needs
@@ -36,7 +35,8 @@ returns-2 c =
     let at-pattern-change = at-if1 .before .before in
     let at-way-of = at-pattern-change .before in
     let start = at-way-of .before .before .before .before .before .before .before .before .before .before in
-    better-refused (start .args .setup) _ _ _ _ _ _ (delta-is _ _ _ _ _ _ _ _ (start .pre .1 .1 .1) (at-way-of .way-of .ensures) (at-pattern-change .pattern-change .ensures)) (start .pre .0) _ (at-candidate-passes .candidate-passes .ensures) (not-false _ (at-if1 .if1 .left)) (not-true _ (c .if2 .taken))
+    better-refused (start .args .setup) _ _ _ _ _ _ _ _ (start .pre .1 .1 .1) (at-way-of .way-of .ensures) (at-pattern-change .pattern-change .ensures)
+    (start .pre .0) _ (at-candidate-passes .candidate-passes .ensures) (not-false _ (at-if1 .if1 .left)) (not-true _ (c .if2 .taken))
 
 same-length-2 : tie.Need-same-length-2
 same-length-2 c = search needs
@@ -48,7 +48,8 @@ returns-3 c =
     let at-pattern-change = at-if1 .before .before in
     let at-way-of = at-pattern-change .before in
     let start = at-way-of .before .before .before .before .before .before .before .before .before .before in
-    better-taken (start .args .setup) _ _ _ _ _ _ (delta-is _ _ _ _ _ _ _ _ (start .pre .1 .1 .1) (at-way-of .way-of .ensures) (at-pattern-change .pattern-change .ensures)) (start .pre .0) _ (at-candidate-passes .candidate-passes .ensures) (not-false _ (at-if1 .if1 .left)) (not-false _ (c .if2 .left))
+    better-taken (start .args .setup) _ _ _ _ _ _ _ _ (start .pre .1 .1 .1) (at-way-of .way-of .ensures) (at-pattern-change .pattern-change .ensures)
+    (start .pre .0) _ (at-candidate-passes .candidate-passes .ensures) (not-false _ (at-if1 .if1 .left)) (not-false _ (c .if2 .left))
 
 pub better-of-spec : {M : Type 1} → statement M
 better-of-spec =

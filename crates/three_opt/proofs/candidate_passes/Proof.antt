@@ -30,9 +30,15 @@ passes-requires : tie.Need-passes-requires
 passes-requires c κs =
     let at-reconnected-into = c .before .before .before .before .before in
     let further1 = at-reconnected-into .before .before .before .before .before .before .before .before .before in
-    let start = further1 .before .before .before .before in
-    (start .pre .0 .formed, (start .pre .0 .depot-there,
-    rw (front (at-reconnected-into .reconnected-into .result) (at-reconnected-into .reconnected-into .last .0) _ (at-reconnected-into .reconnected-into .ensures .1)) (visits-reconnected _ _ _ (start .pre .1 .1 .0) _ (start .pre .1 .0 .0))))
+    let start = further1 .before .before .before .before in (
+      start .pre .0 .formed,
+      (
+        start .pre .0 .depot-there,
+        rw (front (at-reconnected-into .reconnected-into .result) (at-reconnected-into .reconnected-into .last .0) _
+            (at-reconnected-into .reconnected-into .ensures .1))
+            (visits-reconnected _ _ _ (start .pre .1 .1 .0) _ (start .pre .1 .0 .0)),
+      ),
+    )
 
 same-length : tie.Need-same-length
 same-length c = search needs
@@ -40,7 +46,9 @@ same-length c = search needs
 returns-2 : tie.Need-returns-2
 returns-2 c =
     let at-reconnected-into = c .before .before .before .before .before .before in
-    c .passes .ensures ∙ ap (passing _ _ _ _) (front (at-reconnected-into .reconnected-into .result) (at-reconnected-into .reconnected-into .last .0) _ (at-reconnected-into .reconnected-into .ensures .1))
+    c .passes .ensures
+    ∙ ap (passing _ _ _ _)
+    (front (at-reconnected-into .reconnected-into .result) (at-reconnected-into .reconnected-into .last .0) _ (at-reconnected-into .reconnected-into .ensures .1))
 
 pub candidate-passes-spec : {M : Type 1} → statement M
 candidate-passes-spec =

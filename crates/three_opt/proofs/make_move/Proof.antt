@@ -23,8 +23,10 @@ returns : tie.Need-returns
 returns c =
     let at-append-stretch = c .before .before in
     let at-reconnected-into = at-append-stretch .before .before .before .before .before in
-    let start = at-reconnected-into .before .before .before .before .before .before in
-    appended-whole (at-append-stretch .append-stretch .ensures .1) (ap length (at-reconnected-into .reconnected-into .ensures .1) ∙ length-reconnected (start .args .list .now) (start .args .found .place) (start .args .found .pattern) (start .pre .0 .0)) ∙ at-reconnected-into .reconnected-into .ensures .1
+    let start = at-reconnected-into .before .before .before .before .before in
+    let as-long = length-reconnected (start .args .list .now) (start .args .place) (start .args .pattern) (start .pre .0 .0) in
+    appended-whole (at-append-stretch .append-stretch .ensures .1) (ap length (at-reconnected-into .reconnected-into .ensures .1) ∙ as-long)
+    ∙ at-reconnected-into .reconnected-into .ensures .1
 
 pub make-move-spec : {M : Type 1} → statement M
 make-move-spec = tie.close (tie.spec reconnected-into-requires append-stretch-requires same-length same-length-2 returns)

@@ -35,9 +35,20 @@ returns c =
     let at-append-pieces = at-append-stretch2 .before .before .before .before in
     let at-append-stretch = at-append-pieces .before .before .before .before in
     let at-way-of = at-append-stretch .before .before in
-    let start = at-way-of .before .before .before .before .before .before in
-    (omega (arith, at-append-stretch .append-stretch .ensures .0, at-append-pieces .append-pieces .ensures .0, at-append-stretch2 .append-stretch2 .ensures .0, start .pre .0 .0 .i-first, start .pre .0 .0 .j-next, start .pre .0 .0 .k-there),
-    built (start .args .list .now) (start .args .place) (start .args .pattern) _ (at-way-of .way-of .ensures) (at-append-stretch .append-stretch .ensures .1 .filled) (at-append-pieces .append-pieces .ensures .1) (at-append-stretch2 .append-stretch2 .ensures .1 .filled))
+    let start = at-way-of .before .before .before .before .before .before in (
+      omega (
+        arith,
+        at-append-stretch .append-stretch .ensures .0,
+        at-append-pieces .append-pieces .ensures .0,
+        at-append-stretch2 .append-stretch2 .ensures .0,
+        start .pre .0 .0 .i-first,
+        start .pre .0 .0 .j-next,
+        start .pre .0 .0 .k-there,
+      ),
+      built (start .args .list .now) (start .args .place) (start .args .pattern) _ (at-way-of .way-of .ensures)
+          (at-append-stretch .append-stretch .ensures .1 .filled) (at-append-pieces .append-pieces .ensures .1)
+          (at-append-stretch2 .append-stretch2 .ensures .1 .filled),
+    )
 
 pub reconnected-into-spec : {M : Type 1} → statement M
 reconnected-into-spec =

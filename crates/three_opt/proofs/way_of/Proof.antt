@@ -46,7 +46,8 @@ returns-8 c =
     let p : ℕ = start .args .pattern in
     let no = c .match .rest in
     let from-seven : 7 ≤ p =
-    past 6 p (past 5 p (past 4 p (past 3 p (past 2 p (past 1 p (past 0 p (omega arith) (no .0 .0 .0 .0 .0 .0 .1)) (no .0 .0 .0 .0 .0 .1)) (no .0 .0 .0 .0 .1)) (no .0 .0 .0 .1)) (no .0 .0 .1)) (no .0 .1)) (no .1) in
+    past 6 p (past 5 p (past 4 p (past 3 p (past 2 p (past 1 p (past 0 p (omega arith)
+    (no .0 .0 .0 .0 .0 .0 .1)) (no .0 .0 .0 .0 .0 .1)) (no .0 .0 .0 .0 .1)) (no .0 .0 .0 .1)) (no .0 .0 .1)) (no .0 .1)) (no .1) in
     let seventh : p ≡ 7 = le-antisymm (le-of-suc-le-suc (start .pre)) from-seven in
     rw seventh
 
