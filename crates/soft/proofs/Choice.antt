@@ -79,7 +79,8 @@ pick-taken which price floor xs = pick-first (λ m. price (made xs m)) (price xs
 module _ (cost : Neighbour → Float) where
   -- one neighbour more
   pub pick-turn : (best : Best) (place : Place) (price : Float) (cs : List Neighbour) → price ≡ cost (meant place)
-      → pick cost (better best price place .bound) (chosen (better best price place .found)) cs ≡ pick cost (best .bound) (chosen (best .found)) (meant place ∷ cs)
+      → (let new = better best price place in
+      pick cost (new .bound) (chosen (new .found)) cs ≡ pick cost (best .bound) (chosen (best .found)) (meant place ∷ cs))
   unfolding better chosen pick
   pick-turn best place price cs e = rw e (go (lt (cost (meant place)) (best .bound)))
     where
@@ -102,6 +103,7 @@ module _ (cost : Neighbour → Float) where
       go true = (inside, e)
       go false = known
 
-  pub known-at : (n : ℕ) (best : Best) (place : Place) → Known cost n best → best .found ≡ At place → Inside n place × (best .bound ≡ cost (meant place))
+  pub known-at : (n : ℕ) (best : Best) (place : Place) → Known cost n best → best .found ≡ At place
+      → Inside n place × (best .bound ≡ cost (meant place))
   unfolding Known
   known-at n best place known e = rw e at known
