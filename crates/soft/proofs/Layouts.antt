@@ -1,9 +1,9 @@
 -- A list laid out in its four pieces is the neighbour, keeps its visits, and is what four appends leave in a buffer. Assumes nothing.
 use mathlib.Core.Path.{_≡_, refl, sym, ap, _∙_}
-use mathlib.Core.Logic.{_⊎_, inl, inr}
+use mathlib.Core.Logic.{inl, inr}
 use mathlib.Core.Bool.{Bool, true, false}
-use mathlib.Core.List.{List, [], _∷_, _++_, reverse, append-assoc, append-nil}
-use Prim.Native.Nat.{ℕ, suc, _+_, _-_, _≤_, _<_}
+use mathlib.Core.List.{List, _++_, reverse, append-assoc, append-nil}
+use Prim.Native.Nat.{ℕ, _+_, _-_, _≤_, _<_}
 use native.Mathlib.Numerals.{add-one}
 use native.Mathlib.Omega.{arith}
 use borrow.Author.Tests.{lt-ltb, le-ltb, ltb-true}
@@ -17,7 +17,7 @@ use Rattle.edits.proofs.Cuts.{cut4, to-end}
 use Rattle.edits.proofs.Kept.{same-length, same-each}
 use Rattle.edits.proofs.Chain.{appended-on, appended-whole}
 use Rattle.evaluation.specs.Columns.{Visits}
-use Rattle.descent.specs.Permitted.{Arrangement, turn, in-order, arranged}
+use Rattle.descent.specs.Permitted.{Arrangement, turn}
 use Rattle.descent.specs.Within.{put-before}
 use Rattle.descent.proofs.Kept.{total-arranged}
 use Rattle.soft.specs.Soft.{made}

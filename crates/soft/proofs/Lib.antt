@@ -3,3 +3,4 @@ pub mod Choice
 pub mod Layouts
 pub mod Passes
 pub mod Counts
+pub mod Relocated

@@ -1,20 +1,19 @@
 -- What is left of the enumeration after one neighbour: the ranges of its loops shrink from the inside out. Assumes nothing.
 use mathlib.Core.Path.{_≡_, refl, sym, ap, _∙_}
 use mathlib.Core.Logic.{_⊎_, inl, inr}
-use mathlib.Core.Bool.{true, false}
-use mathlib.Core.List.{List, [], _∷_, _++_, map, append-assoc}
+use mathlib.Core.Bool.{false}
+use mathlib.Core.List.{[], _∷_, _++_, map, append-assoc}
 use Prim.Native.Nat.{ℕ, zero, suc, _+_, _-_, _≤_, _<_}
 use native.Mathlib.Numerals.{add-one}
 use native.Mathlib.Omega.{arith}
 use borrow.Author.Tests.{lt-ltb, le-ltb, le-leb, lt-leb}
-use lib.ListN.{length, drop, getD}
 use lib.Seq.{drop-cons}
 use Rattle.descent.specs.Order.{from-on, range, each}
 use Rattle.descent.specs.Permitted.{seven}
-use Rattle.descent.specs.Within.{Piece, pieces, Cut, Reconnection, cuts}
-use Rattle.descent.proofs.Loops.{range-step, range-done, rows-from, reversals-from, reversals-turn}
+use Rattle.descent.specs.Within.{pieces, cuts}
+use Rattle.descent.proofs.Loops.{range-step, range-done, rows-from, reversals-turn}
 use Rattle.soft.specs.Soft.{neighbours, reversal, relocation, reconnection, ways, to-the-end}
-use Rattle.soft.specs.Places.{wayOf, meant, Inside, InsideAny, onward, rest, Follows, tos-from, piece-row, pieces-from, thirds, seconds, firsts-from}
+use Rattle.soft.specs.Places.{wayOf, meant, Inside, InsideAny, onward, rest, Follows, tos-from, piece-row, pieces-from, firsts-from}
 use Rattle.soft.specs.Places.{cuts-from, reconnections-from}
 use Rattle.soft.specs.declared.neighbours.Place.the-variants.{Turned, Moved, Reconnected}
 use Rattle.soft.specs.declared.neighbours.Neighbourhood.the-variants.{Reconnect}

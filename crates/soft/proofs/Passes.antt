@@ -2,7 +2,7 @@
 use mathlib.Core.Path.{_≡_, refl, sym, ap, _∙_}
 use mathlib.Core.Option.{Option, none, some}
 use mathlib.Core.List.{List, [], _∷_}
-use Prim.Native.Nat.{ℕ, zero, suc, _+_, _-_, _≤_, _<_}
+use Prim.Native.Nat.{ℕ, suc, _+_, _-_, _≤_, _<_}
 use native.Mathlib.Omega.{arith}
 use lib.ListN.{length}
 use lib.Ieee.{Float}
@@ -12,7 +12,7 @@ use Rattle.descent.proofs.Loops.{place-passed, place-moved, next-sweep, run-set
 use Rattle.engine.specs.Engine.{endedAs}
 use Rattle.engine.specs.declared.Ended.the-variants.{Settled, Stopped}
 use Rattle.soft.specs.Soft.{Neighbour, neighbours, made, soft-search, soft-judge}
-use Rattle.soft.specs.Places.{meant, Inside, InsideAny, onward, rest, Follows, chosen, better, Known}
+use Rattle.soft.specs.Places.{meant, Inside, InsideAny, rest, Follows, chosen, better, Known}
 use Rattle.soft.proofs.Choice.{pick, pick-taken, pick-turn, known-none, known-turn}
 use Rattle.soft.specs.declared.neighbours.Neighbourhood.{Neighbourhood}
 use Rattle.soft.specs.declared.neighbours.Place.{Place}

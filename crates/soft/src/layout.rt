@@ -4,7 +4,6 @@ use edits::append;
 use edits::append_stretch;
 use edits::append_stretch_reversed;
 ghost use mathlib.Core.Path.{_≡_};
-ghost use mathlib.Core.List.{List};
 ghost use Prim.Native.Nat.{_+_, _-_, _<_, _≤_};
 ghost use lib.ListN.{length, take};
 ghost use lib.Seq.{slice};

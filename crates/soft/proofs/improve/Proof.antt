@@ -1,6 +1,6 @@
 -- `improve`: the floor is the table's, and the buffer is long enough for any list.
 use native.Mathlib.Omega.{arith}
-use mathlib.Core.Path.{_≡_, ap, _∙_}
+use mathlib.Core.Path.{ap, _∙_}
 use Rattle.numbers.specs.Floor.{gainFloor}
 use borrow.Author.Needs.{needs}
 use Rattle.soft.proofs.improve.Statement.{statement}

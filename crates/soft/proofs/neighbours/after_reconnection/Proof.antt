@@ -2,7 +2,6 @@
 use native.Mathlib.Omega.{arith}
 use Rattle.soft.specs.Places.{Inside}
 use Rattle.soft.proofs.Onward.{way-on, cut-on, cut-row, cut-rows}
-use borrow.Author.Needs.{needs}
 use Rattle.soft.proofs.neighbours.after_reconnection.Statement.{statement}
 use Rattle.soft.proofs.neighbours.after_reconnection.Tie as tie
 

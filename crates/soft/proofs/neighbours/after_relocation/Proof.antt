@@ -2,7 +2,6 @@
 use native.Mathlib.Omega.{arith}
 use Rattle.soft.specs.Places.{Inside}
 use Rattle.soft.proofs.Onward.{moved-on, moved-row, moved-size}
-use borrow.Author.Needs.{needs}
 use Rattle.soft.proofs.neighbours.after_relocation.Statement.{statement}
 use Rattle.soft.proofs.neighbours.after_relocation.Tie as tie
 
