@@ -1,14 +1,15 @@
 -- A scan that keeps the least cost so far, from a bound on, ends with the first least of those below the bound: whatever is enumerated.
 -- It is because a cost below the best is below the bound too. Assumes nothing.
-use mathlib.Core.Path.{_≡_, refl, sym, ap, _∙_, subst}
+use mathlib.Core.Path.{_≡_, refl}
 use mathlib.Core.Bool.{Bool, true, false, _&&_, cond}
 use mathlib.Core.Option.{Option, none, some}
 use mathlib.Core.List.{List, [], _∷_}
 use Prim.Native.Nat.{ℕ}
-use lib.Dec.{T}
 use lib.ListN.{length}
-use lib.Ieee.{Float, lt}
+use lib.IntN.{ℤ}
+use lib.Ieee.{Float, inf, fin, binary64, add, sub, neg, lt}
 use Rattle.numbers.specs.Operations.{_⊖_}
+use Rattle.numbers.specs.Floor.{countsSoft}
 use Rattle.numbers.proofs.Total.{lt-trans}
 use Rattle.descent.specs.Search.{least, firstLeast, ok, taken}
 use Rattle.descent.proofs.Members.{T-true, true-T}
@@ -16,7 +17,6 @@ use Rattle.soft.specs.Soft.{Neighbour, neighbours, made, soft-search, so
 use Rattle.soft.specs.Places.{meant, Inside, chosen, better, Known}
 use Rattle.soft.specs.declared.neighbours.Neighbourhood.{Neighbourhood}
 use Rattle.soft.specs.declared.neighbours.Place.{Place}
-use Rattle.soft.specs.declared.neighbours.Found.{Found}
 use Rattle.soft.specs.declared.neighbours.Found.the-variants.{Nothing, At}
 use Rattle.soft.specs.declared.Best.{Best}
 
@@ -74,12 +74,18 @@ pub pick-taken : (which : Neighbourhood) (price : List ℕ → Float) (floor : F
 unfolding taken ok
 pick-taken which price floor xs = pick-first (λ m. price (made xs m)) (price xs ⊖ floor) (neighbours which (length xs))
 
+-- a list without a price loses to any neighbour that has one, on any map whose floor is finite
+pub unpriced-loses : (s t : Bool) (m n : ℕ) (d e : ℤ) → countsSoft (fin s m d) (inf false) (fin t n e) ≡ true
+unfolding lt add sub neg
+unpriced-loses s t m n d e = refl
+
 -- ---- the best so far
 
 module _ (cost : Neighbour → Float) where
   -- one neighbour more
   pub pick-turn : (best : Best) (place : Place) (price : Float) (cs : List Neighbour) → price ≡ cost (meant place)
-      → pick cost (better best price place .bound) (chosen (better best price place .found)) cs ≡ pick cost (best .bound) (chosen (best .found)) (meant place ∷ cs)
+      → (let new = better best price place in
+      pick cost (new .bound) (chosen (new .found)) cs ≡ pick cost (best .bound) (chosen (best .found)) (meant place ∷ cs))
   unfolding better chosen pick
   pick-turn best place price cs e = rw e (go (lt (cost (meant place)) (best .bound)))
     where
@@ -102,6 +108,7 @@ module _ (cost : Neighbour → Float) where
       go true = (inside, e)
       go false = known
 
-  pub known-at : (n : ℕ) (best : Best) (place : Place) → Known cost n best → best .found ≡ At place → Inside n place × (best .bound ≡ cost (meant place))
+  pub known-at : (n : ℕ) (best : Best) (place : Place) → Known cost n best → best .found ≡ At place
+      → Inside n place × (best .bound ≡ cost (meant place))
   unfolding Known
   known-at n best place known e = rw e at known

@@ -1,6 +1,5 @@
 -- How many neighbours a pass tries on a list of n (02, F-6): descent has counted the same candidates. Assumes nothing.
 use mathlib.Core.Path.{_≡_, refl, ap, ap₂, _∙_}
-use mathlib.Core.List.{List, map}
 use Prim.Native.Nat.{ℕ, _+_, _-_, _*_, _/_, _≤_, _<_}
 use lib.ListN.{length, length-append}
 use Rattle.descent.specs.Order.{range, each}

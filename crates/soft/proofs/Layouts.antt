@@ -1,9 +1,9 @@
 -- A list laid out in its four pieces is the neighbour, keeps its visits, and is what four appends leave in a buffer. Assumes nothing.
 use mathlib.Core.Path.{_≡_, refl, sym, ap, _∙_}
-use mathlib.Core.Logic.{_⊎_, inl, inr}
+use mathlib.Core.Logic.{inl, inr}
 use mathlib.Core.Bool.{Bool, true, false}
-use mathlib.Core.List.{List, [], _∷_, _++_, reverse, append-assoc, append-nil}
-use Prim.Native.Nat.{ℕ, suc, _+_, _-_, _≤_, _<_}
+use mathlib.Core.List.{List, _++_, reverse, append-assoc, append-nil}
+use Prim.Native.Nat.{ℕ, _+_, _-_, _≤_, _<_}
 use native.Mathlib.Numerals.{add-one}
 use native.Mathlib.Omega.{arith}
 use borrow.Author.Tests.{lt-ltb, le-ltb, ltb-true}
@@ -17,7 +17,7 @@ use Rattle.edits.proofs.Cuts.{cut4, to-end}
 use Rattle.edits.proofs.Kept.{same-length, same-each}
 use Rattle.edits.proofs.Chain.{appended-on, appended-whole}
 use Rattle.evaluation.specs.Columns.{Visits}
-use Rattle.descent.specs.Permitted.{Arrangement, turn, in-order, arranged}
+use Rattle.descent.specs.Permitted.{Arrangement, turn}
 use Rattle.descent.specs.Within.{put-before}
 use Rattle.descent.proofs.Kept.{total-arranged}
 use Rattle.soft.specs.Soft.{made}
@@ -57,7 +57,8 @@ lays-later n size from to (one, three, fits, inr behind, end) h = record {
       ∙ rw (le-ltb to from h, put-before);
 }
 
-pub lays-reconnected : (n i j k way : ℕ) (exchanged b-turned c-turned : Bool) → Inside n (Reconnected i j k way) → (exchanged, b-turned, c-turned) ≡ wayOf way
+pub lays-reconnected : (n i j k way : ℕ) (exchanged b-turned c-turned : Bool) → Inside n (Reconnected i j k way)
+    → (exchanged, b-turned, c-turned) ≡ wayOf way
     → Lays n (Reconnected i j k way) (layout (i + 1) (j + 1) (k + 1) (exchanged, b-turned, c-turned))
 unfolding Inside laid made meant
 lays-reconnected n i j k way exchanged b-turned c-turned w e = record {
@@ -107,7 +108,8 @@ module _ {A B C D b₀ b₁ b₂ b₃ b₄ : List ℕ} {e₁ e₂ e₃ e₄ : �
   four-appended =
       appended-on four (appended-on three (appended-on two (appended-on one refl))) ∙ ap (λ (l : List ℕ). l ++ D) (append-assoc A B C)
 
-module _ (list : List ℕ) (p : Layout) {b₀ b₁ b₂ b₃ b₄ : List ℕ} {e₁ e₂ e₃ e₄ : ℕ} (one : Appended 0 (slice 0 (p .b) list) b₀ e₁ b₁) (all : e₄ ≡ length list) where
+module _ (list : List ℕ) (p : Layout) {b₀ b₁ b₂ b₃ b₄ : List ℕ} {e₁ e₂ e₃ e₄ : ℕ} (one : Appended 0 (slice 0 (p .b) list) b₀ e₁ b₁)
+    (all : e₄ ≡ length list) where
   -- B and then C
   pub laid-straight : p .exchanged ≡ false → Appended e₁ (turn (p .«b_turned») (slice (p .b) (p .c) list)) b₁ e₂ b₂
       → Appended e₂ (turn (p .«c_turned») (slice (p .c) (p .d) list)) b₂ e₃ b₃ → Appended e₃ (slice (p .d) (length list) list) b₃ e₄ b₄

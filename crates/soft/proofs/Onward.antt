@@ -1,20 +1,19 @@
 -- What is left of the enumeration after one neighbour: the ranges of its loops shrink from the inside out. Assumes nothing.
 use mathlib.Core.Path.{_≡_, refl, sym, ap, _∙_}
 use mathlib.Core.Logic.{_⊎_, inl, inr}
-use mathlib.Core.Bool.{true, false}
-use mathlib.Core.List.{List, [], _∷_, _++_, map, append-assoc}
+use mathlib.Core.Bool.{false}
+use mathlib.Core.List.{[], _∷_, _++_, map, append-assoc}
 use Prim.Native.Nat.{ℕ, zero, suc, _+_, _-_, _≤_, _<_}
 use native.Mathlib.Numerals.{add-one}
 use native.Mathlib.Omega.{arith}
 use borrow.Author.Tests.{lt-ltb, le-ltb, le-leb, lt-leb}
-use lib.ListN.{length, drop, getD}
 use lib.Seq.{drop-cons}
 use Rattle.descent.specs.Order.{from-on, range, each}
 use Rattle.descent.specs.Permitted.{seven}
-use Rattle.descent.specs.Within.{Piece, pieces, Cut, Reconnection, cuts}
-use Rattle.descent.proofs.Loops.{range-step, range-done, rows-from, reversals-from, reversals-turn}
+use Rattle.descent.specs.Within.{pieces, cuts}
+use Rattle.descent.proofs.Loops.{range-step, range-done, rows-from, reversals-turn}
 use Rattle.soft.specs.Soft.{neighbours, reversal, relocation, reconnection, ways, to-the-end}
-use Rattle.soft.specs.Places.{wayOf, meant, Inside, InsideAny, onward, rest, Follows, tos-from, piece-row, pieces-from, thirds, seconds, firsts-from}
+use Rattle.soft.specs.Places.{wayOf, meant, Inside, InsideAny, onward, rest, Follows, tos-from, piece-row, pieces-from, firsts-from}
 use Rattle.soft.specs.Places.{cuts-from, reconnections-from}
 use Rattle.soft.specs.declared.neighbours.Place.the-variants.{Turned, Moved, Reconnected}
 use Rattle.soft.specs.declared.neighbours.Neighbourhood.the-variants.{Reconnect}
@@ -65,9 +64,14 @@ tos-behind n size from to h = rw (le-ltb to from h, tos-from)
 one-size : (n size : ℕ) → size < 4 → size < n → pieces-from n size 0 (size + 1) ≡ each (range size 4) (pieces to-the-end n)
 one-size n size h k =
     let none : 0 + size ≡ size = omega arith in
-    rw (add-one size, tos-behind n size 0 (suc size) (omega arith), range-step size 4 h, range-step 0 (suc (n - size)) (omega arith),
-    append-assoc (piece-row n size 0) (each (range 1 (suc (n - size))) (piece-row n size)) (each (range (suc size) 4) (pieces to-the-end n)),
-    none)
+    rw (
+      add-one size,
+      tos-behind n size 0 (suc size) (omega arith),
+      range-step size 4 h,
+      range-step 0 (suc (n - size)) (omega arith),
+      append-assoc (piece-row n size 0) (each (range 1 (suc (n - size))) (piece-row n size)) (each (range (suc size) 4) (pieces to-the-end n)),
+      none,
+    )
 
 pub moved-first : (n size : ℕ) → 1 ≤ size → size < 4 → size < n
     → (rest n (At (Moved size 0 (size + 1))) ≡ map relocation (each (range size 4) (pieces to-the-end n))) × InsideAny n (At (Moved size 0 (size + 1)))
@@ -91,9 +95,10 @@ to-on : (n size from to next : ℕ) → Inside n (Moved size from to) → Next s
     → (tos-from n size from to ≡ to ∷ tos-from n size from next) × ((next < from) ⊎ (from + size < next))
 unfolding Inside
 to-on n size from to next (one, three, fits, inl before, end) (inl (last, is)) h =
-    let past : next ≡ suc (from + size) = omega arith in
-    (rw (tos-before n size from to before, tos-behind n size from next (omega arith), range-step to from before, range-done (suc to) from (omega arith), past),
-    inr (omega arith))
+    let past : next ≡ suc (from + size) = omega arith in (
+      rw (tos-before n size from to before, tos-behind n size from next (omega arith), range-step to from before, range-done (suc to) from (omega arith), past),
+      inr (omega arith),
+    )
 to-on n size from to next (one, three, fits, inl before, end) (inr (more, is)) h =
     let past : next ≡ suc to = omega arith in
     let still : next < from = omega (arith, not-last to from more before) in
@@ -106,8 +111,12 @@ to-on n size from to next (one, three, fits, inr behind, end) (inr (more, is)) h
 to-last : (n size from to next : ℕ) → Inside n (Moved size from to) → Next size from to next → n < next → tos-from n size from to ≡ to ∷ []
 unfolding Inside
 to-last n size from to next (one, three, fits, inl before, end) (inl (last, is)) h =
-    rw (tos-before n size from to before, range-step to from before, range-done (suc to) from (omega arith),
-    range-done (suc (from + size)) (suc n) (omega arith))
+    rw (
+      tos-before n size from to before,
+      range-step to from before,
+      range-done (suc to) from (omega arith),
+      range-done (suc (from + size)) (suc n) (omega arith),
+    )
 to-last n size from to next (one, three, fits, inl before, end) (inr (more, is)) h = absurd (omega (arith, not-last to from more before))
 to-last n size from to next (one, three, fits, inr behind, end) (inl (last, is)) h = absurd (omega arith)
 to-last n size from to next (one, three, fits, inr behind, end) (inr (more, is)) h =
@@ -123,10 +132,14 @@ module _ (n size from to next : ℕ) (w : Inside n (Moved size from to)) (e : Ne
   pub moved-row : n < next → from + size < n → Follows n (Moved size from to) (At (Moved size (from + 1) 0))
   unfolding rest onward meant InsideAny Inside
   moved-row h k = record {
-    same = rw (to-last n size from to next w e h, add-one from, range-step (suc from) (suc (n - size)) (omega arith),
-    tos-before n size (suc from) 0 (omega arith),
-    append-assoc (piece-row n size (suc from)) (each (range (suc (suc from)) (suc (n - size))) (piece-row n size))
-    (each (range (suc size) 4) (pieces to-the-end n)));
+    same = rw (
+      to-last n size from to next w e h,
+      add-one from,
+      range-step (suc from) (suc (n - size)) (omega arith),
+      tos-before n size (suc from) 0 (omega arith),
+      append-assoc (piece-row n size (suc from)) (each (range (suc (suc from)) (suc (n - size))) (piece-row n size))
+          (each (range (suc size) 4) (pieces to-the-end n)),
+    );
     inside = (w .0, w .1, omega arith, inl (omega arith), omega arith);
   }
 

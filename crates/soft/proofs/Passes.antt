@@ -2,7 +2,7 @@
 use mathlib.Core.Path.{_≡_, refl, sym, ap, _∙_}
 use mathlib.Core.Option.{Option, none, some}
 use mathlib.Core.List.{List, [], _∷_}
-use Prim.Native.Nat.{ℕ, zero, suc, _+_, _-_, _≤_, _<_}
+use Prim.Native.Nat.{ℕ, suc, _+_, _-_, _≤_, _<_}
 use native.Mathlib.Omega.{arith}
 use lib.ListN.{length}
 use lib.Ieee.{Float}
@@ -12,7 +12,7 @@ use Rattle.descent.proofs.Loops.{place-passed, place-moved, next-sweep, run-set
 use Rattle.engine.specs.Engine.{endedAs}
 use Rattle.engine.specs.declared.Ended.the-variants.{Settled, Stopped}
 use Rattle.soft.specs.Soft.{Neighbour, neighbours, made, soft-search, soft-judge}
-use Rattle.soft.specs.Places.{meant, Inside, InsideAny, onward, rest, Follows, chosen, better, Known}
+use Rattle.soft.specs.Places.{meant, Inside, InsideAny, rest, Follows, chosen, better, Known}
 use Rattle.soft.proofs.Choice.{pick, pick-taken, pick-turn, known-none, known-turn}
 use Rattle.soft.specs.declared.neighbours.Neighbourhood.{Neighbourhood}
 use Rattle.soft.specs.declared.neighbours.Place.{Place}
@@ -36,8 +36,9 @@ pub inside-at : (n : ℕ) (here : Found) (place : Place) → here ≡ At place �
 unfolding InsideAny
 inside-at n here place e inside = rw e at inside
 
-pub scan-turns : (cost : Neighbour → Float) (n : ℕ) (best₀ : Best) (here₀ : Found) (best : Best) (here : Found) (place : Place) (price : Float) (new : Best) (then : Found)
-    → Scanning cost n best₀ here₀ best here → here ≡ At place → price ≡ cost (meant place) → new ≡ better best price place → Follows n place then
+pub scan-turns : (cost : Neighbour → Float) (n : ℕ) (best₀ : Best) (here₀ : Found) (best : Best) (here : Found) (place : Place) (price : Float)
+    (new : Best) (then : Found) → Scanning cost n best₀ here₀ best here → here ≡ At place → price ≡ cost (meant place)
+    → new ≡ better best price place → Follows n place then
     → Scanning cost n best₀ here₀ new then
 unfolding rest
 scan-turns cost n best₀ here₀ best here place price new then s at e b f = rw b record {
@@ -47,7 +48,8 @@ scan-turns cost n best₀ here₀ best here place price new then s at e b f = rw
   inside = f .inside;
 }
 
-pub fewer : (n : ℕ) (here : Found) (place : Place) (then : Found) → here ≡ At place → Follows n place then → length (rest n then) < length (rest n here)
+pub fewer : (n : ℕ) (here : Found) (place : Place) (then : Found) → here ≡ At place → Follows n place then
+    → length (rest n then) < length (rest n here)
 unfolding rest
 fewer n here place then at f =
     let one : length (rest n here) ≡ suc (length (rest n then)) = ap (λ (h : Found). length (rest n h)) at ∙ ap length (f .same) in
@@ -61,7 +63,8 @@ unfolding rest pick chosen
 scan-ends which price cost floor xs here₀ best here e all s end =
     let priced : Neighbour → Float = λ m. price (made xs m) in
     let last : chosen (best .found) ≡ pick priced (best .bound) (chosen (best .found)) (rest (length xs) here) = rw end refl in
-    let whole : pick priced (cost ⊖ floor) none (rest (length xs) here₀) ≡ pick priced (price xs ⊖ floor) none (neighbours which (length xs)) = rw (e, all) refl in
+    let whole : pick priced (cost ⊖ floor) none (rest (length xs) here₀) ≡ pick priced (price xs ⊖ floor) none (neighbours which (length xs)) =
+    rw (e, all) refl in
     (last ∙ s .same ∙ whole ∙ pick-taken which price floor xs, s .known)
 
 -- ---- a run
@@ -79,14 +82,15 @@ module _ (which : Neighbourhood) (price : List ℕ → Float) (floor : Float) wh
   unfolding firstMove
   from-the-start xs = next-sweep (soft-search which) (soft-judge price floor) (at xs) refl
 
-  pub no-step : (xs : List ℕ) (found : Found) → chosen found ≡ taken (soft-search which) (soft-judge price floor) xs tt → found ≡ Nothing → step (at xs) ≡ none
+  pub no-step : (xs : List ℕ) (found : Found) → chosen found ≡ taken (soft-search which) (soft-judge price floor) xs tt → found ≡ Nothing
+      → step (at xs) ≡ none
   unfolding firstMove chosen
   no-step xs found e f =
       let left : taken (soft-search which) (soft-judge price floor) xs tt ≡ none = sym e ∙ ap chosen f in
       from-the-start xs ∙ place-passed (soft-search which) (soft-judge price floor) xs tt [] left
 
-  pub one-step : (xs : List ℕ) (found : Found) (place : Place) → chosen found ≡ taken (soft-search which) (soft-judge price floor) xs tt → found ≡ At place
-      → step (at xs) ≡ some (at (made xs (meant place)))
+  pub one-step : (xs : List ℕ) (found : Found) (place : Place) → chosen found ≡ taken (soft-search which) (soft-judge price floor) xs tt
+      → found ≡ At place → step (at xs) ≡ some (at (made xs (meant place)))
   unfolding chosen
   one-step xs found place e f =
       let takes : taken (soft-search which) (soft-judge price floor) xs tt ≡ some (meant place) = sym e ∙ ap chosen f in

@@ -1,6 +1,6 @@
 -- The search where a day has a soft window (local_search/soft.rs, 01, Modules, 7): steepest descent over the effective cost in one of three neighbourhoods.
 -- For the contract of `improve`, which 2-opt, Or-opt and 3-opt call there. Assumes nothing.
-use Prim.Native.Nat.{ℕ, suc}
+use Prim.Native.Nat.{ℕ}
 use mathlib.Core.Bool.{true}
 use mathlib.Core.List.{List, [], _∷_, map}
 use lib.ListN.{length}

@@ -4,7 +4,6 @@ use edits::append;
 use edits::append_stretch;
 use edits::append_stretch_reversed;
 ghost use mathlib.Core.Path.{_≡_};
-ghost use mathlib.Core.List.{List};
 ghost use Prim.Native.Nat.{_+_, _-_, _<_, _≤_};
 ghost use lib.ListN.{length, take};
 ghost use lib.Seq.{slice};
@@ -37,13 +36,41 @@ fn way_of(way: usize) -> Way
     ensures { λ r. ⌜ (r .exchanged, r .«b_turned», r .«c_turned») ≡ wayOf way ⌝ }
 {
     match way {
-        0 => Way { exchanged: false, b_turned: false, c_turned: true },
-        1 => Way { exchanged: false, b_turned: true, c_turned: false },
-        2 => Way { exchanged: false, b_turned: true, c_turned: true },
-        3 => Way { exchanged: true, b_turned: false, c_turned: false },
-        4 => Way { exchanged: true, b_turned: true, c_turned: false },
-        5 => Way { exchanged: true, b_turned: false, c_turned: true },
-        _ => Way { exchanged: true, b_turned: true, c_turned: true },
+        0 => Way {
+            exchanged: false,
+            b_turned: false,
+            c_turned: true,
+        },
+        1 => Way {
+            exchanged: false,
+            b_turned: true,
+            c_turned: false,
+        },
+        2 => Way {
+            exchanged: false,
+            b_turned: true,
+            c_turned: true,
+        },
+        3 => Way {
+            exchanged: true,
+            b_turned: false,
+            c_turned: false,
+        },
+        4 => Way {
+            exchanged: true,
+            b_turned: true,
+            c_turned: false,
+        },
+        5 => Way {
+            exchanged: true,
+            b_turned: false,
+            c_turned: true,
+        },
+        _ => Way {
+            exchanged: true,
+            b_turned: true,
+            c_turned: true,
+        },
     }
 }
 

@@ -5,6 +5,7 @@
 // is kept by its numbers, and made again at the end of the pass.
 pub mod layout;
 pub mod neighbours;
+
 use crate::layout::lay_out;
 use crate::layout::layout_of;
 use crate::layout::make;

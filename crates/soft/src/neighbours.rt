@@ -4,13 +4,13 @@
 // goes through the whole enumeration of specs/Soft.antt.
 ghost use mathlib.Core.Path.{_≡_};
 ghost use mathlib.Core.Logic.{_⊎_};
-ghost use mathlib.Core.List.{_∷_, map};
+ghost use mathlib.Core.List.{map};
 ghost use Prim.Native.Nat.{_+_, _<_, _≤_};
 ghost use Rattle.descent.specs.Order.{range, each};
 ghost use Rattle.descent.specs.Within.{pieces};
 ghost use Rattle.descent.proofs.Loops.{rows-from};
 ghost use Rattle.soft.specs.Soft.{neighbours, reversal, relocation, reconnection, ways, to-the-end};
-ghost use Rattle.soft.specs.Places.{meant, Inside, InsideAny, onward, rest, firsts-from, Follows};
+ghost use Rattle.soft.specs.Places.{Inside, InsideAny, rest, firsts-from, Follows};
 ghost use Rattle.soft.specs.declared.neighbours.Place.the-variants.{Turned, Moved, Reconnected};
 
 // Which neighbourhood a search moves in.

@@ -20,7 +20,9 @@ abbrev μ-loop : tie.MeasureT-loop
     length (rest n here)
 
 first-place-requires : tie.Need-first-place-requires Inv-loop μ-loop
-first-place-requires c κs = c .before .before .before .before .before .before .before .before .before .pre .1 .0 .1 .few
+first-place-requires c κs =
+    let start = c .before .before .before .before .before .before .before .before .before in
+    start .pre .1 .0 .1 .few
 
 loop-holds : tie.Need-loop-holds Inv-loop μ-loop
 loop-holds c = (scan-starts _ _ _ _ (c .first-place .ensures .1), refl)
@@ -35,26 +37,48 @@ same-length : tie.Need-same-length Inv-loop μ-loop
 same-length c = c .before .before .loop .inv .1
 
 returns : tie.Need-returns Inv-loop μ-loop
-returns c = 
-    let a = c .before .before .before .before .before .before .before .before .before .before .before .before .before .args in
-    scan-ends (a .which) (effectiveCost (columns (a .l) (a .flags .now) (a .service .now) (a .ready .now) (a .due .now) (a .penalty .now) (a .distances .now) (a .times .now)) (a .limits) (a .depot))
-    (a .cost) (a .floor) (a .list .now) _ _ _ (c .before .before .before .before .before .before .before .before .before .before .before .before .before .pre .1 .1 .1) (c .before .before .before .first-place .ensures .0) (c .before .before .loop .inv .0) (c .enum-told .given .1)
+returns c =
+    let at-loop = c .before .before in
+    let at-first-place = at-loop .before in
+    let start = at-first-place .before .before .before .before .before .before .before .before .before .before in
+    let a = start .args in
+    let day = columns (a .l) (a .flags .now) (a .service .now) (a .ready .now) (a .due .now) (a .penalty .now) (a .distances .now) (a .times .now) in
+    let price = effectiveCost day (a .limits) (a .depot) in
+    scan-ends (a .which) price (a .cost) (a .floor) (a .list .now) _ _ _ (start .pre .1 .1 .1) (at-first-place .first-place .ensures .0) (at-loop .loop .inv .0)
+    (c .enum-told .given .1)
 
 price-of-requires : tie.Need-price-of-requires Inv-loop μ-loop
-price-of-requires c κs = (c .before .before .before .before .before .before .before .before .before .before .before .before .before .before .before .pre .0, (c .before .before .before .before .before .before .before .before .before .before .before .before .before .before .before .pre .1 .0, (rw (c .before .before .before .before .loop .inv .1) (c .before .before .before .before .before .before .before .before .before .before .before .before .before .before .before .pre .1 .1 .0), inside-at _ _ _ (c .before .before .here .given .1) (c .before .before .before .before .loop .inv .0 .inside))))
+price-of-requires c κs =
+    let at-here = c .before .before in
+    let at-loop = at-here .before .before in
+    let start = at-loop .before .before .before .before .before .before .before .before .before .before .before in
+    let inside = inside-at _ _ _ (at-here .here .given .1) (at-loop .loop .inv .0 .inside) in
+    (start .pre .0, (start .pre .1 .0, (rw (at-loop .loop .inv .1) (start .pre .1 .1 .0), inside)))
 
 or-requires : tie.Need-or-requires Inv-loop μ-loop
 or-requires c κs = search needs
 
 after-requires : tie.Need-after-requires Inv-loop μ-loop
-after-requires c κs = (c .before .before .before .before .before .before .before .before .before .before .before .before .before .before .before .before .before .before .before .pre .1 .0 .1 .few, inside-at _ _ _ (c .before .before .before .before .before .before .here .given .1) (c .before .before .before .before .before .before .before .before .loop .inv .0 .inside))
+after-requires c κs =
+    let at-here = c .before .before .before .before .before .before in
+    let at-loop = at-here .before .before in
+    let start = at-loop .before .before .before .before .before .before .before .before .before .before .before in
+    (start .pre .1 .0 .1 .few, inside-at _ _ _ (at-here .here .given .1) (at-loop .loop .inv .0 .inside))
 
 loop-less : tie.Need-loop-less Inv-loop μ-loop
-loop-less c = fewer _ _ _ _ (c .before .before .before .before .before .before .before .here .given .1) (c .after .ensures)
+loop-less c =
+    let at-here = c .before .before .before .before .before .before .before in
+    fewer _ _ _ _ (at-here .here .given .1) (c .after .ensures)
 
 loop-again : tie.Need-loop-again Inv-loop μ-loop
-loop-again c = 
-    (scan-turns _ _ _ _ _ _ _ _ _ _ (c .before .before .before .before .before .before .before .before .before .loop .inv .0) (c .before .before .before .before .before .before .before .here .given .1) (c .before .before .before .before .price-of .ensures) (c .before .or .ensures) (c .after .ensures), c .before .before .before .before .price-of .kept .1 .1 .1 .1 .1 .1 .1 .1 .1 .1 .1 .0 ∙ c .before .before .before .before .before .before .before .before .before .loop .inv .1)
+loop-again c =
+    let at-or = c .before in
+    let at-price-of = at-or .before .before .before in
+    let at-here = at-price-of .before .before .before in
+    let at-loop = at-here .before .before in
+    let scanning = scan-turns _ _ _ _ _ _ _ _ _ _ (at-loop .loop .inv .0) (at-here .here .given .1) (at-price-of .price-of .ensures)
+    (at-or .or .ensures) (c .after .ensures) in
+    (scanning, at-price-of .price-of .kept .1 .1 .1 .1 .1 .1 .1 .1 .1 .1 .1 .0 ∙ at-loop .loop .inv .1)
 
 pub best-neighbour-spec : {M : Type 1} → statement M
 best-neighbour-spec =

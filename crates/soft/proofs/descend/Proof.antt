@@ -26,13 +26,21 @@ abbrev μ-loop : tie.MeasureT-loop
     limit - moves
 
 effective-cost-requires : tie.Need-effective-cost-requires Inv-loop μ-loop
-effective-cost-requires c κs = (c .before .before .before .before .before .before .before .before .before .before .pre .0, c .before .before .before .before .before .before .before .before .before .before .pre .1 .0)
+effective-cost-requires c κs =
+    let start = c .before .before .before .before .before .before .before .before .before .before in
+    (start .pre .0, start .pre .1 .0)
 
 loop-holds : tie.Need-loop-holds Inv-loop μ-loop
-loop-holds c = (run-starts _ _ _, c .effective-cost .ensures, c .before .before .before .before .before .before .before .before .before .before .before .pre .1 .0 .1, refl, refl)
+loop-holds c =
+    let start = c .before .before .before .before .before .before .before .before .before .before .before in
+    (run-starts _ _ _, c .effective-cost .ensures, start .pre .1 .0 .1, refl, refl)
 
 best-neighbour-requires : tie.Need-best-neighbour-requires Inv-loop μ-loop
-best-neighbour-requires c κs = (c .before .before .before .before .before .before .before .before .before .before .before .before .before .before .pre .0, ((c .before .before .before .before .before .before .before .before .before .before .before .before .before .before .pre .1 .0 .0, c .before .before .loop .inv .2), (omega (arith, c .before .before .loop .inv .3, c .before .before .loop .inv .4, c .before .before .before .before .before .before .before .before .before .before .before .before .before .before .pre .1 .1), c .before .before .loop .inv .1)))
+best-neighbour-requires c κs =
+    let at-loop = c .before .before in
+    let start = at-loop .before .before .before .before .before .before .before .before .before .before .before .before in
+    let inv = at-loop .loop .inv in
+    (start .pre .0, ((start .pre .1 .0 .0, inv .2), (omega (arith, inv .3, inv .4, start .pre .1 .1), inv .1)))
 
 enum-known-found : tie.Need-enum-known-found Inv-loop μ-loop
 enum-known-found c = search needs
@@ -41,52 +49,97 @@ enum-told : tie.Need-enum-told Inv-loop μ-loop
 enum-told c = search needs
 
 same-length : tie.Need-same-length Inv-loop μ-loop
-same-length c = c .before .before .before .before .before .before .before .loop .inv .3
+same-length c =
+    let at-loop = c .before .before .before .before .before .before .before in
+    at-loop .loop .inv .3
 
 same-length-2 : tie.Need-same-length-2 Inv-loop μ-loop
-same-length-2 c = c .before .before .before .before .best-neighbour .kept .1 .1 .1 .1 .1 .1 .1 .1 .1 .1 .1 .1 .0 ∙ c .before .before .before .before .before .before .before .loop .inv .4
+same-length-2 c =
+    let at-best-neighbour = c .before .before .before .before in
+    let at-loop = at-best-neighbour .before .before .before in
+    at-best-neighbour .best-neighbour .kept .1 .1 .1 .1 .1 .1 .1 .1 .1 .1 .1 .1 .0 ∙ at-loop .loop .inv .4
 
 returns : tie.Need-returns Inv-loop μ-loop
 unfolding soft-run
-returns c = 
-    let a = c .before .before .before .before .before .before .before .before .before .before .before .before .before .before .before .before .before .before .before .args in
-    let end = run-settled _ _ _ _ _ (c .before .before .before .before .before .before .before .loop .inv .0)
-    (no-step (a .which) (effectiveCost (columns (a .l) (a .flags .now) (a .service .now) (a .ready .now) (a .due .now) (a .penalty .now) (a .distances .now) (a .times .now)) (a .limits) (a .depot)) (a .floor) (c .before .before .before .before .before .before .before .loop .list) _ (c .before .before .before .before .best-neighbour .ensures .0) (c .enum-told .given .1)) in
+returns c =
+    let at-best-neighbour = c .before .before .before .before in
+    let at-loop = at-best-neighbour .before .before .before in
+    let start = at-loop .before .before .before .before .before .before .before .before .before .before .before .before in
+    let a = start .args in
+    let day = columns (a .l) (a .flags .now) (a .service .now) (a .ready .now) (a .due .now) (a .penalty .now) (a .distances .now) (a .times .now) in
+    let price = effectiveCost day (a .limits) (a .depot) in
+    let none-left = no-step (a .which) price (a .floor) (at-loop .loop .list) _ (at-best-neighbour .best-neighbour .ensures .0) (c .enum-told .given .1) in
+    let end = run-settled _ _ _ _ _ (at-loop .loop .inv .0) none-left in
     (ap (λ (s : Sweep (List _) Unit). s .now) (end .0), end .1)
 
 same-length-3 : tie.Need-same-length-3 Inv-loop μ-loop
-same-length-3 c = c .before .before .before .before .before .before .before .before .before .loop .inv .3
+same-length-3 c =
+    let at-loop = c .before .before .before .before .before .before .before .before .before in
+    at-loop .loop .inv .3
 
 same-length-4 : tie.Need-same-length-4 Inv-loop μ-loop
-same-length-4 c = c .before .before .before .before .before .before .best-neighbour .kept .1 .1 .1 .1 .1 .1 .1 .1 .1 .1 .1 .1 .0 ∙ c .before .before .before .before .before .before .before .before .before .loop .inv .4
+same-length-4 c =
+    let at-best-neighbour = c .before .before .before .before .before .before in
+    let at-loop = at-best-neighbour .before .before .before in
+    at-best-neighbour .best-neighbour .kept .1 .1 .1 .1 .1 .1 .1 .1 .1 .1 .1 .1 .0 ∙ at-loop .loop .inv .4
 
 returns-2 : tie.Need-returns-2 Inv-loop μ-loop
 unfolding soft-run
-returns-2 c = 
-    let a = c .before .before .before .before .before .before .before .before .before .before .before .before .before .before .before .before .before .before .before .before .before .args in
-    let end = run-stopped _ _ _ _ _ _ (c .before .before .before .before .before .before .before .before .before .loop .inv .0)
-    (one-step (a .which) (effectiveCost (columns (a .l) (a .flags .now) (a .service .now) (a .ready .now) (a .due .now) (a .penalty .now) (a .distances .now) (a .times .now)) (a .limits) (a .depot)) (a .floor) (c .before .before .before .before .before .before .before .before .before .loop .list) _ _ (c .before .before .before .before .before .before .best-neighbour .ensures .0) (c .before .before .found .given .1)) (c .if1 .taken) in
+returns-2 c =
+    let at-found = c .before .before in
+    let at-best-neighbour = at-found .before .before .before .before in
+    let at-loop = at-best-neighbour .before .before .before in
+    let start = at-loop .before .before .before .before .before .before .before .before .before .before .before .before in
+    let a = start .args in
+    let day = columns (a .l) (a .flags .now) (a .service .now) (a .ready .now) (a .due .now) (a .penalty .now) (a .distances .now) (a .times .now) in
+    let price = effectiveCost day (a .limits) (a .depot) in
+    let one-left = one-step (a .which) price (a .floor) (at-loop .loop .list) _ _ (at-best-neighbour .best-neighbour .ensures .0) (at-found .found .given .1) in
+    let end = run-stopped _ _ _ _ _ _ (at-loop .loop .inv .0) one-left (c .if1 .taken) in
     (ap (λ (s : Sweep (List _) Unit). s .now) (end .0), end .1)
 
 make-requires : tie.Need-make-requires Inv-loop μ-loop
-make-requires c κs = (c .before .before .before .before .before .before .before .before .before .before .before .loop .inv .2 .few, omega (arith, c .before .before .before .before .before .before .before .before .before .before .before .loop .inv .3, c .before .before .before .before .before .before .before .before .before .before .before .loop .inv .4, c .before .before .before .before .before .before .before .before .best-neighbour .kept .1 .1 .1 .1 .1 .1 .1 .1 .1 .1 .1 .1 .0, c .before .before .before .before .before .before .before .before .before .before .before .before .before .before .before .before .before .before .before .before .before .before .before .pre .1 .1), known-at _ _ _ _ (c .before .before .before .before .before .before .before .before .best-neighbour .ensures .1) (c .before .before .before .before .found .given .1) .0)
+make-requires c κs =
+    let at-found = c .before .before .before .before in
+    let at-best-neighbour = at-found .before .before .before .before in
+    let at-loop = at-best-neighbour .before .before .before in
+    let start = at-loop .before .before .before .before .before .before .before .before .before .before .before .before in
+    let known = known-at _ _ _ _ (at-best-neighbour .best-neighbour .ensures .1) (at-found .found .given .1) in
+    let same = at-best-neighbour .best-neighbour .kept .1 .1 .1 .1 .1 .1 .1 .1 .1 .1 .1 .1 .0 in
+    (at-loop .loop .inv .2 .few, omega (arith, at-loop .loop .inv .3, at-loop .loop .inv .4, same, start .pre .1 .1), known .0)
 
 add-moves : tie.Need-add-moves Inv-loop μ-loop
-add-moves c = omega (arith, c .before .before .before .before .before .before .before .before .before .before .before .before .before .before .before .before .loop .inv .0 .low, c .before .before .before .before .before .before .before .if1 .left, c .before .before .before .before .before .before .before .before .before .before .before .before .before .before .before .before .before .before .before .before .before .before .before .before .before .before .before .before .fits .limit)
+add-moves c =
+    let at-if1 = c .before .before .before .before .before .before .before in
+    let at-loop = at-if1 .before .before .before .before .before .before .before .before .before in
+    let start = at-loop .before .before .before .before .before .before .before .before .before .before .before .before in
+    omega (arith, at-loop .loop .inv .0 .low, at-if1 .if1 .left, start .fits .limit)
 
 loop-less : tie.Need-loop-less Inv-loop μ-loop
-loop-less c = omega (arith, c .before .before .before .before .before .before .before .before .before .before .before .before .before .before .before .before .loop .inv .0 .low, c .before .before .before .before .before .before .before .if1 .left)
+loop-less c =
+    let at-if1 = c .before .before .before .before .before .before .before in
+    let at-loop = at-if1 .before .before .before .before .before .before .before .before .before in
+    omega (arith, at-loop .loop .inv .0 .low, at-if1 .if1 .left)
 
 loop-again : tie.Need-loop-again Inv-loop μ-loop
-loop-again c = 
-    let a = c .before .before .before .before .before .before .before .before .before .before .before .before .before .before .before .before .before .before .before .before .before .before .before .before .before .before .before .before .args in
-    let room : c .before .before .before .before .before .before .before .before .before .before .before .before .before .before .before .before .loop .moves < a .limit = omega (arith, c .before .before .before .before .before .before .before .before .before .before .before .before .before .before .before .before .loop .inv .0 .low, c .before .before .before .before .before .before .before .if1 .left) in
-    let known = known-at _ _ _ _ (c .before .before .before .before .before .before .before .before .before .before .before .before .before .best-neighbour .ensures .1) (c .before .before .before .before .before .before .before .before .before .found .given .1) in
-    (rw (c .before .before .before .before .make .ensures) (run-goes-on _ _ _ _ _ _ (c .before .before .before .before .before .before .before .before .before .before .before .before .before .before .before .before .loop .inv .0) (one-step (a .which) (effectiveCost (columns (a .l) (a .flags .now) (a .service .now) (a .ready .now) (a .due .now) (a .penalty .now) (a .distances .now) (a .times .now)) (a .limits) (a .depot)) (a .floor) (c .before .before .before .before .before .before .before .before .before .before .before .before .before .before .before .before .loop .list) _ _ (c .before .before .before .before .before .before .before .before .before .before .before .before .before .best-neighbour .ensures .0) (c .before .before .before .before .before .before .before .before .before .found .given .1)) room),
-    rw (c .before .before .before .before .make .ensures) (known .1),
-    rw (c .before .before .before .before .make .ensures) (made-kept _ _ _ (known .0) (c .before .before .before .before .before .before .before .before .before .before .before .before .before .before .before .before .loop .inv .2)),
-    c .before .before .before .before .make .kept .0 ∙ c .before .before .before .before .before .before .before .before .before .before .before .before .before .before .before .before .loop .inv .3,
-    c .before .before .before .before .make .kept .1 .0 ∙ c .before .before .before .before .before .before .before .before .before .before .before .before .before .best-neighbour .kept .1 .1 .1 .1 .1 .1 .1 .1 .1 .1 .1 .1 .0 ∙ c .before .before .before .before .before .before .before .before .before .before .before .before .before .before .before .before .loop .inv .4)
+loop-again c =
+    let at-make = c .before .before .before .before in
+    let at-if1 = at-make .before .before .before in
+    let at-found = at-if1 .before .before in
+    let at-best-neighbour = at-found .before .before .before .before in
+    let at-loop = at-best-neighbour .before .before .before in
+    let start = at-loop .before .before .before .before .before .before .before .before .before .before .before .before in
+    let a = start .args in
+    let day = columns (a .l) (a .flags .now) (a .service .now) (a .ready .now) (a .due .now) (a .penalty .now) (a .distances .now) (a .times .now) in
+    let price = effectiveCost day (a .limits) (a .depot) in
+    let room : at-loop .loop .moves < a .limit = omega (arith, at-loop .loop .inv .0 .low, at-if1 .if1 .left) in
+    let known = known-at _ _ _ _ (at-best-neighbour .best-neighbour .ensures .1) (at-found .found .given .1) in
+    let move = one-step (a .which) price (a .floor) (at-loop .loop .list) _ _ (at-best-neighbour .best-neighbour .ensures .0) (at-found .found .given .1) in (
+      rw (at-make .make .ensures) (run-goes-on _ _ _ _ _ _ (at-loop .loop .inv .0) move room),
+      rw (at-make .make .ensures) (known .1),
+      rw (at-make .make .ensures) (made-kept _ _ _ (known .0) (at-loop .loop .inv .2)),
+      at-make .make .kept .0 ∙ at-loop .loop .inv .3,
+      at-make .make .kept .1 .0 ∙ at-best-neighbour .best-neighbour .kept .1 .1 .1 .1 .1 .1 .1 .1 .1 .1 .1 .1 .0 ∙ at-loop .loop .inv .4,
+    )
 
 pub descend-spec : {M : Type 1} → statement M
 descend-spec =

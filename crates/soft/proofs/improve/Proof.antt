@@ -1,6 +1,6 @@
 -- `improve`: the floor is the table's, and the buffer is long enough for any list.
 use native.Mathlib.Omega.{arith}
-use mathlib.Core.Path.{_≡_, ap, _∙_}
+use mathlib.Core.Path.{ap, _∙_}
 use Rattle.numbers.specs.Floor.{gainFloor}
 use borrow.Author.Needs.{needs}
 use Rattle.soft.proofs.improve.Statement.{statement}
@@ -16,13 +16,19 @@ slice-aggregate-descend : tie.Need-slice-aggregate-descend
 slice-aggregate-descend c = search needs
 
 descend-requires : tie.Need-descend-requires
-descend-requires c κs = (c .before .before .before .before .before .before .before .before .before .before .before .before .pre .0, (c .before .before .before .before .before .before .before .before .before .before .before .before .pre .1, omega (arith, c .before .before .before .before .before .before .before .before .before .before .before .before .pre .1 .1 .few)))
+descend-requires c κs =
+    let start = c .before .before .before .before .before .before .before .before .before .before .before .before in
+    (start .pre .0, (start .pre .1, omega (arith, start .pre .1 .1 .few)))
 
 same-length : tie.Need-same-length
 same-length c = search needs
 
 returns : tie.Need-returns
-returns c = rw (← (c .before .before .before .before .before .before .gain-floor .ensures ∙ ap gainFloor (c .before .before .before .before .before .before .before .scale .ensures))) (c .before .before .before .descend .ensures)
+returns c =
+    let at-descend = c .before .before .before in
+    let at-gain-floor = at-descend .before .before .before in
+    let at-scale = at-gain-floor .before in
+    rw (← (at-gain-floor .gain-floor .ensures ∙ ap gainFloor (at-scale .scale .ensures))) (at-descend .descend .ensures)
 
 pub improve-spec : {M : Type 1} → statement M
 improve-spec =

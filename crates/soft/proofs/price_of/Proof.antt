@@ -22,15 +22,21 @@ part-effective-cost-end : tie.Need-part-effective-cost-end
 part-effective-cost-end c = search needs
 
 effective-cost-requires : tie.Need-effective-cost-requires
-effective-cost-requires c κs = 
-    (c .before .before .before .before .before .before .before .before .before .before .before .before .before .before .before .before .pre .0, (c .before .before .before .before .before .before .before .before .before .before .before .before .before .before .before .before .pre .1 .0 .0,
-    rw (part-is _ _ _ _ _ (c .before .before .before .before .before .before .layout-of .ensures) (c .before .before .before .before .lay-out .ensures)) (made-visits _ _ _ _ _ (c .before .before .before .before .before .before .layout-of .ensures) (c .before .before .before .before .before .before .before .before .before .before .before .before .before .before .before .before .pre .1 .0 .1))))
+effective-cost-requires c κs =
+    let at-lay-out = c .before .before .before .before in
+    let at-layout-of = at-lay-out .before .before in
+    let start = at-layout-of .before .before .before .before .before .before .before .before .before .before in
+    let lays = at-layout-of .layout-of .ensures in
+    (start .pre .0, (start .pre .1 .0 .0, rw (part-is _ _ _ _ _ lays (at-lay-out .lay-out .ensures)) (made-visits _ _ _ _ _ lays (start .pre .1 .0 .1))))
 
 same-length : tie.Need-same-length
 same-length c = search needs
 
 returns : tie.Need-returns
-returns c = c .effective-cost .ensures ∙ ap (effectiveCost _ _ _) (part-is _ _ _ _ _ (c .before .before .before .before .before .before .before .layout-of .ensures) (c .before .before .before .before .before .lay-out .ensures))
+returns c =
+    let at-lay-out = c .before .before .before .before .before in
+    let at-layout-of = at-lay-out .before .before in
+    c .effective-cost .ensures ∙ ap (effectiveCost _ _ _) (part-is _ _ _ _ _ (at-layout-of .layout-of .ensures) (at-lay-out .lay-out .ensures))
 
 pub price-of-spec : {M : Type 1} → statement M
 price-of-spec =

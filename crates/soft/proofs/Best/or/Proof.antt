@@ -2,7 +2,6 @@
 use mathlib.Core.Path.{refl}
 use Rattle.tests.specs.Pick.{picked, other}
 use Rattle.soft.specs.Places.{better}
-use borrow.Author.Needs.{needs}
 use Rattle.soft.proofs.Best.or.Statement.{statement}
 use Rattle.soft.proofs.Best.or.Tie as tie
 

@@ -23,11 +23,21 @@ same-length : tie.Need-same-length
 same-length c = search needs
 
 returns : tie.Need-returns
-returns c = 
-    let a = c .before .before .before .before .before .before .before .before .before .before .before .before .before .before .before .before .before .before .before .args in
-    let whole : c .before .before .append-stretch2 .result ≡ length (a .list .now) =
-    omega (arith, c .before .before .before .before .before .before .before .before .before .before .before .before .before .before .before .before .before .before .before .pre .1 .b-c, c .before .before .before .before .before .before .before .before .before .before .before .before .before .before .before .before .before .before .before .pre .1 .c-d, c .before .before .before .before .before .before .before .before .before .before .before .before .before .before .before .before .before .before .before .pre .1 .d-n, c .before .before .before .before .before .before .before .before .before .before .before .before .before .before .before .append-stretch .ensures .0, c .before .before .before .before .before .before .before .before .before .before .append-piece .ensures .0, c .before .before .before .before .before .before .append-piece2 .ensures .0, c .before .before .append-stretch2 .ensures .0) in
-    laid-exchanged (a .list .now) (a .p) (c .before .before .before .before .before .before .before .before .before .before .before .before .before .before .before .append-stretch .ensures .1) whole (c .before .before .before .before .before .before .before .before .before .before .before .before .if1 .taken) (c .before .before .before .before .before .before .before .before .before .before .append-piece .ensures .1) (c .before .before .before .before .before .before .append-piece2 .ensures .1) (c .before .before .append-stretch2 .ensures .1)
+returns c =
+    let at-append-stretch2 = c .before .before in
+    let at-append-piece2 = at-append-stretch2 .before .before .before .before in
+    let at-append-piece = at-append-piece2 .before .before .before .before in
+    let at-if1 = at-append-piece .before .before in
+    let at-append-stretch = at-if1 .before .before .before in
+    let start = at-append-stretch .before .before .before .before in
+    let cut = start .pre .1 in
+    let one = at-append-stretch .append-stretch .ensures in
+    let two = at-append-piece .append-piece .ensures in
+    let three = at-append-piece2 .append-piece2 .ensures in
+    let four = at-append-stretch2 .append-stretch2 .ensures in
+    let whole : at-append-stretch2 .append-stretch2 .result ≡ length (start .args .list .now) =
+    omega (arith, cut .b-c, cut .c-d, cut .d-n, one .0, two .0, three .0, four .0) in
+    laid-exchanged (start .args .list .now) (start .args .p) (one .1) whole (at-if1 .if1 .taken) (two .1) (three .1) (four .1)
 
 append-piece-requires-3 : tie.Need-append-piece-requires-3
 append-piece-requires-3 c κs = search needs
@@ -42,11 +52,21 @@ same-length-2 : tie.Need-same-length-2
 same-length-2 c = search needs
 
 returns-2 : tie.Need-returns-2
-returns-2 c = 
-    let a = c .before .before .before .before .before .before .before .before .before .before .before .before .before .before .before .before .before .before .before .args in
-    let whole : c .before .before .append-stretch3 .result ≡ length (a .list .now) =
-    omega (arith, c .before .before .before .before .before .before .before .before .before .before .before .before .before .before .before .before .before .before .before .pre .1 .b-c, c .before .before .before .before .before .before .before .before .before .before .before .before .before .before .before .before .before .before .before .pre .1 .c-d, c .before .before .before .before .before .before .before .before .before .before .before .before .before .before .before .before .before .before .before .pre .1 .d-n, c .before .before .before .before .before .before .before .before .before .before .before .before .before .before .before .append-stretch .ensures .0, c .before .before .before .before .before .before .before .before .before .before .append-piece3 .ensures .0, c .before .before .before .before .before .before .append-piece4 .ensures .0, c .before .before .append-stretch3 .ensures .0) in
-    laid-straight (a .list .now) (a .p) (c .before .before .before .before .before .before .before .before .before .before .before .before .before .before .before .append-stretch .ensures .1) whole (c .before .before .before .before .before .before .before .before .before .before .before .before .if1 .left) (c .before .before .before .before .before .before .before .before .before .before .append-piece3 .ensures .1) (c .before .before .before .before .before .before .append-piece4 .ensures .1) (c .before .before .append-stretch3 .ensures .1)
+returns-2 c =
+    let at-append-stretch3 = c .before .before in
+    let at-append-piece4 = at-append-stretch3 .before .before .before .before in
+    let at-append-piece3 = at-append-piece4 .before .before .before .before in
+    let at-if1 = at-append-piece3 .before .before in
+    let at-append-stretch = at-if1 .before .before .before in
+    let start = at-append-stretch .before .before .before .before in
+    let cut = start .pre .1 in
+    let one = at-append-stretch .append-stretch .ensures in
+    let two = at-append-piece3 .append-piece3 .ensures in
+    let three = at-append-piece4 .append-piece4 .ensures in
+    let four = at-append-stretch3 .append-stretch3 .ensures in
+    let whole : at-append-stretch3 .append-stretch3 .result ≡ length (start .args .list .now) =
+    omega (arith, cut .b-c, cut .c-d, cut .d-n, one .0, two .0, three .0, four .0) in
+    laid-straight (start .args .list .now) (start .args .p) (one .1) whole (at-if1 .if1 .left) (two .1) (three .1) (four .1)
 
 pub lay-out-spec : {M : Type 1} → statement M
 lay-out-spec =

@@ -49,7 +49,7 @@ returns-2 : tie.Need-returns-2
 returns-2 c = rw (c .before .before .place2 .given .1) (c .layout-of-relocation .ensures)
 
 returns-3 : tie.Need-returns-3
-returns-3 c = 
+returns-3 c =
     rw (c .before .before .place3 .given .1)
     (lays-reconnected _ _ _ _ _ _ _ _ (rw (c .before .before .place3 .given .1) at (c .before .before .before .before .pre .1)) (c .way-of .ensures))
 

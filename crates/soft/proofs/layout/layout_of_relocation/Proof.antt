@@ -2,7 +2,6 @@
 use native.Mathlib.Omega.{arith}
 use Rattle.soft.specs.Places.{Inside}
 use Rattle.soft.proofs.Layouts.{lays-earlier, lays-later}
-use borrow.Author.Needs.{needs}
 use Rattle.soft.proofs.layout.layout_of_relocation.Statement.{statement}
 use Rattle.soft.proofs.layout.layout_of_relocation.Tie as tie
 

@@ -29,7 +29,11 @@ same-length-2 : tie.Need-same-length-2
 same-length-2 c = search needs
 
 returns : tie.Need-returns
-returns c = overwritten _ _ _ _ (c .before .before .before .before .before .before .before .before .before .before .before .layout-of .ensures) (c .before .before .before .before .before .before .before .before .lay-out .ensures) (c .before .before .append .ensures)
+returns c =
+    let at-append = c .before .before in
+    let at-lay-out = at-append .before .before .before .before .before .before in
+    let at-layout-of = at-lay-out .before .before .before in
+    overwritten _ _ _ _ (at-layout-of .layout-of .ensures) (at-lay-out .lay-out .ensures) (at-append .append .ensures)
 
 pub make-spec : {M : Type 1} → statement M
 make-spec =

@@ -1,7 +1,6 @@
 -- `way_of`: one arm for each way.
 use mathlib.Core.Path.{_≡_}
 use native.Mathlib.Omega.{arith}
-use borrow.Author.Needs.{needs}
 use Rattle.soft.proofs.layout.way_of.Statement.{statement}
 use Rattle.soft.proofs.layout.way_of.Tie as tie
 

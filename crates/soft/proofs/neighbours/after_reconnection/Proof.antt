@@ -2,7 +2,6 @@
 use native.Mathlib.Omega.{arith}
 use Rattle.soft.specs.Places.{Inside}
 use Rattle.soft.proofs.Onward.{way-on, cut-on, cut-row, cut-rows}
-use borrow.Author.Needs.{needs}
 use Rattle.soft.proofs.neighbours.after_reconnection.Statement.{statement}
 use Rattle.soft.proofs.neighbours.after_reconnection.Tie as tie
 
@@ -48,9 +47,9 @@ unfolding Inside
 first-reconnection-requires c κs = (omega arith, omega arith)
 
 returns-4 : tie.Need-returns-4
-returns-4 c = 
-    cut-rows _ _ _ _ _ (c .before .before .before .before .pre .1) _ (c .before .before .before .if1 .left) (c .before .before .if2 .left) (c .before .if3 .left)
-    (c .first-reconnection .ensures)
+returns-4 c =
+    cut-rows _ _ _ _ _ (c .before .before .before .before .pre .1) _ (c .before .before .before .if1 .left) (c .before .before .if2 .left)
+    (c .before .if3 .left) (c .first-reconnection .ensures)
 
 pub after-reconnection-spec : {M : Type 1} → statement M
 after-reconnection-spec =

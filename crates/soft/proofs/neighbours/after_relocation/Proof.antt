@@ -2,7 +2,6 @@
 use native.Mathlib.Omega.{arith}
 use Rattle.soft.specs.Places.{Inside}
 use Rattle.soft.proofs.Onward.{moved-on, moved-row, moved-size}
-use borrow.Author.Needs.{needs}
 use Rattle.soft.proofs.neighbours.after_relocation.Statement.{statement}
 use Rattle.soft.proofs.neighbours.after_relocation.Tie as tie
 
@@ -33,7 +32,7 @@ unfolding Inside
 first-relocation-requires c κs = (omega arith, omega arith, omega arith)
 
 returns-3 : tie.Need-returns-3
-returns-3 c = 
+returns-3 c =
     moved-size _ _ _ _ _ (c .before .before .before .before .pre .1) (c .before .before .before .next-to .ensures) _ (c .before .before .if1 .left)
     (c .before .if2 .left) (c .first-relocation .ensures)
 

@@ -2,7 +2,6 @@
 use native.Mathlib.Omega.{arith}
 use Rattle.soft.specs.Places.{Inside}
 use Rattle.soft.proofs.Onward.{turned-on, turned-row}
-use borrow.Author.Needs.{needs}
 use Rattle.soft.proofs.neighbours.after_reversal.Statement.{statement}
 use Rattle.soft.proofs.neighbours.after_reversal.Tie as tie
 

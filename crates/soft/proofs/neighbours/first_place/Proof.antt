@@ -1,5 +1,4 @@
 -- `first_place`: one arm for each neighbourhood.
-use native.Mathlib.Omega.{arith}
 use Rattle.soft.specs.Soft.{neighbours}
 use Rattle.soft.proofs.Onward.{cuts-few, cuts-many}
 use borrow.Author.Needs.{needs}
