@@ -1,9 +1,10 @@
 // evaluation/mod.rs: whether a list passes, what it costs, and whether a search has to ask.
 use crate::label::Reached;
+use crate::label::Taken;
 use crate::label::at_start;
 use crate::label::serve;
 use crate::schedule::Outcome;
-use crate::schedule::end_of;
+use crate::schedule::end_with;
 use crate::schedule::schedule;
 use crate::stop::stop_of;
 use day::customer::has_time_windows;
@@ -76,7 +77,7 @@ fn unbroken_schedule(
         distance = distance + get(l, distances, place, visit);
         let travel = travel_time(l, distances, times, place, visit);
         let stop = stop_of(flags, service, ready, due, penalty, visit);
-        let reached = serve(label, travel, stop, 0, Rest::NoBreak);
+        let reached = serve(label, travel, stop);
         let Reached::Served(next) = reached else {
             return Outcome::Impossible;
         };
@@ -86,7 +87,7 @@ fn unbroken_schedule(
     }
     distance = distance + get(l, distances, place, depot);
     let back = travel_time(l, distances, times, place, depot);
-    end_of(Reached::Served(label), distance, back)
+    end_with(label, Taken::Untaken, distance, back)
 }
 
 // The clock of a list, with the break where there is one.
