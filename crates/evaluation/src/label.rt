@@ -1,11 +1,13 @@
 // The label of evaluation/schedule.rs: the van at a stop with its service done, how one stop carries it on, and which of two is earlier.
 use crate::stop::Stop;
+use day::customer::TimeWindow;
 use day::customer::Window;
 use day::vehicle::VehicleBreak;
 use tests::both;
 use tests::either;
 ghost use mathlib.Core.Path.{_≡_};
 ghost use Rattle.numbers.specs.Total.{larger};
+ghost use Rattle.day.specs.declared.customer.Window.the-variants.{Hard};
 ghost use Rattle.evaluation.specs.Label.{atStart, inTime, tooLate, servedIn, resting, served, servedRested, isServed};
 ghost use Rattle.evaluation.specs.Label.{servedFrom, servedRestedFrom, isEarlier, earlierOf};
 
@@ -74,6 +76,22 @@ fn too_late(label: Label, begin: f64, service: f64, late: f64, penalty: f64) -> 
     })
 }
 
+// The service at a hard window. Whether the van waits is asked first: where it is foreseen, the clock need not work the wait out.
+fn serve_hard(label: Label, span: TimeWindow, ready: f64, service: f64) -> Reached
+    ensures { λ r. ⌜ r ≡ servedIn (Hard span) label ready service ⌝ }
+{
+    if ready < span.ready {
+        if span.is_violated(ready) {
+            return Reached::Missed;
+        }
+        return in_time(label, ready + (span.ready - ready), service);
+    }
+    if span.is_violated(ready) {
+        return Reached::Missed;
+    }
+    in_time(label, ready + 0.0, service)
+}
+
 // The service of a stop for which the van is ready at this time: the wait for its window, and what being late means there.
 fn serve_at(label: Label, ready: f64, stop: Stop) -> Reached
     ensures { λ r. ⌜ r ≡ servedIn (stop .window) label ready (stop .service) ⌝ }
@@ -82,12 +100,7 @@ fn serve_at(label: Label, ready: f64, stop: Stop) -> Reached
     let service = stop.service;
     match window {
         Window::Open => in_time(label, ready, service),
-        Window::Hard(span) => {
-            if span.is_violated(ready) {
-                return Reached::Missed;
-            }
-            in_time(label, ready + span.waiting_time(ready), service)
-        }
+        Window::Hard(span) => serve_hard(label, span, ready, service),
         Window::Soft(span, penalty) => {
             let begin = ready + span.waiting_time(ready);
             if span.is_violated(ready) {
