@@ -16,9 +16,9 @@ use Rattle.day.specs.declared.vehicle.Limit.the-variants.{Unlimited}
 use Rattle.day.specs.declared.vehicle.Rest.the-variants.{NoBreak}
 use Rattle.day.specs.declared.vehicle.RouteLimits.{RouteLimits}
 use Rattle.evaluation.specs.Columns.{Columns, columns, stopOf}
-use Rattle.evaluation.specs.Label.{atStart, inTime, tooLate, servedIn, served, servedFrom, isEarlier, earlierOf}
+use Rattle.evaluation.specs.Label.{atStart, inTime, tooLate, servedIn, resting, served, servedRested, servedFrom, servedRestedFrom, isEarlier, earlierOf}
 use Rattle.evaluation.specs.Schedule.{ended, endOf, begun, pushed, endBefore, finished, homeBreak, scheduled}
-use Rattle.evaluation.specs.Route.{home, unbroken, outcome, allowed, feasible}
+use Rattle.evaluation.specs.Route.{endUntaken, home, unbroken, outcome, allowed, feasible}
 use Rattle.evaluation.specs.declared.stop.Stop.{Stop}
 use Rattle.evaluation.specs.declared.label.Taken.{Taken}
 use Rattle.evaluation.specs.declared.label.Taken.the-variants.{Untaken, At}
@@ -72,7 +72,7 @@ on-time distance duration rest =
 
 -- a service of 0 that starts then
 abbrev pub starts : Float → Answer
-starts time = serves (Served (record { time = time; lateness = zero64; «lateness_cost» = zero64; taken = Untaken }))
+starts time = serves (Served (record { time = time; lateness = zero64; «lateness_cost» = zero64; position = 0; start = zero64 }))
 
 -- 2^-53, and a window that opens at 1 + 2^-52
 abbrev pub early : Float
@@ -87,12 +87,12 @@ days =
     ∷ record { answered = passes (feasible (line 2 19) free 0 (2 ∷ [])); said = passes false }
     ∷ record { answered = runs (scheduled (line 0 0) (pause 20) 0 (1 ∷ [])); said = on-time 20 20 Untaken }
     ∷ record { answered = runs (scheduled (line 0 0) (pause 19) 0 (1 ∷ [])); said = on-time 20 59 (At 0 (whole 19)) }
-    ∷ record { answered = serves (served atStart early narrow 0 NoBreak); said = starts (whole 1) }
+    ∷ record { answered = serves (served atStart early narrow); said = starts (whole 1) }
     ∷ []
 
 -- the definitions answer what document 01 says
 pub worked-days : map (λ (r : Row). r .answered) days ≡ map (λ (r : Row). r .said) days
-unfolding feasible outcome allowed unbroken home scheduled homeBreak finished endBefore endOf ended begun pushed
-    atStart inTime tooLate servedIn served servedFrom isEarlier earlierOf stopOf windowAt isViolated waitingTime latenessAt
+unfolding feasible outcome allowed unbroken home endUntaken scheduled homeBreak finished endBefore endOf ended begun pushed
+    atStart inTime tooLate servedIn resting served servedRested servedFrom servedRestedFrom isEarlier earlierOf stopOf windowAt isViolated waitingTime latenessAt
     allows keeps leg travel ofInt add sub mul sum lt le eq neg
 worked-days = refl

@@ -3,4 +3,5 @@ pub mod Walk
 pub mod Label
 pub mod Schedule
 pub mod Route
+pub mod Unclocked
 pub mod Distance

@@ -14,8 +14,9 @@ use Rattle.day.specs.declared.vehicle.RouteLimits.{RouteLimits}
 use Rattle.evaluation.specs.Columns.{Columns, stopAt, legIn, travelIn}
 use Rattle.evaluation.specs.Walk.{Tour, tourOf, walk, walk-turn, walk-end, walk-lost}
 use Rattle.evaluation.specs.Label.{atStart, served, servedFrom}
-use Rattle.evaluation.specs.Schedule.{endOf, scheduled}
+use Rattle.evaluation.specs.Schedule.{ended, scheduled}
 use Rattle.evaluation.specs.declared.stop.Stop.{Stop}
+use Rattle.evaluation.specs.declared.label.Taken.the-variants.{Untaken}
 use Rattle.evaluation.specs.declared.label.Label.{Label}
 use Rattle.evaluation.specs.declared.label.Reached.{Reached}
 use Rattle.evaluation.specs.declared.label.Reached.the-variants.{Missed, Served}
@@ -27,11 +28,16 @@ use Rattle.evaluation.specs.declared.route.Evaluation.the-variants.{Fail
 
 -- the clock with no break to take: one label
 abbrev pub tick : Columns → Reached → ℕ → ℕ → Reached
-tick c reached place visit = servedFrom reached (travelIn c place visit) (stopAt c visit) 0 NoBreak
+tick c reached place visit = servedFrom reached (travelIn c place visit) (stopAt c visit)
+
+-- a list that ends here with no break to take, if it got here
+unfoldable pub endUntaken : Reached → Float → Float → Outcome
+endUntaken Missed distance back = Impossible
+endUntaken (Served label) distance back = ended label Untaken distance back
 
 -- a list driven without a break, back at the depot
 unfoldable pub home : Columns → ℕ → Tour Reached → Outcome
-home c depot t = endOf (t .clock) (t .distance ⊕ legIn c (t .place) depot) (travelIn c (t .place) depot)
+home c depot t = endUntaken (t .clock) (t .distance ⊕ legIn c (t .place) depot) (travelIn c (t .place) depot)
 
 -- the clock of a list with no break to take
 unfoldable pub unbroken : Columns → ℕ → List ℕ → Outcome
@@ -84,7 +90,7 @@ checksNeeded flags limits = hasTimeWindows flags || not (isUnlimited limits)
 
 -- what one visit makes of a label
 pub tick-is : (c : Columns) (label : Label) (place visit : ℕ) (travel : Float) (stop : Stop) (reached next : Reached) →
-    travel ≡ travelIn c place visit → stop ≡ stopAt c visit → reached ≡ served label travel stop 0 NoBreak → reached ≡ next →
+    travel ≡ travelIn c place visit → stop ≡ stopAt c visit → reached ≡ served label travel stop → reached ≡ next →
     next ≡ tick c (Served label) place visit
 unfolding servedFrom
 tick-is c label place visit travel stop reached next e f g h = sym h ∙ g ∙ rw (e, f)
@@ -104,7 +110,7 @@ unbroken-turns c list i label next distance x place h e f = walk-turn c (tick c)
 module _ (c : Columns) (depot : ℕ) where
   -- and the list can't be served
   pub home-missed : (t : Tour Reached) → t .clock ≡ Missed → Impossible ≡ home c depot t
-  unfolding home endOf
+  unfolding home endUntaken
   home-missed t h = rw h
 
   module _ (list : List ℕ) (i : ℕ) (label : Label) (distance : Float) (place : ℕ) where
@@ -116,8 +122,8 @@ module _ (c : Columns) (depot : ℕ) where
 
     -- no visit is left: the return
     pub unbroken-ends : (x back : Float) → length list ≤ i → x ≡ legIn c place depot → back ≡ travelIn c place depot →
-        endOf (Served label) (distance ⊕ x) back ≡ home c depot (walk c (tick c) (tourOf distance (Served label) place) (drop i list))
-    unfolding home
+        ended label Untaken (distance ⊕ x) back ≡ home c depot (walk c (tick c) (tourOf distance (Served label) place) (drop i list))
+    unfolding home endUntaken
     unbroken-ends x back h e f = rw (e, f) (ap (home c depot) (walk-end c (tick c) list i (tourOf distance (Served label) place) h))
 
   -- the walk starts at the depot

@@ -6,13 +6,12 @@ use mathlib.Core.Bool.{Bool, true, false, cond, _||_, true≢false}
 use lib.ListN.{length, getD, drop}
 use lib.Ieee.{Float, le}
 use Rattle.numbers.specs.Operations.{_⊕_, zero64}
-use Rattle.day.specs.declared.vehicle.Rest.the-variants.{NoBreak, Break}
 use Rattle.day.specs.declared.vehicle.VehicleBreak.{VehicleBreak}
 use Rattle.evaluation.specs.Columns.{Columns, stopAt, legIn, travelIn}
 use Rattle.evaluation.specs.Walk.{Tour, tourOf, walk, walk-turn, walk-end, walk-lost}
-use Rattle.evaluation.specs.Label.{atStart, servedFrom, earlierOf, isServed}
+use Rattle.evaluation.specs.Label.{atStart, servedFrom, servedRestedFrom, earlierOf, isServed}
 use Rattle.evaluation.specs.declared.label.Taken.{Taken}
-use Rattle.evaluation.specs.declared.label.Taken.the-variants.{Untaken}
+use Rattle.evaluation.specs.declared.label.Taken.the-variants.{Untaken, At}
 use Rattle.evaluation.specs.declared.label.Label.{Label}
 use Rattle.evaluation.specs.declared.label.Reached.{Reached}
 use Rattle.evaluation.specs.declared.label.Reached.the-variants.{Missed, Served}
@@ -33,10 +32,10 @@ ended label taken distance back =
       rest = taken;
     })
 
--- a list that ends here, if it got here
+-- a list that ends here with the break taken, if it got here
 unfoldable pub endOf : Reached → Float → Float → Outcome
 endOf Missed distance back = Impossible
-endOf (Served label) distance back = ended label (label .taken) distance back
+endOf (Served label) distance back = ended label (At (label .position) (label .start)) distance back
 
 -- ---- the clock with the break
 
@@ -48,11 +47,11 @@ begun rest depot = record { rest = rest; before = Served atStart; after = Missed
 unfoldable pub pushed : Columns → BreakClock → ℕ → BreakClock
 pushed c clock visit = record {
   rest = clock .rest;
-  before = servedFrom (clock .before) (travelIn c (clock .prev) visit) (stopAt c visit) (clock .index) NoBreak;
+  before = servedFrom (clock .before) (travelIn c (clock .prev) visit) (stopAt c visit);
   after =
       earlierOf
-      (servedFrom (clock .after) (travelIn c (clock .prev) visit) (stopAt c visit) (clock .index) NoBreak)
-      (servedFrom (clock .before) (travelIn c (clock .prev) visit) (stopAt c visit) (clock .index) (Break (clock .rest)));
+      (servedFrom (clock .after) (travelIn c (clock .prev) visit) (stopAt c visit))
+      (servedRestedFrom (clock .before) (travelIn c (clock .prev) visit) (stopAt c visit) (clock .index) (clock .rest));
   prev = visit;
   index = clock .index + 1;
 }
@@ -97,7 +96,7 @@ none-left (Served b) after h = absurd (true≢false h)
 
 -- where none is left, none comes again
 pub stays-lost : (c : Columns) (clock : BreakClock) (place visit : ℕ) → Lost clock → Lost (tickBreak c clock place visit)
-unfolding pushed servedFrom earlierOf
+unfolding pushed servedFrom servedRestedFrom earlierOf
 stays-lost c clock place visit h = (rw (h .0), rw (h .0, h .1))
 
 -- one visit more

@@ -1,12 +1,15 @@
 // The label of evaluation/schedule.rs: the van at a stop with its service done, how one stop carries it on, and which of two is earlier.
 use crate::stop::Stop;
+use day::customer::TimeWindow;
 use day::customer::Window;
-use day::vehicle::Rest;
+use day::vehicle::VehicleBreak;
 use tests::both;
 use tests::either;
 ghost use mathlib.Core.Path.{_≡_};
 ghost use Rattle.numbers.specs.Total.{larger};
-ghost use Rattle.evaluation.specs.Label.{atStart, inTime, tooLate, servedIn, served, servedFrom, isEarlier, earlierOf, isServed};
+ghost use Rattle.day.specs.declared.customer.Window.the-variants.{Hard};
+ghost use Rattle.evaluation.specs.Label.{atStart, inTime, tooLate, servedIn, resting, served, servedRested, isServed};
+ghost use Rattle.evaluation.specs.Label.{servedFrom, servedRestedFrom, isEarlier, earlierOf};
 
 // Whether the break is taken.
 pub enum Taken {
@@ -21,7 +24,9 @@ pub struct Label {
     pub time: f64,
     pub lateness: f64,
     pub lateness_cost: f64,
-    pub taken: Taken,
+    // Where the break is taken, and when it starts; 0 while it is still to take.
+    pub position: usize,
+    pub start: f64,
 }
 
 // A label, or none.
@@ -40,61 +45,68 @@ pub fn at_start() -> Label
         time: 0.0,
         lateness: 0.0,
         lateness_cost: 0.0,
-        taken: Taken::Untaken,
+        position: 0,
+        start: 0.0,
     }
 }
 
 // A service that starts in time, done.
-fn in_time(label: Label, start: f64, taken: Taken, service: f64) -> Reached
-    ensures { λ r. ⌜ r ≡ inTime label start taken service ⌝ }
+fn in_time(label: Label, begin: f64, service: f64) -> Reached
+    ensures { λ r. ⌜ r ≡ inTime label begin service ⌝ }
 {
     Reached::Served(Label {
-        time: start + service,
+        time: begin + service,
         lateness: label.lateness,
         lateness_cost: label.lateness_cost,
-        taken: taken,
+        position: label.position,
+        start: label.start,
     })
 }
 
 // A service that starts late at a soft window, done.
-fn too_late(
-    label: Label,
-    start: f64,
-    taken: Taken,
-    service: f64,
-    late: f64,
-    penalty: f64,
-) -> Reached
-    ensures { λ r. ⌜ r ≡ tooLate label start taken service late penalty ⌝ }
+fn too_late(label: Label, begin: f64, service: f64, late: f64, penalty: f64) -> Reached
+    ensures { λ r. ⌜ r ≡ tooLate label begin service late penalty ⌝ }
 {
     Reached::Served(Label {
-        time: start + service,
+        time: begin + service,
         lateness: label.lateness + late,
         lateness_cost: label.lateness_cost + penalty * late,
-        taken: taken,
+        position: label.position,
+        start: label.start,
     })
 }
 
+// The service at a hard window. Whether the van waits is asked first: where it is foreseen, the clock need not work the wait out.
+fn serve_hard(label: Label, span: TimeWindow, ready: f64, service: f64) -> Reached
+    ensures { λ r. ⌜ r ≡ servedIn (Hard span) label ready service ⌝ }
+{
+    if ready < span.ready {
+        if span.is_violated(ready) {
+            return Reached::Missed;
+        }
+        return in_time(label, ready + (span.ready - ready), service);
+    }
+    if span.is_violated(ready) {
+        return Reached::Missed;
+    }
+    in_time(label, ready + 0.0, service)
+}
+
 // The service of a stop for which the van is ready at this time: the wait for its window, and what being late means there.
-fn serve_at(label: Label, ready: f64, taken: Taken, stop: Stop) -> Reached
-    ensures { λ r. ⌜ r ≡ servedIn (stop .window) label ready taken (stop .service) ⌝ }
+fn serve_at(label: Label, ready: f64, stop: Stop) -> Reached
+    ensures { λ r. ⌜ r ≡ servedIn (stop .window) label ready (stop .service) ⌝ }
 {
     let window = stop.window;
     let service = stop.service;
     match window {
-        Window::Open => in_time(label, ready, taken, service),
-        Window::Hard(span) => {
-            if span.is_violated(ready) {
-                return Reached::Missed;
-            }
-            in_time(label, ready + span.waiting_time(ready), taken, service)
-        }
+        Window::Open => in_time(label, ready, service),
+        Window::Hard(span) => serve_hard(label, span, ready, service),
         Window::Soft(span, penalty) => {
-            let start = ready + span.waiting_time(ready);
+            let begin = ready + span.waiting_time(ready);
             if span.is_violated(ready) {
-                return too_late(label, start, taken, service, span.lateness(ready), penalty);
+                return too_late(label, begin, service, span.lateness(ready), penalty);
             }
-            in_time(label, start, taken, service)
+            in_time(label, begin, service)
         }
     }
 }
@@ -108,34 +120,61 @@ fn later_of(a: f64, b: f64) -> f64
     a
 }
 
-// One stop: the travel to it, the break first if one is given, the wait and the service. `index` is its position in the list.
-pub fn serve(label: Label, travel: f64, stop: Stop, index: usize, rest: Rest) -> Reached
-    ensures { λ r. ⌜ r ≡ served label travel stop index rest ⌝ }
+// The label of a van that takes its break here.
+fn rest_here(label: Label, index: usize, start: f64) -> Label
+    ensures { λ r. ⌜ r ≡ resting label index start ⌝ }
 {
-    let arrival = label.time + travel;
-    match rest {
-        Rest::NoBreak => {
-            let taken = label.taken;
-            serve_at(label, arrival, taken, stop)
-        }
-        Rest::Break(pause) => {
-            let start = later_of(arrival, pause.earliest);
-            if start > pause.latest {
-                return Reached::Missed;
-            }
-            serve_at(label, start + pause.duration, Taken::At(index, start), stop)
-        }
+    Label {
+        time: label.time,
+        lateness: label.lateness,
+        lateness_cost: label.lateness_cost,
+        position: index,
+        start: start,
     }
+}
+
+// One stop: the travel to it, the wait and the service.
+pub fn serve(label: Label, travel: f64, stop: Stop) -> Reached
+    ensures { λ r. ⌜ r ≡ served label travel stop ⌝ }
+{
+    serve_at(label, label.time + travel, stop)
+}
+
+// One stop: the travel to it, the break, the wait and the service. `index` is its position in the list.
+fn serve_rested(label: Label, travel: f64, stop: Stop, index: usize, rest: VehicleBreak) -> Reached
+    ensures { λ r. ⌜ r ≡ servedRested label travel stop index rest ⌝ }
+{
+    let start = later_of(label.time + travel, rest.earliest);
+    if start > rest.latest {
+        return Reached::Missed;
+    }
+    serve_at(rest_here(label, index, start), start + rest.duration, stop)
 }
 
 impl Reached {
     // One stop more, where the ones before were reached.
-    pub fn serve_next(self, travel: f64, stop: Stop, index: usize, rest: Rest) -> Reached
-        ensures { λ r. ⌜ r ≡ servedFrom self travel stop index rest ⌝ }
+    pub fn serve_next(self, travel: f64, stop: Stop) -> Reached
+        ensures { λ r. ⌜ r ≡ servedFrom self travel stop ⌝ }
     {
         match self {
             Reached::Missed => Reached::Missed,
-            Reached::Served(label) => serve(label, travel, stop, index, rest),
+            Reached::Served(label) => serve(label, travel, stop),
+        }
+    }
+
+    // One stop more with the break before it, where the ones before were reached.
+    pub fn serve_next_rested(
+        self,
+        travel: f64,
+        stop: Stop,
+        index: usize,
+        rest: VehicleBreak,
+    ) -> Reached
+        ensures { λ r. ⌜ r ≡ servedRestedFrom self travel stop index rest ⌝ }
+    {
+        match self {
+            Reached::Missed => Reached::Missed,
+            Reached::Served(label) => serve_rested(label, travel, stop, index, rest),
         }
     }
 

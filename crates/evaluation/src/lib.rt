@@ -4,5 +4,6 @@
 pub mod stop; // what the columns say of a visit
 pub mod label; // the van at a stop with its service done
 pub mod schedule; // the clock with the driver's break
+pub mod unclocked; // the distance of a list that needs no clock
 pub mod route; // the check, the evaluation and the price of a list
 pub mod distance; // the distance of a list

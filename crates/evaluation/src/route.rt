@@ -1,11 +1,15 @@
 // evaluation/mod.rs: whether a list passes, what it costs, and whether a search has to ask.
 use crate::label::Reached;
+use crate::label::Taken;
 use crate::label::at_start;
 use crate::label::serve;
 use crate::schedule::Outcome;
-use crate::schedule::end_of;
+use crate::schedule::end_with;
 use crate::schedule::schedule;
 use crate::stop::stop_of;
+use crate::unclocked::Unclocked;
+use crate::unclocked::is_clockless;
+use crate::unclocked::unclocked_distance;
 use day::customer::has_time_windows;
 use day::matrix::get;
 use day::matrix::travel_time;
@@ -76,7 +80,7 @@ fn unbroken_schedule(
         distance = distance + get(l, distances, place, visit);
         let travel = travel_time(l, distances, times, place, visit);
         let stop = stop_of(flags, service, ready, due, penalty, visit);
-        let reached = serve(label, travel, stop, 0, Rest::NoBreak);
+        let reached = serve(label, travel, stop);
         let Reached::Served(next) = reached else {
             return Outcome::Impossible;
         };
@@ -86,7 +90,7 @@ fn unbroken_schedule(
     }
     distance = distance + get(l, distances, place, depot);
     let back = travel_time(l, distances, times, place, depot);
-    end_of(Reached::Served(label), distance, back)
+    end_with(label, Taken::Untaken, distance, back)
 }
 
 // The clock of a list, with the break where there is one.
@@ -169,8 +173,8 @@ fn evaluate(limits: RouteLimits, outcome: Outcome) -> Evaluation
     }
 }
 
-// Whether a list passes: every hard window is kept, the break is placed, and both limits are kept. Capacity is not checked here.
-pub fn route_feasible(
+// Whether a list passes, by its clock.
+fn clocked_feasible(
     l: usize,
     flags: &[u8],
     service: &[f64],
@@ -207,6 +211,64 @@ pub fn route_feasible(
         list,
     );
     is_allowed(limits, outcome)
+}
+
+// Whether a list passes: every hard window is kept, the break is placed, and both limits are kept. Capacity is not checked here.
+// Where nothing but the distance can fail, only that is added up.
+pub fn route_feasible(
+    l: usize,
+    flags: &[u8],
+    service: &[f64],
+    ready: &[f64],
+    due: &[f64],
+    penalty: &[f64],
+    distances: &[f64],
+    times: &[f64],
+    limits: RouteLimits,
+    depot: usize,
+    list: &[u16],
+) -> bool
+    requires { ⌜ Formed (columnsAt l flags service ready due penalty distances times) ⌝ }
+    requires { ⌜ (depot < l) × Visits l (now list) ⌝ }
+    ensures { λ r.
+        ⌜ r ≡ feasible
+        (columnsAt l (flags .entry) (service .entry) (ready .entry) (due .entry) (penalty .entry) (distances .entry) (times .entry))
+        limits
+        depot
+        (now (list .entry)) ⌝ }
+{
+    if !is_clockless(limits) {
+        return clocked_feasible(
+            l,
+            flags,
+            service,
+            ready,
+            due,
+            penalty,
+            distances,
+            times,
+            limits,
+            depot,
+            list,
+        );
+    }
+    let free = unclocked_distance(l, flags, distances, depot, list);
+    let Unclocked::Free(distance) = free else {
+        return clocked_feasible(
+            l,
+            flags,
+            service,
+            ready,
+            due,
+            penalty,
+            distances,
+            times,
+            limits,
+            depot,
+            list,
+        );
+    };
+    limits.allow(distance, 0.0)
 }
 
 // The distance, duration and lateness of a list that passes.

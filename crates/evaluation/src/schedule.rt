@@ -8,7 +8,6 @@ use crate::label::earlier;
 use crate::stop::stop_of;
 use day::matrix::get;
 use day::matrix::travel_time;
-use day::vehicle::Rest;
 use day::vehicle::VehicleBreak;
 use tests::either;
 ghost use mathlib.Core.Path.{_≡_};
@@ -50,7 +49,7 @@ pub struct BreakClock {
 }
 
 // A list that ends with this label.
-fn end_with(label: Label, taken: Taken, distance: f64, back: f64) -> Outcome
+pub fn end_with(label: Label, taken: Taken, distance: f64, back: f64) -> Outcome
     ensures { λ r. ⌜ r ≡ ended label taken distance back ⌝ }
 {
     Outcome::Possible(Scheduled {
@@ -62,15 +61,19 @@ fn end_with(label: Label, taken: Taken, distance: f64, back: f64) -> Outcome
     })
 }
 
-// A list that ends here, if it got here.
-pub fn end_of(reached: Reached, distance: f64, back: f64) -> Outcome
+// A list that ends here with the break taken, if it got here.
+fn end_of(reached: Reached, distance: f64, back: f64) -> Outcome
     ensures { λ r. ⌜ r ≡ endOf reached distance back ⌝ }
 {
     match reached {
         Reached::Missed => Outcome::Impossible,
         Reached::Served(label) => {
-            let taken = label.taken;
-            end_with(label, taken, distance, back)
+            end_with(
+                label,
+                Taken::At(label.position, label.start),
+                distance,
+                back,
+            )
         }
     }
 }
@@ -117,9 +120,9 @@ impl BreakClock {
         let index = self.index;
         let travel = travel_time(l, distances, times, prev, visit);
         let stop = stop_of(flags, service, ready, due, penalty, visit);
-        let skipped = before.serve_next(travel, stop, index, Rest::NoBreak);
-        let here = before.serve_next(travel, stop, index, Rest::Break(rest));
-        let carried = after.serve_next(travel, stop, index, Rest::NoBreak);
+        let skipped = before.serve_next(travel, stop);
+        let here = before.serve_next_rested(travel, stop, index, rest);
+        let carried = after.serve_next(travel, stop);
         BreakClock {
             rest: rest,
             before: skipped,

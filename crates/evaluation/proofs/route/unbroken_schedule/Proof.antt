@@ -119,8 +119,8 @@ travel-time-requires-2 c κs =
     let loop = c .before .before .loop in
     (pre .0 .tables, loop .inv .1, pre .1 .0)
 
-end-of-requires : tie.Need-end-of-requires Inv-loop μ-loop
-end-of-requires c κs = search needs
+end-with-requires : tie.Need-end-with-requires Inv-loop μ-loop
+end-with-requires c κs = search needs
 
 returns-2 : tie.Need-returns-2 Inv-loop μ-loop
 unfolding ofBits
@@ -129,7 +129,7 @@ returns-2 c =
     let get2 = c .before .before .get2 in
     let at-start = c .before .before .before .before .before .at-start in
     let loop = c .before .before .before .before .loop in
-    c .end-of .ensures
+    c .end-with .ensures
     ∙ unbroken-ends _ _ _ _ _ _ _ _ _ (loop-test .left) (get2 .ensures) (c .before .travel-time2 .ensures)
     ∙ unbroken-is _ _ _ _ _ (at-start .ensures) (loop .inv .2)
 
@@ -156,5 +156,5 @@ unbroken-schedule-spec =
     loop-again
     get-requires-2
     travel-time-requires-2
-    end-of-requires
+    end-with-requires
     returns-2)

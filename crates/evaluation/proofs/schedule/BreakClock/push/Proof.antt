@@ -19,17 +19,17 @@ stop-of-requires c κs =
 serve-next-requires : tie.Need-serve-next-requires
 serve-next-requires c κs = search needs
 
+serve-next-rested-requires : tie.Need-serve-next-rested-requires
+serve-next-rested-requires c κs = search needs
+
 serve-next-requires-2 : tie.Need-serve-next-requires-2
 serve-next-requires-2 c κs = search needs
-
-serve-next-requires-3 : tie.Need-serve-next-requires-3
-serve-next-requires-3 c κs = search needs
 
 earlier-requires : tie.Need-earlier-requires
 earlier-requires c κs = search needs
 
-add-t23 : tie.Need-add-t23
-add-t23 c = omega (arith, c .before .before .before .before .before .before .before .before .before .before .before .before .before .before .pre .1 .2)
+add-t22 : tie.Need-add-t22
+add-t22 c = omega (arith, c .before .before .before .before .before .before .before .before .before .before .before .before .before .before .pre .1 .2)
 
 returns : tie.Need-returns
 unfolding pushed
@@ -37,8 +37,8 @@ returns c =
     let travel-time = c .before .before .before .before .before .travel-time in
     let stop-of = c .before .before .before .before .stop-of in
     let serve-next = c .before .before .before .serve-next in
-    let serve-next2 = c .before .before .serve-next2 in
-    rw (← travel-time .ensures, ← stop-of .ensures, ← serve-next .ensures, ← serve-next2 .ensures, ← c .before .serve-next3 .ensures, ← c .earlier .ensures)
+    let rested = c .before .before .serve-next-rested in
+    rw (← travel-time .ensures, ← stop-of .ensures, ← serve-next .ensures, ← rested .ensures, ← c .before .serve-next2 .ensures, ← c .earlier .ensures)
 
 pub push-spec : {M : Type 1} → statement M
 push-spec =
@@ -47,8 +47,8 @@ push-spec =
     travel-time-requires
     stop-of-requires
     serve-next-requires
+    serve-next-rested-requires
     serve-next-requires-2
-    serve-next-requires-3
     earlier-requires
-    add-t23
+    add-t22
     returns)
