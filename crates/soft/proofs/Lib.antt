@@ -1,10 +1,7 @@
-pub mod Onward
 pub mod Choice
-pub mod Layouts
-pub mod Passes
 pub mod Counts
-<<<<<<< HEAD
+pub mod Layouts
 pub mod Offices
-=======
+pub mod Onward
+pub mod Passes
 pub mod Relocated
->>>>>>> h-soft
