@@ -6,7 +6,9 @@ use Rattle.two_opt.proofs.next_move.Statement.{statement}
 use Rattle.two_opt.proofs.next_move.Tie as tie
 
 first-move-requires : tie.Need-first-move-requires
-first-move-requires c κs = c .before .before .before .before .before .before .before .before .before .pre
+first-move-requires c κs =
+    let pre = c .before .before .before .before .before .before .before .before .before .pre in
+    (pre .0, search (pre .1, start-in))
 
 enum-known-found : tie.Need-enum-known-found
 enum-known-found c = search needs
