@@ -51,26 +51,33 @@ tos-from n size from to = elim (ltb to from) [
   | false ↦ range to (suc n)
 ]
 
+-- the row of a piece: all places where it may go
 abbrev pub piece-row : ℕ → ℕ → ℕ → List Piece
 piece-row n size from = map (λ to. record { size = size; from = from; to = to }) (range 0 from ++ range (suc (from + size)) (suc n))
 
+-- the piece from this place on, the pieces that start behind it, and the greater sizes
 abbrev pub pieces-from : ℕ → ℕ → ℕ → ℕ → List Piece
 pieces-from n size from to =
     map (λ to. record { size = size; from = from; to = to }) (tos-from n size from to)
     ++ (each (range (suc from) (suc (n - size))) (piece-row n size) ++ each (range (suc size) 4) (pieces to-the-end n))
 
+-- the cuts whose first two are behind i and j
 abbrev pub thirds : ℕ → ℕ → ℕ → List Cut
 thirds n i j = map (λ k. record { i = i; j = j; k = k }) (range (suc j) n)
 
+-- the cuts whose first is behind i
 abbrev pub seconds : ℕ → ℕ → List Cut
 seconds n i = each (range (suc i) (n - 1)) (thirds n i)
 
+-- the cuts whose first is behind i or a later visit
 abbrev pub firsts-from : ℕ → ℕ → List Cut
 firsts-from n i = each (range i (n - 2)) (seconds n)
 
+-- the cuts from (i, j, k) on
 abbrev pub cuts-from : ℕ → ℕ → ℕ → ℕ → List Cut
 cuts-from n i j k = map (λ k. record { i = i; j = j; k = k }) (range k n) ++ (each (range (suc j) (n - 1)) (thirds n i) ++ firsts-from n (suc i))
 
+-- the ways from this one on, and all ways of the cuts that follow
 abbrev pub reconnections-from : ℕ → ℕ → ℕ → ℕ → ℕ → List Reconnection
 reconnections-from n i j k way =
     map (λ way. record { cut = record { i = i; j = j; k = k }; way = way }) (drop way seven) ++ each (cuts-from n i j (suc k)) ways
@@ -81,6 +88,7 @@ onward n (Turned first last) = map reversal (reversals-from n first last)
 onward n (Moved size from to) = map relocation (pieces-from n size from to)
 onward n (Reconnected i j k way) = map reconnection (reconnections-from n i j k way)
 
+-- the same, if there is a place
 unfoldable pub rest : ℕ → Found → List Neighbour
 rest n Nothing = []
 rest n (At place) = onward n place
