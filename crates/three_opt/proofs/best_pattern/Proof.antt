@@ -1,7 +1,7 @@
 -- `best_pattern`: before each pattern the scan from the best so far comes to what is to be taken.
 use borrow.Author.Needs.{needs}
 use mathlib.Core.Path.{_≡_, refl, _∙_}
-use Prim.Native.Nat.{_-_}
+use Prim.Native.Nat.{_-_, _<_}
 use native.Mathlib.Omega.{arith}
 use lib.ListN.{length}
 use Rattle.evaluation.specs.Columns.{columns}
@@ -34,11 +34,12 @@ better-of-requires : tie.Need-better-of-requires Inv-loop μ-loop
 better-of-requires c κs =
     let at-loop = c .before .before in
     let at-cut-at = at-loop .before .before in
-    let start = at-cut-at .before .before .before .before .before .before .before .before .before .before in (
+    let start = at-cut-at .before .before .before .before .before .before .before .before .before .before in
+    let below : at-loop .loop .pattern < 8 = omega (arith, c .before .loop-test .taken) in (
       start .pre .0,
       (
         (start .pre .1 .0 .0, omega (arith, at-loop .loop .inv .1, start .pre .1 .0 .1)),
-        ((start .pre .1 .1, c .before .loop-test .taken), at-cut-at .cut-at .ensures),
+        ((start .pre .1 .1, below), at-cut-at .cut-at .ensures),
       ),
     )
 
@@ -52,8 +53,9 @@ loop-again : tie.Need-loop-again Inv-loop μ-loop
 loop-again c =
     let at-better-of = c .before .before in
     let at-loop-test = at-better-of .before .before in
-    let at-loop = at-loop-test .before in (
-      rw (at-better-of .better-of .ensures) (scan-turn _ _ _ _ _ _ _ (at-loop-test .loop-test .taken) (at-loop .loop .inv .0)),
+    let at-loop = at-loop-test .before in
+    let below : at-loop .loop .pattern < 8 = omega (arith, at-loop-test .loop-test .taken) in (
+      rw (at-better-of .better-of .ensures) (scan-turn _ _ _ _ _ _ _ below (at-loop .loop .inv .0)),
       at-better-of .better-of .kept .1 .1 .1 .1 .1 .1 .1 .1 .1 .0 ∙ at-loop .loop .inv .1,
     )
 

@@ -48,7 +48,8 @@ returns-2 c =
     let at-reconnected-into = c .before .before .before .before .before .before in
     c .passes .ensures
     ∙ ap (passing _ _ _ _)
-    (front (at-reconnected-into .reconnected-into .result) (at-reconnected-into .reconnected-into .last .0) _ (at-reconnected-into .reconnected-into .ensures .1))
+    (front (at-reconnected-into .reconnected-into .result) (at-reconnected-into .reconnected-into .last .0) _
+    (at-reconnected-into .reconnected-into .ensures .1))
 
 pub candidate-passes-spec : {M : Type 1} → statement M
 candidate-passes-spec =

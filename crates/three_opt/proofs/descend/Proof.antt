@@ -1,4 +1,4 @@
--- `descend`: the moves made and the run that is left are the whole run, and the search from the place on is this sweep's. The measure counts what is
+-- `descend`: the moves made and the run left are the whole run; from the place on this sweep finds the next move. The limit's rest falls, or the places do.
 use mathlib.Core.Path.{_≡_, refl, _∙_}
 use Prim.Native.Nat.{_+_, _-_, _*_}
 use native.Mathlib.Omega.{arith}
@@ -10,7 +10,6 @@ use Rattle.three_opt.proofs.Going.{Sweeping, sweep-start, sweep-settled
 use Rattle.three_opt.proofs.descend.Statement.{statement}
 use Rattle.three_opt.proofs.descend.Tie as tie
 
--- left of the limit first, and then the places ahead.
 abbrev Inv-loop : tie.InvT-loop
 Inv-loop setup flags service ready due penalty distances times list₀ buffer₀ limit moves₀ place₀ list buffer moves place =
     Sweeping (columns (setup .l) flags service ready due penalty distances times) (setup .limits) (setup .depot) limit list₀ moves list place
