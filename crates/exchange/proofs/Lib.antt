@@ -1,0 +1,9 @@
+pub mod Choosing
+pub mod Loads
+pub mod Joined
+pub mod Considering
+pub mod Places
+pub mod Tables
+pub mod Moves
+pub mod Running
+pub mod Claimed

@@ -1,0 +1,29 @@
+-- `best_at`: the two lists are those of the tables, and the best of their exchanges is what the definition takes.
+use native.Mathlib.Omega.{arith}
+use Rattle.exchange.proofs.Choosing.{best-at}
+use Rattle.exchange.proofs.Tables.{two-lists}
+use Rattle.exchange.proofs.best_at.Statement.{statement}
+use Rattle.exchange.proofs.best_at.Tie as tie
+
+list-of-requires : tie.Need-list-of-requires
+list-of-requires c κs = (c .before .before .before .before .before .before .before .before .before .pre .1 .0 .laid, omega (arith, c .before .before .before .before .before .before .before .before .before .pre .1 .1, c .before .before .before .before .before .before .before .before .before .pre .1 .2))
+
+list-of-requires-2 : tie.Need-list-of-requires-2
+list-of-requires-2 c κs = (c .before .before .before .before .before .before .before .before .before .before .pre .1 .0 .laid, c .before .before .before .before .before .before .before .before .before .before .pre .1 .2)
+
+best-exchange-requires : tie.Need-best-exchange-requires
+best-exchange-requires c κs =
+    (c .before .before .before .before .before .before .before .before .before .before .before .pre .0, rw (c .before .list-of .ensures, c .list-of2 .ensures) (two-lists _ _ _ (c .before .before .before .before .before .before .before .before .before .before .before .pre .1 .0) _ _ (c .before .before .before .before .before .before .before .before .before .before .before .pre .1 .1)))
+
+returns : tie.Need-returns
+returns c =
+    best-at _ _ (c .before .before .before .before .before .before .before .before .before .before .before .before .args .terms) _ _ (c .before .before .before .before .before .before .before .before .before .before .before .before .args .place) _ _ _ (c .before .before .before .before .before .before .before .before .before .before .before .before .pre .0 .floor) (c .before .before .list-of .ensures) (c .before .list-of2 .ensures) (c .best-exchange .ensures)
+
+pub best-at-spec : {M : Type 1} → statement M
+best-at-spec =
+    tie.close
+    (tie.spec
+    list-of-requires
+    list-of-requires-2
+    best-exchange-requires
+    returns)

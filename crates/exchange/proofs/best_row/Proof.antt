@@ -1,0 +1,112 @@
+-- `best_row`: the best so far and the cuts still ahead choose what the best at the start and all cuts do; the second head's load is kept running.
+use mathlib.Core.Path.{_≡_, refl, sym, _∙_}
+use Prim.Native.Nat.{suc, _+_, _-_, _≤_}
+use native.Mathlib.Omega.{arith}
+use lib.ListN.{length, take}
+use Rattle.edits.specs.Total.{total}
+use Rattle.evaluation.specs.Columns.{columns}
+use Rattle.descent.specs.Order.{range}
+use Rattle.exchange.specs.Boxes.{boxesAt}
+use Rattle.exchange.specs.Exchange.{better, scan, bestRow}
+use Rattle.exchange.proofs.Choosing.{scan-turn, scan-end}
+use Rattle.exchange.proofs.Loads.{load-small, load-more, load-joined, sum-small, head-small}
+use Rattle.exchange.proofs.best_row.Statement.{statement}
+use Rattle.exchange.proofs.best_row.Tie as tie
+
+abbrev Inv-loop : tie.InvT-loop
+Inv-loop flags demand service ready due penalty distances times terms one other cut1 head1 load1 load2 found₀ head2₀ last₀ found head2 last =
+    let c = columns (terms .l) flags service ready due penalty distances times in
+    (last ≤ length other)
+    × (head2 ≡ total (boxesAt demand) (take last other))
+    × (scan (better c demand terms one other cut1) (range (suc last) (suc (length other))) found ≡ bestRow c demand terms one other cut1 found₀)
+
+abbrev μ-loop : tie.MeasureT-loop
+μ-loop flags demand service ready due penalty distances times terms one other cut1 head1 load1 load2 found₀ head2₀ last₀ found head2 last =
+    length other - last
+
+loop-holds : tie.Need-loop-holds Inv-loop μ-loop
+unfolding bestRow
+loop-holds c = (omega arith, refl, refl)
+
+boxes-at-requires : tie.Need-boxes-at-requires Inv-loop μ-loop
+boxes-at-requires c κs = (c .before .before .before .before .before .before .before .before .before .before .before .pre .0 .loaded, c .loop-test .taken, c .before .before .before .before .before .before .before .before .before .before .before .pre .1 .0 .0 .other-below _ (c .loop-test .taken))
+
+add-head2 : tie.Need-add-head2 Inv-loop μ-loop
+add-head2 c =
+    let small = sum-small _ _ _ (c .before .before .before .before .before .before .before .before .before .before .before .before .pre .0 .loaded) (c .before .before .before .before .before .before .before .before .before .before .before .before .pre .1 .0 .0 .other-below) (omega (arith, c .before .before .before .before .before .before .before .before .before .before .before .before .pre .1 .0 .0 .few)) _ _ _ (c .before .loop-test .taken) (c .before .before .loop .inv .1) (c .boxes-at .ensures) in
+    omega (arith, small .0, small .1)
+
+add-cut2 : tie.Need-add-cut2 Inv-loop μ-loop
+add-cut2 c = omega (arith, c .before .loop-test .taken, c .before .before .before .before .before .before .before .before .before .before .before .before .pre .1 .0 .0 .few)
+
+sub-new1 : tie.Need-sub-new1 Inv-loop μ-loop
+sub-new1 c =
+    let small = sum-small _ _ _ (c .before .before .before .before .before .before .before .before .before .before .before .before .pre .0 .loaded) (c .before .before .before .before .before .before .before .before .before .before .before .before .pre .1 .0 .0 .other-below) (omega (arith, c .before .before .before .before .before .before .before .before .before .before .before .before .pre .1 .0 .0 .few)) _ _ _ (c .before .loop-test .taken) (c .before .before .loop .inv .1) (c .boxes-at .ensures) in
+    omega (arith, small .0, c .before .before .before .before .before .before .before .before .before .before .before .before .pre .1 .1 .2)
+
+add-new1 : tie.Need-add-new1 Inv-loop μ-loop
+add-new1 c =
+    let small = sum-small _ _ _ (c .before .before .before .before .before .before .before .before .before .before .before .before .pre .0 .loaded) (c .before .before .before .before .before .before .before .before .before .before .before .before .pre .1 .0 .0 .other-below) (omega (arith, c .before .before .before .before .before .before .before .before .before .before .before .before .pre .1 .0 .0 .few)) _ _ _ (c .before .loop-test .taken) (c .before .before .loop .inv .1) (c .boxes-at .ensures) in
+    let head = head-small (boxesAt (c .before .before .before .before .before .before .before .before .before .before .before .before .args .demand .now)) (c .before .before .before .before .before .before .before .before .before .before .before .before .args .cut1) (c .before .before .before .before .before .before .before .before .before .before .before .before .args .one .now) (c .before .before .before .before .before .before .before .before .before .before .before .before .args .head1) (c .before .before .before .before .before .before .before .before .before .before .before .before .pre .1 .1 .0) in
+    let most = load-small (c .before .before .before .before .before .before .before .before .before .before .before .before .args .terms .l) (c .before .before .before .before .before .before .before .before .before .before .before .before .args .demand .now) (c .before .before .before .before .before .before .before .before .before .before .before .before .args .one .now) (c .before .before .before .before .before .before .before .before .before .before .before .before .pre .0 .loaded) (c .before .before .before .before .before .before .before .before .before .before .before .before .pre .1 .0 .0 .one-below) (omega (arith, c .before .before .before .before .before .before .before .before .before .before .before .before .pre .1 .0 .0 .few)) in
+    omega (arith, small .1, head, most, c .before .before .before .before .before .before .before .before .before .before .before .before .pre .1 .1 .2)
+
+sub-new2 : tie.Need-sub-new2 Inv-loop μ-loop
+sub-new2 c = omega (arith, head-small (boxesAt (c .before .before .before .before .before .before .before .before .before .before .before .before .args .demand .now)) (c .before .before .before .before .before .before .before .before .before .before .before .before .args .cut1) (c .before .before .before .before .before .before .before .before .before .before .before .before .args .one .now) (c .before .before .before .before .before .before .before .before .before .before .before .before .args .head1) (c .before .before .before .before .before .before .before .before .before .before .before .before .pre .1 .1 .0), c .before .before .before .before .before .before .before .before .before .before .before .before .pre .1 .1 .1)
+
+add-new2 : tie.Need-add-new2 Inv-loop μ-loop
+add-new2 c =
+    let small = sum-small _ _ _ (c .before .before .before .before .before .before .before .before .before .before .before .before .pre .0 .loaded) (c .before .before .before .before .before .before .before .before .before .before .before .before .pre .1 .0 .0 .other-below) (omega (arith, c .before .before .before .before .before .before .before .before .before .before .before .before .pre .1 .0 .0 .few)) _ _ _ (c .before .loop-test .taken) (c .before .before .loop .inv .1) (c .boxes-at .ensures) in
+    let most = load-small (c .before .before .before .before .before .before .before .before .before .before .before .before .args .terms .l) (c .before .before .before .before .before .before .before .before .before .before .before .before .args .demand .now) (c .before .before .before .before .before .before .before .before .before .before .before .before .args .one .now) (c .before .before .before .before .before .before .before .before .before .before .before .before .pre .0 .loaded) (c .before .before .before .before .before .before .before .before .before .before .before .before .pre .1 .0 .0 .one-below) (omega (arith, c .before .before .before .before .before .before .before .before .before .before .before .before .pre .1 .0 .0 .few)) in
+    omega (arith, small .0, small .1, most, c .before .before .before .before .before .before .before .before .before .before .before .before .pre .1 .1 .1)
+
+consider-requires : tie.Need-consider-requires Inv-loop μ-loop
+consider-requires c κs =
+    let boxes = boxesAt (c .before .before .before .before .before .before .before .before .before .before .before .before .args .demand .now) in
+    let cut2 = c .before .before .loop .last + 1 in
+    let head2 = load-more _ _ _ _ _ (c .before .loop-test .taken) (c .before .before .loop .inv .1) (c .boxes-at .ensures) in (
+      c .before .before .before .before .before .before .before .before .before .before .before .before .pre .0,
+      (
+        (c .before .before .before .before .before .before .before .before .before .before .before .before .pre .1 .0 .0, c .before .before .before .before .before .before .before .before .before .before .before .before .pre .1 .0 .1, omega (arith, c .before .loop-test .taken)),
+        (
+          load-joined boxes (c .before .before .before .before .before .before .before .before .before .before .before .before .args .one .now) (c .before .before .before .before .before .before .before .before .before .before .before .before .args .other .now) (c .before .before .before .before .before .before .before .before .before .before .before .before .args .cut1) cut2 _ _ _ (c .before .before .before .before .before .before .before .before .before .before .before .before .pre .1 .1 .0) head2 (c .before .before .before .before .before .before .before .before .before .before .before .before .pre .1 .1 .2),
+          load-joined boxes (c .before .before .before .before .before .before .before .before .before .before .before .before .args .other .now) (c .before .before .before .before .before .before .before .before .before .before .before .before .args .one .now) cut2 (c .before .before .before .before .before .before .before .before .before .before .before .before .args .cut1) _ _ _ head2 (c .before .before .before .before .before .before .before .before .before .before .before .before .pre .1 .1 .0) (c .before .before .before .before .before .before .before .before .before .before .before .before .pre .1 .1 .1),
+        ),
+      ),
+    )
+
+add-last : tie.Need-add-last Inv-loop μ-loop
+add-last c = omega (arith, c .before .before .loop-test .taken, c .before .before .before .before .before .before .before .before .before .before .before .before .before .pre .1 .0 .0 .few)
+
+loop-less : tie.Need-loop-less Inv-loop μ-loop
+loop-less c = omega (arith, c .before .before .loop-test .taken)
+
+loop-again : tie.Need-loop-again Inv-loop μ-loop
+loop-again c = (
+  omega (arith, c .before .before .loop-test .taken),
+  load-more _ _ _ _ _ (c .before .before .loop-test .taken) (c .before .before .before .loop .inv .1) (c .before .boxes-at .ensures),
+  scan-turn _ _ _ _ _ (omega (arith, c .before .before .loop-test .taken)) (c .consider .ensures) ∙ c .before .before .before .loop .inv .2,
+)
+
+returns : tie.Need-returns Inv-loop μ-loop
+returns c = sym (scan-end _ (suc (c .before .loop .last)) (suc (length (c .before .before .before .before .before .before .before .before .before .before .before .args .other .now))) _ (omega (arith, c .loop-test .left))) ∙ c .before .loop .inv .2
+
+pub best-row-spec : {M : Type 1} → statement M
+best-row-spec =
+    tie.close
+    (tie.spec
+    Inv-loop
+    μ-loop
+    loop-holds
+    boxes-at-requires
+    add-head2
+    add-cut2
+    sub-new1
+    add-new1
+    sub-new2
+    add-new2
+    consider-requires
+    add-last
+    loop-less
+    loop-again
+    returns)
