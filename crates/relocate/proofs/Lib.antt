@@ -1,0 +1,6 @@
+-- `Scanning`: a scan for the first least. `Choosing`: an offer to a list, and the loops over lists and visits. `Going`: a run under way.
+-- `Claimed`: demand 3.
+pub mod Scanning
+pub mod Choosing
+pub mod Going
+pub mod Claimed

@@ -1,0 +1,37 @@
+-- `offer_visit`: the lists before the giver and those behind it are all other lists.
+use borrow.Author.Needs.{needs}
+use mathlib.Core.Logic.{inl, inr}
+use native.Mathlib.Omega.{arith}
+use Rattle.relocate.proofs.Choosing.{both-sides}
+use Rattle.relocate.proofs.offer_visit.Statement.{statement}
+use Rattle.relocate.proofs.offer_visit.Tie as tie
+
+offer-among-requires : tie.Need-offer-among-requires
+offer-among-requires c κs =
+    (c .before .before .before .before .before .before .before .before .before .before .before .pre .0, (c .before .before .before .before .before .before .before .before .before .before .before .pre .1 .0, (c .before .before .before .before .before .before .before .before .before .before .before .pre .1 .1 .0, (c .before .before .before .before .before .before .before .before .before .before .before .pre .1 .1 .1 .0, (c .before .before .before .before .before .before .before .before .before .before .before .pre .1 .1 .1 .1 .0, c .before .before .before .before .before .before .before .before .before .before .before .pre .1 .1 .1 .1 .1, omega (arith, c .before .before .before .before .before .before .before .before .before .before .before .pre .1 .1 .1 .1 .0), inl (omega arith))))))
+
+add-behind : tie.Need-add-behind
+add-behind c =
+    omega (arith, c .before .before .before .before .before .before .before .before .before .before .before .before .before .before .pre .1 .1 .1 .1 .0, c .before .before .before .before .before .before .before .before .before .before .before .before .before .before .pre .1 .0 .1 .laid .few)
+
+offer-among-requires-2 : tie.Need-offer-among-requires-2
+offer-among-requires-2 c κs =
+    (c .before .before .before .before .before .before .before .before .before .before .before .before .before .before .before .pre .0, (c .before .before .before .before .before .before .before .before .before .before .before .before .before .before .before .pre .1 .0, (omega (arith, c .before .before .before .offer-among .kept .1 .1 .1 .1 .1 .1 .1 .1 .1 .1 .1 .0, c .before .before .before .before .before .before .before .before .before .before .before .before .before .before .before .pre .1 .1 .0), (c .before .before .before .offer-among .ensures .still, (c .before .before .before .before .before .before .before .before .before .before .before .before .before .before .before .pre .1 .1 .1 .1 .0, c .before .before .before .before .before .before .before .before .before .before .before .before .before .before .before .pre .1 .1 .1 .1 .1, omega arith, inr (omega arith))))))
+
+same-length : tie.Need-same-length
+same-length c =
+    search needs
+
+returns : tie.Need-returns
+returns c =
+    both-sides _ _ (c .before .before .before .before .before .before .before .before .before .before .before .before .before .before .before .before .before .before .args .setup) _ _ _ _ _ _ _ (c .before .before .before .before .before .before .offer-among .ensures) (c .before .before .offer-among2 .ensures)
+
+pub offer-visit-spec : {M : Type 1} → statement M
+offer-visit-spec =
+    tie.close
+    (tie.spec
+    offer-among-requires
+    add-behind
+    offer-among-requires-2
+    same-length
+    returns)

@@ -1,0 +1,70 @@
+-- `relocate_improve`: what is worked out before the first move is right, and the loop answers.
+use borrow.Author.Needs.{needs}
+use mathlib.Core.Path.{ap, _∙_}
+use native.Mathlib.Omega.{arith}
+use mir.Syntax.{w32}
+use mir.ValLaws.{toZ-ofZ}
+use Rattle.numbers.specs.Floor.{gainFloor}
+use Rattle.relocate.proofs.Choosing.{capacity-plain}
+use Rattle.relocate.proofs.relocate_improve.Statement.{statement}
+use Rattle.relocate.proofs.relocate_improve.Tie as tie
+
+scale-requires : tie.Need-scale-requires
+scale-requires c κs =
+    search needs
+
+gain-floor-requires : tie.Need-gain-floor-requires
+gain-floor-requires c κs =
+    search needs
+
+route-checks-needed-requires : tie.Need-route-checks-needed-requires
+route-checks-needed-requires c κs =
+    search needs
+
+cast-t22 : tie.Need-cast-t22
+cast-t22 c =
+    let e = toZ-ofZ w32 (c .before .before .before .before .before .before .before .before .before .before .before .before .args .capacity) (c .before .before .before .before .before .before .before .before .before .before .before .before .fits .capacity) in
+    let t = capacity-plain (c .before .before .before .before .before .before .before .before .before .before .before .before .args .capacity) (c .before .before .before .before .before .before .before .before .before .before .before .before .pre .1 .0 .1) in
+    let h = t .1 in
+    rw e (t .0, search needs)
+
+slice-aggregate-descend : tie.Need-slice-aggregate-descend
+slice-aggregate-descend c =
+    search needs
+
+descend-requires : tie.Need-descend-requires
+descend-requires c κs = (
+  record {
+    formed = c .before .before .before .before .before .before .before .before .before .before .before .before .before .before .before .pre .0;
+    depot-there = c .before .before .before .before .before .before .before .before .before .before .before .before .before .before .before .pre .1 .1 .0;
+    floor = c .before .before .before .before .gain-floor .ensures ∙ ap gainFloor (c .before .before .before .before .before .scale .ensures);
+    needed = c .before .before .before .route-checks-needed .ensures;
+  },
+  ((c .before .before .before .before .before .before .before .before .before .before .before .before .before .before .before .pre .1 .0 .0, c .before .before .before .before .before .before .before .before .before .before .before .before .before .before .before .pre .1 .1 .1), omega arith),
+)
+
+same-length : tie.Need-same-length
+same-length c =
+    search needs
+
+same-length-2 : tie.Need-same-length-2
+same-length-2 c =
+    search needs
+
+returns : tie.Need-returns
+returns c =
+    rw (toZ-ofZ w32 (c .before .before .before .before .before .before .before .before .before .before .before .before .before .before .before .before .before .before .before .before .before .args .capacity) (c .before .before .before .before .before .before .before .before .before .before .before .before .before .before .before .before .before .before .before .before .before .fits .capacity)) at (c .before .before .before .before .before .descend .ensures)
+
+pub relocate-improve-spec : {M : Type 1} → statement M
+relocate-improve-spec =
+    tie.close
+    (tie.spec
+    scale-requires
+    gain-floor-requires
+    route-checks-needed-requires
+    cast-t22
+    slice-aggregate-descend
+    descend-requires
+    same-length
+    same-length-2
+    returns)
