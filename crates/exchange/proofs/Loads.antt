@@ -1,8 +1,8 @@
 -- Loads: a head's is a running sum, and a tail's the list's less it; no list has more than 63,000,000 boxes, so that no sum can wrap. Assumes nothing.
-use mathlib.Core.Path.{_≡_, refl, sym, ap, _∙_}
-use mathlib.Core.Bool.{Bool, true, false, _&&_, false≢true}
-use mathlib.Core.List.{List, [], _∷_, _++_}
-use Prim.Native.Nat.{ℕ, zero, suc, _+_, _-_, _*_, _≤_, _<_}
+use mathlib.Core.Path.{_≡_, sym, ap, _∙_}
+use mathlib.Core.Bool.{true, false, false≢true}
+use mathlib.Core.List.{List, [], _∷_}
+use Prim.Native.Nat.{ℕ, suc, _+_, _-_, _*_, _≤_, _<_}
 use native.Mathlib.Numerals.{add-one}
 use native.Mathlib.Omega.{arith}
 use borrow.Author.Tests.{leb-true}
@@ -42,9 +42,10 @@ load-small l demand xs loaded below few =
 
 module _ (f : ℕ → ℕ) where
   -- one visit more
-  pub load-more : (xs : List ℕ) (k load more : ℕ) → k < length xs → load ≡ total f (take k xs) → more ≡ f (getD xs k 0) → load + more ≡ total f (take (k + 1) xs)
+  pub load-more : (xs : List ℕ) (k load more : ℕ) → k < length xs → load ≡ total f (take k xs) → more ≡ f (getD xs k 0)
+      → load + more ≡ total f (take (k + 1) xs)
   load-more xs k load more h e d =
-      let parts : total f (take k xs ++ (getD xs k 0 ∷ [])) ≡ total f (take k xs) + total f (getD xs k 0 ∷ []) = total-append f (take k xs) (getD xs k 0 ∷ []) in
+      let parts = total-append f (take k xs) (getD xs k 0 ∷ []) in
       rw (add-one k, take-suc xs k 0 h) (omega arith)
 
   -- head and tail
