@@ -9,10 +9,11 @@ use borrow.Author.Tests.{leb-true}
 use lib.Dec.{leb}
 use lib.IntN.{ℤ, pos, negsuc, natAbs}
 use lib.Signed.{leZ}
+use lib.Ieee.{Float}
 use lib.ListN.{length, getD, take, drop, take-append-drop}
 use lib.Seq.{take-suc}
-use Rattle.tests.specs.All.{and-first, and-second}
-use Rattle.day.specs.Refusal.{demandOk}
+use Rattle.tests.specs.All.{all-at, and-first, and-second}
+use Rattle.day.specs.Refusal.{demandOk, locationOk, locationsOk}
 use Rattle.edits.specs.Total.{total, total-append}
 use Rattle.lists.specs.Edits.{joined}
 use Rattle.exchange.specs.Boxes.{boxesAt, Loaded}
@@ -71,3 +72,12 @@ sum-small l demand xs loaded below few k load more h e d =
 
 pub head-small : (f : ℕ → ℕ) (k : ℕ) (xs : List ℕ) (head : ℕ) → head ≡ total f (take k xs) → head ≤ total f xs
 head-small f k xs head e = let parts = load-parts f k xs in omega arith
+
+-- a day that was not refused is loaded
+pub loaded-of : (l : ℕ) (flags : List ℕ) (demand : List ℤ) (service penalty : List Float) → length demand ≡ l
+    → locationsOk l flags demand service penalty ≡ true → Loaded l demand
+unfolding locationsOk locationOk
+loaded-of l flags demand service penalty long fine = record {
+  column = long;
+  in-range = λ k h. and-first (demandOk (getD demand k (pos 0))) _ (all-at (locationOk flags demand service penalty) l k h fine);
+}

@@ -61,13 +61,15 @@ best-row-requires c κs =
     let at-loop = c .before .before in
     let at-load-of2 = at-loop .before .before in
     let at-load-of = at-load-of2 .before in
-    let start = at-load-of .before .before .before .before .before .before .before .before .before .before in
-    (
+    let start = at-load-of .before .before .before .before .before .before .before .before .before .before in (
       start .pre .0,
       (
         (start .pre .1, omega (arith, c .before .loop-test .taken)),
-        (load-more _ _ _ _ _ (c .before .loop-test .taken) (at-loop .loop .inv .1) (c .boxes-at .ensures), at-load-of .load-of .ensures, at-load-of2 .load-of2
-        .ensures),
+        (
+          load-more _ _ _ _ _ (c .before .loop-test .taken) (at-loop .loop .inv .1) (c .boxes-at .ensures),
+          at-load-of .load-of .ensures,
+          at-load-of2 .load-of2 .ensures,
+        ),
       ),
     )
 
@@ -85,8 +87,7 @@ loop-less c =
 loop-again : tie.Need-loop-again Inv-loop μ-loop
 loop-again c =
     let at-loop-test = c .before .before in
-    let at-loop = at-loop-test .before in
-    (
+    let at-loop = at-loop-test .before in (
       omega (arith, at-loop-test .loop-test .taken),
       load-more _ _ _ _ _ (at-loop-test .loop-test .taken) (at-loop .loop .inv .1) (c .before .boxes-at .ensures),
       scan-turn _ _ _ _ _ (omega (arith, at-loop-test .loop-test .taken)) (c .best-row .ensures) ∙ at-loop .loop .inv .2,

@@ -121,8 +121,7 @@ loop-less c =
 loop-again : tie.Need-loop-again Inv-loop μ-loop
 loop-again c =
     let at-loop-test = c .before .before in
-    let at-loop = at-loop-test .before in
-    (
+    let at-loop = at-loop-test .before in (
       omega (arith, at-loop-test .loop-test .taken),
       load-more _ _ _ _ _ (at-loop-test .loop-test .taken) (at-loop .loop .inv .1) (c .before .boxes-at .ensures),
       scan-turn _ _ _ _ _ (omega (arith, at-loop-test .loop-test .taken)) (c .consider .ensures) ∙ at-loop .loop .inv .2,

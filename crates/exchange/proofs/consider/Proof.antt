@@ -16,8 +16,7 @@ returns-2 c =
 
 exchange-delta-requires : tie.Need-exchange-delta-requires
 exchange-delta-requires c κs =
-    let start = c .before .before .before .before .before .before .before .before .before .before .before .before .before in
-    (
+    let start = c .before .before .before .before .before .before .before .before .before .before .before .before .before in (
       (
         start .pre .0 .formed .tables .of-distances,
         record { depot-there = start .pre .0 .depot-there; visits = start .pre .1 .0 .0 .one-below },

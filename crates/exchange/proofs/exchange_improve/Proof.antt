@@ -29,8 +29,7 @@ run-moves-requires c κs =
     let at-route-checks-needed = c .before .before .before in
     let at-gain-floor = at-route-checks-needed .before in
     let at-scale = at-gain-floor .before in
-    let start = at-scale .before .before .before .before .before .before .before .before .before .before in
-    (
+    let start = at-scale .before .before .before .before .before .before .before .before .before .before in (
       record {
         formed = start .pre .0 .0;
         loaded = start .pre .0 .1;

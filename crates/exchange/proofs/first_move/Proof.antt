@@ -37,10 +37,9 @@ returns c =
     let at-best-at = c .before .before in
     let at-if1 = at-best-at .before in
     let at-loop = at-if1 .before .before in
-    let start = at-loop .before .before .before .before .before .before .before .before .before .before in
-    (
+    let start = at-loop .before .before .before .before .before .before .before .before .before .before in (
       found-here _ _ (start .args .terms) _ _ (length-lists _ _) _ _ _ (at-loop .loop .inv .1 .ordered) (at-if1 .if1 .taken) (at-best-at .best-at .ensures)
-      (c .if2 .taken) ∙ at-loop .loop .inv .2,
+          (c .if2 .taken) ∙ at-loop .loop .inv .2,
       apt _ _ (start .args .terms) _ _ _ _ _ _ (start .pre .1 .0) (at-loop .loop .inv .1 .ordered) (at-if1 .if1 .taken) (at-best-at .best-at .ensures),
     )
 
@@ -66,7 +65,7 @@ loop-again c =
       refl,
       still-in _ _ (at-loop .loop .inv .1 .ordered) (at-if1 .if1 .taken),
       not-here _ _ (start .args .terms) _ _ (length-lists _ _) _ _ _ (at-loop .loop .inv .1 .ordered) (at-if1 .if1 .taken) (at-best-at .best-at .ensures)
-      (omega (arith, c .before .if2 .left))
+          (omega (arith, c .before .if2 .left))
           ∙ at-loop .loop .inv .2,
     )
 

@@ -14,9 +14,10 @@ first-move-requires c κs =
 returns : tie.Need-returns
 returns c =
     let at-first-move = c .before .before in
-    let start = at-first-move .before .before .before .before .before .before .before .before .before .before in
-    (is-ahead _ _ (start .args .terms) _ _ (length-lists _ _) _ _ (at-first-move .first-move .ensures .0) (c .if1 .taken), at-first-move .first-move .ensures
-    .1)
+    let start = at-first-move .before .before .before .before .before .before .before .before .before .before in (
+      is-ahead _ _ (start .args .terms) _ _ (length-lists _ _) _ _ (at-first-move .first-move .ensures .0) (c .if1 .taken),
+      at-first-move .first-move .ensures .1,
+    )
 
 first-move-requires-2 : tie.Need-first-move-requires-2
 first-move-requires-2 c κs =
@@ -26,10 +27,9 @@ first-move-requires-2 c κs =
 returns-2 : tie.Need-returns-2
 returns-2 c =
     let at-first-move = c .before .before .before in
-    let start = at-first-move .before .before .before .before .before .before .before .before .before .before in
-    (
+    let start = at-first-move .before .before .before .before .before .before .before .before .before .before in (
       is-anew _ _ (start .args .terms) _ _ (length-lists _ _) _ _ _ (at-first-move .first-move .ensures .0) (omega (arith, c .before .if1 .left))
-      (c .first-move2 .ensures .0),
+          (c .first-move2 .ensures .0),
       c .first-move2 .ensures .1,
     )
 
