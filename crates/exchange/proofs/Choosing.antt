@@ -6,7 +6,6 @@ use mathlib.Core.Option.{Option, none, some}
 use mathlib.Core.List.{List, [], _∷_, _++_, map}
 use Prim.Native.Nat.{ℕ, zero, suc, _+_, _-_, _≤_, _<_}
 use native.Mathlib.Numerals.{add-one}
-use native.Mathlib.Omega.{arith}
 use lib.IntN.{ℤ}
 use lib.ListN.{length}
 use lib.Ieee.{Float, lt, neg}
@@ -182,5 +181,5 @@ best-at c demand t visits lengths p X₁ Y₁ best floor e f q =
     let ls = lists visits lengths in
     let one : X₁ ≡ at ls (p .one) = e ∙ sym (at-lists visits lengths (p .one)) in
     let other : Y₁ ≡ at ls (p .other) = f ∙ sym (at-lists visits lengths (p .other)) in
-    ap (λ (b : Choice). movedBy (pairAt p) (b .cut1) (b .cut2)) (q
-    ∙ ap (λ (Z : List ℕ). bestOf c demand t Z Y₁) one ∙ ap (λ (Z : List ℕ). bestOf c demand t (at ls (p .one)) Z) other) ∙ best-taken c demand t ls (pairAt p) floor
+    let same = ap (λ (Z : List ℕ). bestOf c demand t Z Y₁) one ∙ ap (λ (Z : List ℕ). bestOf c demand t (at ls (p .one)) Z) other in
+    ap (λ (b : Choice). movedBy (pairAt p) (b .cut1) (b .cut2)) (q ∙ same) ∙ best-taken c demand t ls (pairAt p) floor

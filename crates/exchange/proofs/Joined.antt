@@ -1,12 +1,12 @@
 -- A head and another list's tail behind it: its visits are visits of the two, so that each is a location and they are at most 63. Assumes nothing.
-use mathlib.Core.Path.{_≡_, refl, sym, ap, _∙_}
+use mathlib.Core.Path.{_≡_, ap, _∙_}
 use mathlib.Core.List.{List, _++_}
 use Prim.Native.Nat.{ℕ, _+_, _-_, _≤_, _<_}
 use native.Mathlib.Omega.{arith}
 use borrow.Author.Tests.{lt-leb}
 use lib.ListN.{length, getD, take, drop, length-append, length-drop}
 use lib.Seq.{slice, length-take-le}
-use Rattle.edits.specs.Total.{total, bit, total-append, total-none}
+use Rattle.edits.specs.Total.{bit, total-append, total-none}
 use Rattle.edits.proofs.Cuts.{to-end, lent}
 use Rattle.evaluation.specs.Columns.{Visits}
 use Rattle.lists.specs.Edits.{joined}

@@ -1,18 +1,19 @@
 -- Loads: a head's is a running sum, and a tail's the list's less it; no list has more than 63,000,000 boxes, so that no sum can wrap. Assumes nothing.
-use mathlib.Core.Path.{_≡_, refl, sym, ap, _∙_}
-use mathlib.Core.Bool.{Bool, true, false, _&&_, false≢true}
-use mathlib.Core.List.{List, [], _∷_, _++_}
-use Prim.Native.Nat.{ℕ, zero, suc, _+_, _-_, _*_, _≤_, _<_}
+use mathlib.Core.Path.{_≡_, sym, ap, _∙_}
+use mathlib.Core.Bool.{true, false, false≢true}
+use mathlib.Core.List.{List, [], _∷_}
+use Prim.Native.Nat.{ℕ, suc, _+_, _-_, _*_, _≤_, _<_}
 use native.Mathlib.Numerals.{add-one}
 use native.Mathlib.Omega.{arith}
 use borrow.Author.Tests.{leb-true}
 use lib.Dec.{leb}
 use lib.IntN.{ℤ, pos, negsuc, natAbs}
 use lib.Signed.{leZ}
+use lib.Ieee.{Float}
 use lib.ListN.{length, getD, take, drop, take-append-drop}
 use lib.Seq.{take-suc}
-use Rattle.tests.specs.All.{and-first, and-second}
-use Rattle.day.specs.Refusal.{demandOk}
+use Rattle.tests.specs.All.{all-at, and-first, and-second}
+use Rattle.day.specs.Refusal.{demandOk, locationOk, locationsOk}
 use Rattle.edits.specs.Total.{total, total-append}
 use Rattle.lists.specs.Edits.{joined}
 use Rattle.exchange.specs.Boxes.{boxesAt, Loaded}
@@ -42,9 +43,10 @@ load-small l demand xs loaded below few =
 
 module _ (f : ℕ → ℕ) where
   -- one visit more
-  pub load-more : (xs : List ℕ) (k load more : ℕ) → k < length xs → load ≡ total f (take k xs) → more ≡ f (getD xs k 0) → load + more ≡ total f (take (k + 1) xs)
+  pub load-more : (xs : List ℕ) (k load more : ℕ) → k < length xs → load ≡ total f (take k xs) → more ≡ f (getD xs k 0)
+      → load + more ≡ total f (take (k + 1) xs)
   load-more xs k load more h e d =
-      let parts : total f (take k xs ++ (getD xs k 0 ∷ [])) ≡ total f (take k xs) + total f (getD xs k 0 ∷ []) = total-append f (take k xs) (getD xs k 0 ∷ []) in
+      let parts = total-append f (take k xs) (getD xs k 0 ∷ []) in
       rw (add-one k, take-suc xs k 0 h) (omega arith)
 
   -- head and tail
@@ -70,3 +72,12 @@ sum-small l demand xs loaded below few k load more h e d =
 
 pub head-small : (f : ℕ → ℕ) (k : ℕ) (xs : List ℕ) (head : ℕ) → head ≡ total f (take k xs) → head ≤ total f xs
 head-small f k xs head e = let parts = load-parts f k xs in omega arith
+
+-- a day that was not refused is loaded
+pub loaded-of : (l : ℕ) (flags : List ℕ) (demand : List ℤ) (service penalty : List Float) → length demand ≡ l
+    → locationsOk l flags demand service penalty ≡ true → Loaded l demand
+unfolding locationsOk locationOk
+loaded-of l flags demand service penalty long fine = record {
+  column = long;
+  in-range = λ k h. and-first (demandOk (getD demand k (pos 0))) _ (all-at (locationOk flags demand service penalty) l k h fine);
+}

@@ -1,17 +1,16 @@
 -- The search for the next move: a pair that has none is passed, and one that has ends it; behind the last pair comes a new sweep. Assumes nothing.
 use mathlib.Core.Path.{_≡_, refl, sym, ap, _∙_}
-use mathlib.Core.Option.{Option, none, some}
-use mathlib.Core.List.{List, [], _∷_}
+use mathlib.Core.Option.{none, some}
+use mathlib.Core.List.{List}
 use Prim.Native.Nat.{ℕ, zero, suc, _+_, _≤_, _<_}
-use native.Mathlib.Omega.{arith}
 use lib.IntN.{ℤ}
-use lib.ListN.{length, getD}
+use lib.ListN.{length}
 use Rattle.evaluation.specs.Columns.{Columns}
 use Rattle.lists.specs.Table.{lists}
 use Rattle.lists.specs.Edits.{Edited, Cuts, tailsExchanged}
 use Rattle.lists.proofs.Tables.{length-lists}
 use Rattle.descent.specs.Search.{Sweep, ok, taken, firstMove, next}
-use Rattle.descent.specs.Across.{Pair, Tails, tail-cuts}
+use Rattle.descent.specs.Across.{Pair, tail-cuts}
 use Rattle.descent.proofs.Loops.{place-passed, place-moved, next-ahead, next-sweep}
 use Rattle.descent.proofs.Sweeps.{first-least-some}
 use Rattle.descent.proofs.TailExchange.{tail-cuts-in}
@@ -27,7 +26,8 @@ use Rattle.exchange.proofs.Running.{Going, going-moves}
 abbrev pub goal : List (List ℕ) → Place → ℕ → ℕ → ℕ → Sweep (List (List ℕ)) Pair
 goal ls p cut1 cut2 n = record { now = tailsExchanged ls (p .one) (p .other) cut1 cut2; ahead = from n (placeAfter n p) }
 
-pub leads-some : (ls : List (List ℕ)) (n : ℕ) (p : Place) (cut1 cut2 : ℕ) → length ls ≡ n → (cut1 ≡ 0 → ⊥) → leadsBy ls p cut1 cut2 ≡ some (goal ls p cut1 cut2 n)
+pub leads-some : (ls : List (List ℕ)) (n : ℕ) (p : Place) (cut1 cut2 : ℕ) → length ls ≡ n → (cut1 ≡ 0 → ⊥)
+    → leadsBy ls p cut1 cut2 ≡ some (goal ls p cut1 cut2 n)
 unfolding leadsBy
 leads-some ls n p zero cut2 e h = absurd (h refl)
 leads-some ls n p (suc cut1) cut2 e h = ap (λ (k : ℕ). some (goal ls p (suc cut1) cut2 k)) e
@@ -109,9 +109,12 @@ module _ (c : Columns) (demand : List ℤ) (t : Terms) where
     -- a run goes on behind the move that was made
     pub moved-on : (limit moves : ℕ) (start : Sweep (List (List ℕ)) Pair) (ahead : Place) (f : Found) (visits′ lengths′ : List ℕ)
         → Going (nextOf c demand t) limit start moves (record { now = lists visits lengths; ahead = from (length lengths) ahead }) → moves < limit
-        → leads (lists visits lengths) f ≡ nextOf c demand t (record { now = lists visits lengths; ahead = from (length lengths) ahead }) → (f .cut1 ≡ 0 → ⊥)
+        → leads (lists visits lengths) f ≡ nextOf c demand t (record { now = lists visits lengths; ahead = from (length lengths) ahead })
+        → (f .cut1 ≡ 0 → ⊥)
         → Edited visits lengths visits′ lengths′ (tailsExchanged (lists visits lengths) (f .place .one) (f .place .other) (f .cut1) (f .cut2))
-        → Going (nextOf c demand t) limit start (moves + 1) (record { now = lists visits′ lengths′; ahead = from (length lengths′) (placeAfter (length lengths) (f .place)) })
+        → Going (nextOf c demand t) limit start (moves + 1)
+        (record { now = lists visits′ lengths′; ahead = from (length lengths′) (placeAfter (length lengths) (f .place)) })
     moved-on limit moves start ahead f visits′ lengths′ g h e some-left edited =
         rw (edited .holds, edited .number)
-        (going-moves _ limit start moves _ _ g h (sym e ∙ leads-some (lists visits lengths) (length lengths) (f .place) (f .cut1) (f .cut2) (length-lists visits lengths) some-left))
+        (going-moves _ limit start moves _ _ g h
+        (sym e ∙ leads-some (lists visits lengths) (length lengths) (f .place) (f .cut1) (f .cut2) (length-lists visits lengths) some-left))

@@ -25,7 +25,8 @@ row-over n i h = rw (range-done n n (omega arith), range-step (suc i) n h)
 
 module _ (n : ℕ) (p : Place) (order : p .one < p .other) (there : p .other < n) where
   -- those ahead of a place are those from the next one on
-  step : (b : Bool) → ltb (p .other + 1) n ≡ b → from n (cond b (record { one = p .one; other = p .other + 1 }) (record { one = p .one + 1; other = p .one + 2 }))
+  step : (b : Bool) → ltb (p .other + 1) n ≡ b
+      → from n (cond b (record { one = p .one; other = p .other + 1 }) (record { one = p .one + 1; other = p .one + 2 }))
       ≡ pairRow n (p .one) (suc (p .other)) ++ rows n (suc (p .one))
   unfolding from
   step true e = rw (add-one (p .other))
@@ -46,7 +47,8 @@ module _ (n : ℕ) (p : Place) (order : p .one < p .other) (there : p .other < n
   unfolding placeAfter
   still-in = go (ltb (p .other + 1) n) refl
     where
-      go : (b : Bool) → ltb (p .other + 1) n ≡ b → InSweep n (cond b (record { one = p .one; other = p .other + 1 }) (record { one = p .one + 1; other = p .one + 2 }))
+      go : (b : Bool) → ltb (p .other + 1) n ≡ b
+          → InSweep n (cond b (record { one = p .one; other = p .other + 1 }) (record { one = p .one + 1; other = p .one + 2 }))
       go true e = let h = ltb-true (p .other + 1) n e in record { ordered = omega arith; ends = λ past. absurd (omega arith) }
       go false e = record { ordered = omega arith; ends = λ past. omega arith }
 

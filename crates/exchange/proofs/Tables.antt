@@ -1,15 +1,19 @@
--- Two lists of the tables have together no more visits than the table, and an exchange keeps the table's visits. Assumes nothing.
-use mathlib.Core.Path.{_≡_, refl, sym, ap, _∙_}
+-- Two lists of the tables have together no more visits than the table, and an exchange keeps the table's visits. And what a caller shows follows from
+-- lists that were not refused. Assumes nothing.
+use mathlib.Core.Path.{_≡_, refl, ap, _∙_}
 use mathlib.Core.List.{List, []}
-use Prim.Native.Nat.{ℕ, _+_, _≤_, _<_}
+use Prim.Native.Nat.{ℕ, _+_, _-_, _≤_, _<_}
 use native.Mathlib.Omega.{arith}
 use borrow.Author.Tests.{lt-ltb, ltb-true}
 use lib.Dec.{ltb}
 use lib.ListN.{length, getD}
+use Rattle.edits.specs.Total.{total, total-cong, total-one}
 use Rattle.edits.proofs.Kept.{same-each, same-length}
 use Rattle.lists.specs.Table.{Laid, lists, startOf, listOf}
 use Rattle.lists.specs.Edits.{Edited}
-use Rattle.lists.proofs.Tables.{at-lists, length-list, list-at, start-later, start-within}
+use Rattle.lists.specs.Refused.{TableFine}
+use Rattle.lists.proofs.Tables.{at-lists, length-list, list-at, start-later, start-within, total-lists}
+use Rattle.deltas.specs.Judged.{Lent}
 use Rattle.exchange.specs.Exchange.{Held, Two}
 
 module _ (l : ℕ) (visits lengths : List ℕ) (held : Held l visits lengths) where
@@ -36,6 +40,21 @@ module _ (l : ℕ) (visits lengths : List ℕ) (held : Held l visits lengths) wh
     below = λ k h. ltb-true _ _ (same-each (λ v. ltb v l) visits visits′ (e .same) (λ i there. lt-ltb _ _ (held .below i there)) k h);
     few = rw (same-length visits visits′ (e .same)) (held .few);
   }
+
+  -- demand 3's premise on the lists lent
+  pub lent-of : Lent l (lists visits lengths)
+  lent-of =
+      let each-list = total-cong (total (λ v. 1)) length (lists visits lengths) total-one in
+      let all = total-lists visits lengths (held .laid .add-up) (λ v. 1) in
+      let table = total-one visits in
+      record {
+        visit-there = λ r k h. rw (at-lists visits lengths r) (below-of r k (rw (at-lists visits lengths r) at h));
+        few = omega (arith, held .few);
+      }
+
+-- lists that were not refused are held
+pub held-of : (depots l : ℕ) (visits lengths : List ℕ) → l - depots ≤ 63 → TableFine depots l visits lengths → Held l visits lengths
+held-of depots l visits lengths few fine = record { laid = fine .laid; below = fine .below; few = omega (arith, fine .at-most) }
 
 -- nothing is changed yet
 pub edited-none : (visits lengths : List ℕ) → Laid visits lengths → Edited visits lengths visits lengths (lists visits lengths)

@@ -14,7 +14,7 @@ use Rattle.numbers.specs.Floor.{gainFloor}
 use Rattle.day.specs.Matrix.{leg, scaleOf}
 use Rattle.evaluation.specs.Columns.{Columns, Formed}
 use Rattle.evaluation.specs.Route.{checksNeeded}
-use Rattle.lists.specs.Table.{Laid, lists}
+use Rattle.lists.specs.Table.{Laid}
 use Rattle.lists.specs.Edits.{joined, tailsExchanged, Cuts}
 use Rattle.descent.specs.Order.{range, each}
 use Rattle.descent.specs.Permitted.{Checks, fits, tail-exchange}

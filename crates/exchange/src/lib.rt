@@ -32,8 +32,8 @@ ghost use Rattle.descent.specs.Engines.{run-of};
 ghost use Rattle.deltas.specs.Judged.{float-judge};
 ghost use Rattle.engine.specs.Engine.{passing, checksOf, mapOf, endedAs};
 ghost use Rattle.exchange.specs.Boxes.{boxesAt, boxes, Loaded};
-ghost use Rattle.exchange.specs.Exchange.{Asked, Held, Two, better, bestRow, bestOf, pairAt, movedBy, takenAt, from, placeAfter, InSweep, firstAt, nextOf};
-ghost use Rattle.exchange.specs.Exchange.{leads, Apt};
+ghost use Rattle.exchange.specs.Exchange.{Asked, Held, Two, better, bestRow, bestOf, pairAt, movedBy, takenAt};
+ghost use Rattle.exchange.specs.Exchange.{from, placeAfter, InSweep, firstAt, nextOf, leads, Apt};
 
 // What stays the same over a run: worked out once, before the first move.
 pub struct Terms {
@@ -212,7 +212,7 @@ fn consider(
         distances,
         times,
         terms,
-        other,
+        other, // the second list: its own head, and the first one's tail
         cut2,
         one,
         cut1,

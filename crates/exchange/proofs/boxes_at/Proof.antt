@@ -26,13 +26,16 @@ shared-slice-copy-out-boxes-of c = search needs
 
 boxes-of-requires : tie.Need-boxes-of-requires
 boxes-of-requires c κs =
-    let visit = getD (c .before .before .before .args .list .now) (c .before .before .before .args .k) 0 in
-    rw (toZ-ofZ w32 (getD (c .before .before .before .args .demand .now) visit (pos 0)) (sfits-of (c .boxes-of-arg .given))) (demand-there _ (c .before .before .before .pre .0 .in-range visit (c .before .before .before .pre .2)))
+    let start = c .before .before .before in
+    let visit = getD (start .args .list .now) (start .args .k) 0 in
+    rw (toZ-ofZ w32 (getD (start .args .demand .now) visit (pos 0)) (sfits-of (c .boxes-of-arg .given)))
+    (demand-there _ (start .pre .0 .in-range visit (start .pre .2)))
 
 returns : tie.Need-returns
 returns c =
-    let visit = getD (c .before .before .before .before .args .list .now) (c .before .before .before .before .args .k) 0 in
-    c .boxes-of .ensures ∙ ap natAbs (toZ-ofZ w32 (getD (c .before .before .before .before .args .demand .now) visit (pos 0)) (sfits-of (c .before .boxes-of-arg .given)))
+    let start = c .before .before .before .before in
+    let visit = getD (start .args .list .now) (start .args .k) 0 in
+    c .boxes-of .ensures ∙ ap natAbs (toZ-ofZ w32 (getD (start .args .demand .now) visit (pos 0)) (sfits-of (c .before .boxes-of-arg .given)))
 
 pub boxes-at-spec : {M : Type 1} → statement M
 boxes-at-spec =

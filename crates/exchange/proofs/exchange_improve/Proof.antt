@@ -20,31 +20,44 @@ route-checks-needed-requires : tie.Need-route-checks-needed-requires
 route-checks-needed-requires c κs = search needs
 
 boxes-of-requires : tie.Need-boxes-of-requires
-boxes-of-requires c κs = rw (toZ-ofZ w32 (c .before .before .before .before .before .before .before .before .before .before .before .before .args .capacity) (c .before .before .before .before .before .before .before .before .before .before .before .before .fits .capacity)) (c .before .before .before .before .before .before .before .before .before .before .before .before .pre .1 .0)
+boxes-of-requires c κs =
+    let start = c .before .before .before .before .before .before .before .before .before .before .before .before in
+    rw (toZ-ofZ w32 (start .args .capacity) (start .fits .capacity)) (start .pre .1 .0)
 
 run-moves-requires : tie.Need-run-moves-requires
-run-moves-requires c κs = (
-  record {
-    formed = c .before .before .before .before .before .before .before .before .before .before .before .before .before .before .before .pre .0 .0;
-    loaded = c .before .before .before .before .before .before .before .before .before .before .before .before .before .before .before .pre .0 .1;
-    depot-there = c .before .before .before .before .before .before .before .before .before .before .before .before .before .before .before .pre .1 .1;
-    needed = c .before .before .before .route-checks-needed .ensures;
-    floor = c .before .before .before .before .gain-floor .ensures ∙ ap gainFloor (c .before .before .before .before .before .scale .ensures);
-  },
-  c .before .before .before .before .before .before .before .before .before .before .before .before .before .before .before .pre .1 .2,
-)
+run-moves-requires c κs =
+    let at-route-checks-needed = c .before .before .before in
+    let at-gain-floor = at-route-checks-needed .before in
+    let at-scale = at-gain-floor .before in
+    let start = at-scale .before .before .before .before .before .before .before .before .before .before in (
+      record {
+        formed = start .pre .0 .0;
+        loaded = start .pre .0 .1;
+        depot-there = start .pre .1 .1;
+        needed = at-route-checks-needed .route-checks-needed .ensures;
+        floor = at-gain-floor .gain-floor .ensures ∙ ap gainFloor (at-scale .scale .ensures);
+      },
+      start .pre .1 .2,
+    )
 
 same-length : tie.Need-same-length
-same-length c = edited-length (c .before .before .before .before .run-moves .ensures .0)
+same-length c =
+    let at-run-moves = c .before .before .before .before in
+    edited-length (at-run-moves .run-moves .ensures .0)
 
 same-length-2 : tie.Need-same-length-2
-same-length-2 c = c .before .before .before .before .run-moves .ensures .0 .number
+same-length-2 c =
+    let at-run-moves = c .before .before .before .before in
+    at-run-moves .run-moves .ensures .0 .number
 
 returns : tie.Need-returns
 unfolding run-of nextOf searchOf judgeOf
 returns c =
-    let boxes = rw (toZ-ofZ w32 (c .before .before .before .before .before .before .before .before .before .before .before .before .before .before .before .before .before .before .before .before .args .capacity) (c .before .before .before .before .before .before .before .before .before .before .before .before .before .before .before .before .before .before .before .before .fits .capacity)) at (c .before .before .before .before .before .before .before .boxes-of .ensures) in
-    rw (← boxes) (c .before .before .before .before .run-moves .ensures)
+    let at-run-moves = c .before .before .before .before in
+    let at-boxes-of = at-run-moves .before .before .before in
+    let start = at-boxes-of .before .before .before .before .before .before .before .before .before .before .before .before .before in
+    let boxes = rw (toZ-ofZ w32 (start .args .capacity) (start .fits .capacity)) at (at-boxes-of .boxes-of .ensures) in
+    rw (← boxes) (at-run-moves .run-moves .ensures)
 
 pub exchange-improve-spec : {M : Type 1} → statement M
 exchange-improve-spec =

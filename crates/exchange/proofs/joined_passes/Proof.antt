@@ -11,7 +11,9 @@ use Rattle.exchange.proofs.joined_passes.Tie as tie
 
 returns : tie.Need-returns
 unfolding passing
-returns c = off _ _ (not-true (c .before .before .before .before .before .before .before .before .before .before .before .args .terms .needed) (c .if1 .taken))
+returns c =
+    let start = c .before .before .before .before .before .before .before .before .before .before .before in
+    off _ _ (not-true (start .args .terms .needed) (c .if1 .taken))
 
 slice-aggregate-append-stretch : tie.Need-slice-aggregate-append-stretch
 slice-aggregate-append-stretch c = search needs
@@ -36,14 +38,25 @@ part-passes-end c = search needs
 
 passes-requires : tie.Need-passes-requires
 passes-requires c κs =
-    let whole = front (c .before .before .before .before .append-stretch2 .result) (c .before .before .before .before .append-stretch2 .last .0) _ (built (c .before .before .before .before .before .before .before .before .before .before .before .before .before .before .before .before .before .before .before .before .args .one .now) (c .before .before .before .before .before .before .before .before .before .before .before .before .before .before .before .before .before .before .before .before .args .other .now) (c .before .before .before .before .before .before .before .before .before .before .before .before .before .before .before .before .before .before .before .before .args .cut1) (c .before .before .before .before .before .before .before .before .before .before .before .before .before .before .before .before .before .before .before .before .args .cut2) (c .before .before .before .before .before .before .before .append-stretch .ensures .1 .filled) (c .before .before .before .before .append-stretch2 .ensures .1 .filled)) in
-    (c .before .before .before .before .before .before .before .before .before .before .before .before .before .before .before .before .before .before .before .before .pre .0 .0, (c .before .before .before .before .before .before .before .before .before .before .before .before .before .before .before .before .before .before .before .before .pre .0 .1, rw whole (visits-joined _ _ _ (c .before .before .before .before .before .before .before .before .before .before .before .before .before .before .before .before .before .before .before .before .pre .1 .0) (c .before .before .before .before .before .before .before .before .before .before .before .before .before .before .before .before .before .before .before .before .args .cut1) (c .before .before .before .before .before .before .before .before .before .before .before .before .before .before .before .before .before .before .before .before .args .cut2) (c .before .before .before .before .before .before .before .before .before .before .before .before .before .before .before .before .before .before .before .before .pre .1 .1 .0))))
+    let at-append-stretch2 = c .before .before .before .before in
+    let at-append-stretch = at-append-stretch2 .before .before .before in
+    let start = at-append-stretch .before .before .before .before .before .before .before .before .before .before .before .before .before in
+    let whole = front (at-append-stretch2 .append-stretch2 .result) (at-append-stretch2 .append-stretch2 .last .0) _
+    (built (start .args .one .now) (start .args .other .now) (start .args .cut1) (start .args .cut2) (at-append-stretch .append-stretch .ensures .1 .filled)
+    (at-append-stretch2 .append-stretch2 .ensures .1 .filled)) in
+    (start .pre .0 .0, (start .pre .0 .1, rw whole (visits-joined _ _ _ (start .pre .1 .0) (start .args .cut1) (start .args .cut2) (start .pre .1 .1 .0))))
 
 returns-2 : tie.Need-returns-2
 unfolding passing
 returns-2 c =
-    let whole = front (c .before .before .before .before .before .append-stretch2 .result) (c .before .before .before .before .before .append-stretch2 .last .0) _ (built (c .before .before .before .before .before .before .before .before .before .before .before .before .before .before .before .before .before .before .before .before .before .args .one .now) (c .before .before .before .before .before .before .before .before .before .before .before .before .before .before .before .before .before .before .before .before .before .args .other .now) (c .before .before .before .before .before .before .before .before .before .before .before .before .before .before .before .before .before .before .before .before .before .args .cut1) (c .before .before .before .before .before .before .before .before .before .before .before .before .before .before .before .before .before .before .before .before .before .args .cut2) (c .before .before .before .before .before .before .before .before .append-stretch .ensures .1 .filled) (c .before .before .before .before .before .append-stretch2 .ensures .1 .filled)) in
-    on _ _ _ (not-false (c .before .before .before .before .before .before .before .before .before .before .before .before .before .before .before .before .before .before .before .before .before .args .terms .needed) (c .before .before .before .before .before .before .before .before .before .before .if1 .left)) (c .passes .ensures ∙ ap (feasible _ _ _) whole)
+    let at-append-stretch2 = c .before .before .before .before .before in
+    let at-append-stretch = at-append-stretch2 .before .before .before in
+    let at-if1 = at-append-stretch .before .before in
+    let start = at-if1 .before .before .before .before .before .before .before .before .before .before .before in
+    let whole = front (at-append-stretch2 .append-stretch2 .result) (at-append-stretch2 .append-stretch2 .last .0) _
+    (built (start .args .one .now) (start .args .other .now) (start .args .cut1) (start .args .cut2) (at-append-stretch .append-stretch .ensures .1 .filled)
+    (at-append-stretch2 .append-stretch2 .ensures .1 .filled)) in
+    on _ _ _ (not-false (start .args .terms .needed) (at-if1 .if1 .left)) (c .passes .ensures ∙ ap (feasible _ _ _) whole)
 
 pub joined-passes-spec : {M : Type 1} → statement M
 joined-passes-spec =

@@ -20,24 +20,35 @@ loop-holds : tie.Need-loop-holds Inv-loop μ-loop
 loop-holds c = (omega arith, refl)
 
 boxes-at-requires : tie.Need-boxes-at-requires Inv-loop μ-loop
-boxes-at-requires c κs = (c .before .before .before .pre .0, c .loop-test .taken, c .before .before .before .pre .1 .below _ (c .loop-test .taken))
+boxes-at-requires c κs =
+    let start = c .before .before .before in
+    (start .pre .0, c .loop-test .taken, start .pre .1 .below _ (c .loop-test .taken))
 
 add-load : tie.Need-add-load Inv-loop μ-loop
 add-load c =
-    let small = sum-small _ _ _ (c .before .before .before .before .pre .0) (c .before .before .before .before .pre .1 .below) (c .before .before .before .before .pre .1 .few) _ _ _ (c .before .loop-test .taken) (c .before .before .loop .inv .1) (c .boxes-at .ensures) in
+    let at-loop = c .before .before in
+    let start = at-loop .before .before in
+    let small = sum-small _ _ _ (start .pre .0) (start .pre .1 .below) (start .pre .1 .few) _ _ _ (c .before .loop-test .taken) (at-loop .loop .inv .1)
+    (c .boxes-at .ensures) in
     omega (arith, small .0, small .1)
 
 add-k : tie.Need-add-k Inv-loop μ-loop
-add-k c = omega (arith, c .before .loop-test .taken, c .before .before .before .before .pre .1 .few)
+add-k c =
+    let start = c .before .before .before .before in
+    omega (arith, c .before .loop-test .taken, start .pre .1 .few)
 
 loop-less : tie.Need-loop-less Inv-loop μ-loop
 loop-less c = omega (arith, c .before .loop-test .taken)
 
 loop-again : tie.Need-loop-again Inv-loop μ-loop
-loop-again c = (omega (arith, c .before .loop-test .taken), load-more _ _ _ _ _ (c .before .loop-test .taken) (c .before .before .loop .inv .1) (c .boxes-at .ensures))
+loop-again c =
+    let at-loop = c .before .before in
+    (omega (arith, c .before .loop-test .taken), load-more _ _ _ _ _ (c .before .loop-test .taken) (at-loop .loop .inv .1) (c .boxes-at .ensures))
 
 returns : tie.Need-returns Inv-loop μ-loop
-returns c = c .before .loop .inv .1 ∙ ap (total (boxesAt (c .before .before .before .args .demand .now))) (take-all _ _ (c .loop-test .left))
+returns c =
+    let start = c .before .before .before in
+    c .before .loop .inv .1 ∙ ap (total (boxesAt (start .args .demand .now))) (take-all _ _ (c .loop-test .left))
 
 pub load-of-spec : {M : Type 1} → statement M
 load-of-spec =

@@ -25,7 +25,9 @@ add-t6 c = search needs
 
 returns-2 : tie.Need-returns-2
 unfolding placeAfter
-returns-2 c = other _ _ _ _ (le-ltb _ _ (c .before .before .if1 .left)) refl
+returns-2 c =
+    let at-if1 = c .before .before in
+    other _ _ _ _ (le-ltb _ _ (at-if1 .if1 .left)) refl
 
 pub place-after-spec : {M : Type 1} → statement M
 place-after-spec =
