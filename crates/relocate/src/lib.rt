@@ -185,6 +185,7 @@ fn better_of(
         ⌜ r ≡ better (columnsAt (setup .l) (flags .entry) (service .entry) (ready .entry) (due .entry) (penalty .entry) (distances .entry) (times .entry))
         setup (now (list .entry)) offer best place ⌝ }
 {
+    // What an empty list costs once it is opened.
     let paid = setup.fixed;
     let insertion = insertion_delta(
         setup.l,
@@ -306,6 +307,7 @@ fn offer_to(
     if load > setup.capacity {
         return best;
     }
+    // What a list no longer costs once it is emptied.
     let saved = setup.fixed;
     let removal = removal_delta(setup.l, distances, setup.depot, saved, giver, position);
     let offer = Offer {
