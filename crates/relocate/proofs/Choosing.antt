@@ -26,13 +26,12 @@ use Rattle.lists.specs.Table.{sum, lists, listOf}
 use Rattle.lists.specs.Edits.{Relocates}
 use Rattle.lists.proofs.Tables.{at-lists, length-lists, length-list, list-at, start-later, start-within}
 use Rattle.evaluation.specs.Columns.{Columns, Visits}
-use Rattle.evaluation.specs.Route.{checksNeeded}
-use Rattle.descent.specs.Order.{_∈_, from-on, range, each}
+use Rattle.descent.specs.Order.{from-on, range, each}
 use Rattle.descent.specs.Search.{ok, taken}
 use Rattle.descent.specs.Across.{at, Relocation}
 use Rattle.descent.proofs.Members.{map-in}
 use Rattle.descent.proofs.Loops.{range-step, range-done}
-use Rattle.deltas.specs.Deltas.{Listed, stopAt, removalDelta, insertionDelta, relocateDelta}
+use Rattle.deltas.specs.Deltas.{stopAt, removalDelta, insertionDelta, relocateDelta}
 use Rattle.deltas.proofs.Stops.{getD-any}
 use Rattle.engine.specs.Engine.{passing}
 use Rattle.relocate.specs.Scan.{onward, figure, Counted}
@@ -303,7 +302,8 @@ module _ (c : Columns) (demand : List ℤ) (s : Setup) (visits lengths : List �
 
     -- whether a candidate passes
     passes-is : (place : ℕ) → searchOf c demand s .passes (lists visits lengths) (move place)
-        ≡ (leb (total (boxesOf demand) Y + boxesOf demand visit) (s .capacity) && true && passing (s .needed) c (s .limits) (s .depot) (inserted Y visit place)) && true
+        ≡ (leb (total (boxesOf demand) Y + boxesOf demand visit) (s .capacity) && true
+        && passing (s .needed) c (s .limits) (s .depot) (inserted Y visit place)) && true
     unfolding searchOf
     passes-is place = rw (receives place, load-after place, prepared .needed)
 
@@ -409,7 +409,8 @@ module _ (c : Columns) (demand : List ℤ) (s : Setup) (visits lengths : List �
 
     pub offered-as : load + more ≤ s .capacity → (removal : Float) (after : Choice)
         → removal ≡ removalDelta (leg (c .l) (c .distances)) (s .depot) (s .fixed) xs position
-        → after ≡ bestAmong c s ys (record { from = from; position = position; to = to; visit = getD xs position 0; removal = removal }) (range 0 (suc (length ys))) best
+        → after ≡ bestAmong c s ys (record { from = from; position = position; to = to; visit = getD xs position 0; removal = removal })
+        (range 0 (suc (length ys))) best
         → Scanned c demand s visits lengths (intoList (lists visits lengths) from position to) best after
     offered-as h removal after is-removal is-after =
         let lower = rw is-giver at is-removal in

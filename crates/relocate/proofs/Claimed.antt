@@ -8,7 +8,6 @@ use lib.Ieee.{Float}
 use Rattle.day.specs.declared.vehicle.RouteLimits.{RouteLimits}
 use Rattle.evaluation.specs.Columns.{Columns}
 use Rattle.descent.specs.Permitted.{relocate}
-use Rattle.descent.specs.Engines.{run-of}
 use Rattle.descent.specs.Claim.{Claim, handed}
 use Rattle.descent.specs.Always.{Always}
 use Rattle.descent.proofs.Always as every

@@ -1,7 +1,7 @@
 -- A run that is under way: the moves made and the run that is left are the whole run, so the loop ends with the run's own answer. Each move keeps what the
 -- tables have to be. Assumes nothing.
 use mathlib.Core.Path.{_≡_, refl, sym, ap, _∙_}
-use mathlib.Core.Bool.{Bool, true, false}
+use mathlib.Core.Bool.{true, false}
 use mathlib.Core.Option.{Option, none, some}
 use mathlib.Core.List.{List, [], _∷_}
 use Prim.Native.Nat.{ℕ, suc, _+_, _-_, _≤_, _<_}
@@ -9,7 +9,6 @@ use native.Mathlib.Omega.{arith}
 use borrow.Author.Tests.{lt-ltb, ltb-true}
 use lib.Dec.{ltb}
 use lib.IntN.{ℤ}
-use lib.ListN.{length}
 use lib.Ieee.{Float}
 use Rattle.day.specs.declared.vehicle.RouteLimits.{RouteLimits}
 use Rattle.edits.proofs.Kept.{same-each, same-length}
@@ -33,7 +32,8 @@ use Rattle.relocate.specs.declared.Choice.{Choice}
 -- the run that `relocate_improve` answers
 abbrev pub outcome : Columns → List ℤ → RouteLimits → ℤ → Float → ℕ → ℕ → List (List ℕ) → Outcome (Sweep (List (List ℕ)) Unit)
 outcome c demand limits capacity fixed depot limit lent =
-    run-of (relocate false) (checksOf (boxes demand capacity ∷ []) c limits depot) (float-judge (relocate false) (mapOf (c .l) (c .distances) depot fixed)) limit lent
+    run-of (relocate false) (checksOf (boxes demand capacity ∷ []) c limits depot)
+    (float-judge (relocate false) (mapOf (c .l) (c .distances) depot fixed)) limit lent
 
 -- ---- what the tables have to be
 
@@ -87,7 +87,8 @@ module _ {S : Type 0} (step : S → Option S) (limit : ℕ) (first : S) where
     going-settled : step now ≡ none → run step limit first ≡ record { word = settled; moves = moves; last = now }
     going-settled e =
         let none-more : moves + 0 ≡ moves = omega arith in
-        sym (going .same) ∙ ap (behind moves) (run-settles step (going .left) now e) ∙ ap (λ (n : ℕ). record { word = settled; moves = n; last = now }) none-more
+        sym (going .same) ∙ ap (behind moves) (run-settles step (going .left) now e)
+        ∙ ap (λ (n : ℕ). record { word = settled; moves = n; last = now }) none-more
 
     going-stopped : (then : S) → step now ≡ some then → limit ≤ moves → run step limit first ≡ record { word = stopped; moves = moves; last = now }
     going-stopped then e h =
@@ -108,7 +109,9 @@ module _ {S : Type 0} (step : S → Option S) (limit : ℕ) (first : S) where
         }
       where
         shift : (r : Outcome S) → behind (moves + 1) r ≡ behind moves (record { word = r .word; moves = suc (r .moves); last = r .last })
-        shift r = let more : moves + 1 + r .moves ≡ moves + suc (r .moves) = omega arith in ap (λ (n : ℕ). record { word = r .word; moves = n; last = r .last }) more
+        shift r =
+            let more : moves + 1 + r .moves ≡ moves + suc (r .moves) = omega arith in
+            ap (λ (n : ℕ). record { word = r .word; moves = n; last = r .last }) more
 
 -- ---- one search
 

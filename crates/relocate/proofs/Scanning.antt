@@ -78,7 +78,10 @@ module _ {C : Type 0} (delta : C → Float) (pass : C → Bool) (bound : Float) 
               rw (first-found (may delta pass bound) (less delta pass bound) c cs e, first-found (may delta pass bound) (less delta pass bound) c (cs ++ ds) e)
               (ap some (sym (least-append (may delta pass bound) (less delta pass bound) c cs ds)))
           go false e rest =
-              rw (first-passed (may delta pass bound) (less delta pass bound) c cs e, first-passed (may delta pass bound) (less delta pass bound) c (cs ++ ds) e)
+              rw (
+                first-passed (may delta pass bound) (less delta pass bound) c cs e,
+                first-passed (may delta pass bound) (less delta pass bound) c (cs ++ ds) e,
+              )
               rest
 
   -- candidates that don't pass change nothing

@@ -25,9 +25,8 @@ ghost use Prim.Native.Nat.{suc, _+_, _<_, _≤_};
 ghost use lib.IntN.{pos};
 ghost use lib.ListN.{length, take, getD};
 ghost use Rattle.day.specs.Refusal.{demandOk, capacityOk};
-ghost use Rattle.day.specs.Matrix.{leg};
 ghost use Rattle.edits.specs.Total.{total};
-ghost use Rattle.lists.specs.Table.{lists, listOf};
+ghost use Rattle.lists.specs.Table.{lists};
 ghost use Rattle.lists.specs.Edits.{Edited};
 ghost use Rattle.evaluation.specs.Columns.{columnsAt, Formed, Visits};
 ghost use Rattle.descent.specs.Order.{range, each};
@@ -186,16 +185,18 @@ fn better_of(
         ⌜ r ≡ better (columnsAt (setup .l) (flags .entry) (service .entry) (ready .entry) (due .entry) (penalty .entry) (distances .entry) (times .entry))
         setup (now (list .entry)) offer best place ⌝ }
 {
-    let delta = offer.removal
-        + insertion_delta(
-            setup.l,
-            distances,
-            setup.depot,
-            setup.fixed,
-            list,
-            wide(offer.visit),
-            place,
-        );
+    // What an empty list costs once it is opened.
+    let paid = setup.fixed;
+    let insertion = insertion_delta(
+        setup.l,
+        distances,
+        setup.depot,
+        paid,
+        list,
+        wide(offer.visit),
+        place,
+    );
+    let delta = offer.removal + insertion;
     if !(delta < best.delta) {
         return best;
     }
@@ -306,14 +307,9 @@ fn offer_to(
     if load > setup.capacity {
         return best;
     }
-    let removal = removal_delta(
-        setup.l,
-        distances,
-        setup.depot,
-        setup.fixed,
-        giver,
-        position,
-    );
+    // What a list no longer costs once it is emptied.
+    let saved = setup.fixed;
+    let removal = removal_delta(setup.l, distances, setup.depot, saved, giver, position);
     let offer = Offer {
         from,
         position,
@@ -361,7 +357,8 @@ fn offer_among(
     requires { ⌜ Boxed (setup .l) (now demand) × Held (setup .l) (now visits) (now lengths) ⌝ }
     requires { ⌜ 64 ≤ length (now buffer) ⌝ }
     requires { ⌜ Best (columnsAt (setup .l) flags service ready due penalty distances times) (now demand) setup (now visits) (now lengths) best ⌝ }
-    requires { ⌜ (from < length (now lengths)) × (position < getD (now lengths) from 0) × (end ≤ length (now lengths)) × ((end ≤ from) ⊎ (from < first)) ⌝ }
+    requires { ⌜ (from < length (now lengths)) × (position < getD (now lengths) from 0) ⌝ }
+    requires { ⌜ (end ≤ length (now lengths)) × ((end ≤ from) ⊎ (from < first)) ⌝ }
     ensures { λ r.
         ⌜ (let ls = lists (now (visits .entry)) (now (lengths .entry))
         in Scanned (columnsAt (setup .l) (flags .entry) (service .entry) (ready .entry) (due .entry) (penalty .entry) (distances .entry) (times .entry))

@@ -1,7 +1,6 @@
 -- `best_move`: before each list, the scan over the lists from here on comes to the scan over all; from nothing on, that is the definition's choice.
-use borrow.Author.Needs.{needs}
 use mathlib.Core.Path.{_≡_, refl, _∙_}
-use Prim.Native.Nat.{_-_, _≤_}
+use Prim.Native.Nat.{_-_}
 use native.Mathlib.Omega.{arith}
 use lib.ListN.{length}
 use Rattle.lists.specs.Table.{lists}
@@ -14,7 +13,8 @@ use Rattle.relocate.proofs.best_move.Tie as tie
 
 abbrev Inv-loop : tie.InvT-loop
 Inv-loop setup flags service ready due penalty distances times demand visits lengths buffer₀ best₀ from₀ buffer best from =
-    Scanning (columns (setup .l) flags service ready due penalty distances times) demand setup visits lengths (each (range from (length lengths)) (ofList (lists visits lengths)))
+    Scanning (columns (setup .l) flags service ready due penalty distances times) demand setup visits lengths (each (range from (length
+    lengths)) (ofList (lists visits lengths)))
     (each (range 0 (length lengths)) (ofList (lists visits lengths))) best₀ best
     × (length buffer ≡ length buffer₀)
 
@@ -23,32 +23,56 @@ abbrev μ-loop : tie.MeasureT-loop
 
 loop-holds : tie.Need-loop-holds Inv-loop μ-loop
 loop-holds c =
-    (scanning-start _ _ (c .before .before .before .before .before .before .before .before .before .before .before .args .setup) _ _ _ _ (none-yet _ _ (c .before .before .before .before .before .before .before .before .before .before .before .args .setup) _ _ _ (c .before .before .before .before .before .before .before .before .before .before .before .pre .0) refl), refl)
+    let start = c .before .before .before .before .before .before .before .before .before .before .before in
+    (scanning-start _ _ (start .args .setup) _ _ _ _ (none-yet _ _ (start .args .setup) _ _ _ (start .pre .0) refl), refl)
 
 best-from-requires : tie.Need-best-from-requires Inv-loop μ-loop
 best-from-requires c κs =
-    (c .before .before .before .before .before .before .before .before .before .before .before .before .before .before .pre .0, (c .before .before .before .before .before .before .before .before .before .before .before .before .before .before .pre .1 .0, (omega (arith, c .before .before .loop .inv .1, c .before .before .before .before .before .before .before .before .before .before .before .before .before .before .pre .1 .1), (c .before .before .loop .inv .0 .still, c .before .loop-test .taken))))
+    let at-loop-test = c .before in
+    let at-loop = at-loop-test .before in
+    let start = at-loop .before .before .before .before .before .before .before .before .before .before .before .before in (
+      start .pre .0,
+      (
+        start .pre .1 .0,
+        (
+          omega (arith, at-loop .loop .inv .1, start .pre .1 .1),
+          (at-loop .loop .inv .0 .still, at-loop-test .loop-test .taken),
+        ),
+      ),
+    )
 
 add-from : tie.Need-add-from Inv-loop μ-loop
 add-from c =
-    omega (arith, c .before .before .before .before .loop-test .taken, c .before .before .before .before .before .before .before .before .before .before .before .before .before .before .before .before .before .pre .1 .0 .1 .laid .few)
+    let at-loop-test = c .before .before .before .before in
+    let start = at-loop-test .before .before .before .before .before .before .before .before .before .before .before .before .before in
+    omega (arith, at-loop-test .loop-test .taken, start .pre .1 .0 .1 .laid .few)
 
 loop-less : tie.Need-loop-less Inv-loop μ-loop
 loop-less c =
-    omega (arith, c .before .before .before .before .loop-test .taken)
+    let at-loop-test = c .before .before .before .before in
+    omega (arith, at-loop-test .loop-test .taken)
 
 loop-again : tie.Need-loop-again Inv-loop μ-loop
 loop-again c =
-    (scanning-turn _ _ (c .before .before .before .before .before .before .before .before .before .before .before .before .before .before .before .before .before .args .setup) _ _ _ _ _ _ _ _ (c .before .before .before .before .before .loop .inv .0) _ (c .before .before .before .before .loop-test .taken) (c .before .before .best-from .ensures), c .before .before .best-from .kept .1 .1 .1 .1 .1 .1 .1 .1 .1 .1 .1 .0 ∙ c .before .before .before .before .before .loop .inv .1)
+    let at-best-from = c .before .before in
+    let at-loop-test = at-best-from .before .before in
+    let at-loop = at-loop-test .before in
+    let start = at-loop .before .before .before .before .before .before .before .before .before .before .before .before in (
+      scanning-turn _ _ (start .args .setup) _ _ _ _ _ _ _ _ (at-loop .loop .inv .0) _ (at-loop-test .loop-test .taken) (at-best-from .best-from .ensures),
+      at-best-from .best-from .kept .1 .1 .1 .1 .1 .1 .1 .1 .1 .1 .1 .0 ∙ at-loop .loop .inv .1,
+    )
 
 same-length : tie.Need-same-length Inv-loop μ-loop
 same-length c =
-    c .before .loop .inv .1
+    let at-loop = c .before in
+    at-loop .loop .inv .1
 
 returns : tie.Need-returns Inv-loop μ-loop
 returns c =
-    let all = scanning-end _ _ (c .before .before .before .before .before .before .before .before .before .before .before .before .before .args .setup) _ _ _ _ _ _ _ _ (c .before .loop .inv .0) (c .loop-test .left) in
-    (all-scanned _ _ (c .before .before .before .before .before .before .before .before .before .before .before .before .before .args .setup) _ _ _ _ all, all .still)
+    let at-loop = c .before in
+    let start = at-loop .before .before .before .before .before .before .before .before .before .before .before .before in
+    let all = scanning-end _ _ (start .args .setup) _ _ _ _ _ _ _ _ (at-loop .loop .inv .0) (c .loop-test .left) in
+    (all-scanned _ _ (start .args .setup) _ _ _ _ all, all .still)
 
 pub best-move-spec : {M : Type 1} → statement M
 best-move-spec =

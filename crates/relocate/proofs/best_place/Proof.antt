@@ -1,7 +1,6 @@
 -- `best_place`: before each place, the best among the places from here on is the best among all.
-use borrow.Author.Needs.{needs}
-use mathlib.Core.Path.{_≡_, refl, sym, ap, _∙_}
-use Prim.Native.Nat.{suc, _-_, _≤_}
+use mathlib.Core.Path.{_≡_, refl, sym, _∙_}
+use Prim.Native.Nat.{suc, _-_}
 use native.Mathlib.Omega.{arith}
 use lib.ListN.{length}
 use Rattle.evaluation.specs.Columns.{columns}
@@ -26,27 +25,52 @@ loop-holds c =
 
 better-of-requires : tie.Need-better-of-requires Inv-loop μ-loop
 better-of-requires c κs =
-    (c .before .before .before .before .before .before .before .before .before .before .before .before .pre .0, (omega (arith, c .before .before .loop .inv .1, c .before .before .before .before .before .before .before .before .before .before .before .before .pre .1 .0), (c .before .before .before .before .before .before .before .before .before .before .before .before .pre .1 .1 .0, c .before .before .before .before .before .before .before .before .before .before .before .before .pre .1 .1 .1, c .before .before .before .before .before .before .before .before .before .before .before .before .pre .1 .1 .2, c .before .loop-test .taken)))
+    let at-loop-test = c .before in
+    let at-loop = at-loop-test .before in
+    let start = at-loop .before .before .before .before .before .before .before .before .before .before in (
+      start .pre .0,
+      (
+        omega (arith, at-loop .loop .inv .1, start .pre .1 .0),
+        (
+          start .pre .1 .1 .0,
+          start .pre .1 .1 .1,
+          start .pre .1 .1 .2,
+          at-loop-test .loop-test .taken,
+        ),
+      ),
+    )
 
 add-place : tie.Need-add-place Inv-loop μ-loop
 add-place c =
-    omega (arith, c .before .before .before .before .loop-test .taken, c .before .before .before .before .before .before .before .before .before .before .before .before .before .before .before .pre .1 .1 .1)
+    let at-loop-test = c .before .before .before .before in
+    let start = at-loop-test .before .before .before .before .before .before .before .before .before .before .before in
+    omega (arith, at-loop-test .loop-test .taken, start .pre .1 .1 .1)
 
 loop-less : tie.Need-loop-less Inv-loop μ-loop
 loop-less c =
-    omega (arith, c .before .before .before .before .loop-test .taken)
+    let at-loop-test = c .before .before .before .before in
+    omega (arith, at-loop-test .loop-test .taken)
 
 loop-again : tie.Need-loop-again Inv-loop μ-loop
 loop-again c =
-    (rw (c .before .before .better-of .ensures) (among-turn _ (c .before .before .before .before .before .before .before .before .before .before .before .before .before .before .before .args .setup) _ _ _ _ (c .before .before .before .before .loop-test .taken) ∙ c .before .before .before .before .before .loop .inv .0), c .before .before .better-of .kept .1 .1 .1 .1 .1 .1 .1 .1 .1 .0 ∙ c .before .before .before .before .before .loop .inv .1)
+    let at-better-of = c .before .before in
+    let at-loop-test = at-better-of .before .before in
+    let at-loop = at-loop-test .before in
+    let start = at-loop .before .before .before .before .before .before .before .before .before .before in (
+      rw (at-better-of .better-of .ensures) (among-turn _ (start .args .setup) _ _ _ _ (at-loop-test .loop-test .taken) ∙ at-loop .loop .inv .0),
+      at-better-of .better-of .kept .1 .1 .1 .1 .1 .1 .1 .1 .1 .0 ∙ at-loop .loop .inv .1,
+    )
 
 same-length : tie.Need-same-length Inv-loop μ-loop
 same-length c =
-    c .before .loop .inv .1
+    let at-loop = c .before in
+    at-loop .loop .inv .1
 
 returns : tie.Need-returns Inv-loop μ-loop
 returns c =
-    sym (among-end _ (c .before .before .before .before .before .before .before .before .before .before .before .args .setup) _ _ _ _ (c .loop-test .left)) ∙ c .before .loop .inv .0
+    let at-loop = c .before in
+    let start = at-loop .before .before .before .before .before .before .before .before .before .before in
+    sym (among-end _ (start .args .setup) _ _ _ _ (c .loop-test .left)) ∙ at-loop .loop .inv .0
 
 pub best-place-spec : {M : Type 1} → statement M
 best-place-spec =

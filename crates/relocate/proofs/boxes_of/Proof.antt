@@ -12,27 +12,27 @@ use Rattle.relocate.proofs.boxes_of.Statement.{statement}
 use Rattle.relocate.proofs.boxes_of.Tie as tie
 
 mul-boxes : tie.Need-mul-boxes
-mul-boxes c =
-    search needs
+mul-boxes c = search needs
 
 shared-slice-copy-out-boxes : tie.Need-shared-slice-copy-out-boxes
-shared-slice-copy-out-boxes c =
-    search needs
+shared-slice-copy-out-boxes c = search needs
 
 cast-result : tie.Need-cast-result
 cast-result c =
-    let z = getD (c .before .args .demand .now) (c .before .args .visit) (pos 0) in
+    let start = c .before in
+    let z = getD (start .args .demand .now) (start .args .visit) (pos 0) in
     let e = toZ-ofZ w32 z (sfits-of (c .boxes .given)) in
-    let t = demand-plain z (c .before .pre .1) in
+    let t = demand-plain z (start .pre .1) in
     let h = t .1 in
     rw e (t .0, search needs)
 
 returns : tie.Need-returns
 unfolding boxesOf
 returns c =
-    let z = getD (c .before .args .demand .now) (c .before .args .visit) (pos 0) in
+    let start = c .before in
+    let z = getD (start .args .demand .now) (start .args .visit) (pos 0) in
     let e = toZ-ofZ w32 z (sfits-of (c .boxes .given)) in
-    rw e (refl, demand-plain z (c .before .pre .1) .1)
+    rw e (refl, demand-plain z (start .pre .1) .1)
 
 pub boxes-of-spec : {M : Type 1} → statement M
 boxes-of-spec =

@@ -12,40 +12,46 @@ use Rattle.relocate.proofs.candidate_passes.Tie as tie
 returns : tie.Need-returns
 unfolding passing
 returns c =
-    off _ _ (not-true (c .before .before .before .before .before .before .before .before .before .before .before .args .setup .needed) (c .if1 .taken))
+    let start = c .before .before .before .before .before .before .before .before .before .before .before in
+    off _ _ (not-true (start .args .setup .needed) (c .if1 .taken))
 
 inserted-into-requires : tie.Need-inserted-into-requires
 inserted-into-requires c κs =
-    (c .before .before .before .before .before .before .before .before .before .before .before .before .pre .1 .1 .3, omega (arith, c .before .before .before .before .before .before .before .before .before .before .before .before .pre .1 .0, c .before .before .before .before .before .before .before .before .before .before .before .before .pre .1 .1 .1))
+    let start = c .before .before .before .before .before .before .before .before .before .before .before .before in
+    (start .pre .1 .1 .3, omega (arith, start .pre .1 .0, start .pre .1 .1 .1))
 
 sub-passes : tie.Need-sub-passes
-sub-passes c =
-    search needs
+sub-passes c = search needs
 
 part-passes-start : tie.Need-part-passes-start
-part-passes-start c =
-    search needs
+part-passes-start c = search needs
 
 part-passes-end : tie.Need-part-passes-end
 part-passes-end c =
-    omega (arith, c .before .before .before .before .inserted-into .ensures .0, c .before .before .before .before .inserted-into .kept .0, c .before .before .before .before .before .before .before .before .before .before .before .before .before .before .before .before .before .pre .1 .0, c .before .before .before .before .before .before .before .before .before .before .before .before .before .before .before .before .before .pre .1 .1 .1)
+    let at-inserted-into = c .before .before .before .before in
+    let start = at-inserted-into .before .before .before .before .before .before .before .before .before .before .before .before .before in
+    omega (arith, at-inserted-into .inserted-into .ensures .0, at-inserted-into .inserted-into .kept .0, start .pre .1 .0, start .pre .1 .1 .1)
 
 passes-requires : tie.Need-passes-requires
-passes-requires c κs = (
-  c .before .before .before .before .before .before .before .before .before .before .before .before .before .before .before .before .before .before .pre .0 .formed,
-  (
-    c .before .before .before .before .before .before .before .before .before .before .before .before .before .before .before .before .before .before .pre .0 .depot-there,
-    rw (front (c .before .before .before .before .before .inserted-into .result) (c .before .before .before .before .before .inserted-into .last .0) _ (c .before .before .before .before .before .inserted-into .ensures .1)) (visits-inserted _ (c .before .before .before .before .before .before .before .before .before .before .before .before .before .before .before .before .before .before .args .list .now) (c .before .before .before .before .before .before .before .before .before .before .before .before .before .before .before .before .before .before .args .visit) (c .before .before .before .before .before .before .before .before .before .before .before .before .before .before .before .before .before .before .args .place) (c .before .before .before .before .before .before .before .before .before .before .before .before .before .before .before .before .before .before .pre .1 .1 .0) (c .before .before .before .before .before .before .before .before .before .before .before .before .before .before .before .before .before .before .pre .1 .1 .1) (c .before .before .before .before .before .before .before .before .before .before .before .before .before .before .before .before .before .before .pre .1 .1 .2)),
-  ),
-)
+passes-requires c κs =
+    let at-inserted-into = c .before .before .before .before .before in
+    let start = at-inserted-into .before .before .before .before .before .before .before .before .before .before .before .before .before in (
+      start .pre .0 .formed,
+      (
+        start .pre .0 .depot-there,
+        rw (front (at-inserted-into .inserted-into .result) (at-inserted-into .inserted-into .last .0) _ (at-inserted-into .inserted-into .ensures .1))
+            (visits-inserted _ (start .args .list .now) (start .args .visit) (start .args .place) (start .pre .1 .1 .0) (start .pre .1 .1 .1) (start .pre .1 .1 .2)),
+      ),
+    )
 
 same-length : tie.Need-same-length
-same-length c =
-    search needs
+same-length c = search needs
 
 returns-2 : tie.Need-returns-2
 returns-2 c =
-    c .passes .ensures ∙ ap (passing _ _ _ _) (front (c .before .before .before .before .before .before .inserted-into .result) (c .before .before .before .before .before .before .inserted-into .last .0) _ (c .before .before .before .before .before .before .inserted-into .ensures .1))
+    let at-inserted-into = c .before .before .before .before .before .before in
+    c .passes .ensures ∙ ap (passing _ _ _ _) (front (at-inserted-into .inserted-into .result) (at-inserted-into .inserted-into .last .0) _
+    (at-inserted-into .inserted-into .ensures .1))
 
 pub candidate-passes-spec : {M : Type 1} → statement M
 candidate-passes-spec =

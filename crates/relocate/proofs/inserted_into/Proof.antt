@@ -6,26 +6,42 @@ use Rattle.relocate.proofs.inserted_into.Statement.{statement}
 use Rattle.relocate.proofs.inserted_into.Tie as tie
 
 append-stretch-requires : tie.Need-append-stretch-requires
-append-stretch-requires c κs =
-    search needs
+append-stretch-requires c κs = search needs
 
 append-one-requires : tie.Need-append-one-requires
 append-one-requires c κs =
-    omega (arith, c .before .before .before .append-stretch .ensures .0, c .before .before .before .append-stretch .ensures .1 .same-length, c .before .before .before .before .before .before .before .pre .0, c .before .before .before .before .before .before .before .pre .1)
+    let at-append-stretch = c .before .before .before in
+    let start = at-append-stretch .before .before .before .before in
+    omega (
+      arith,
+      at-append-stretch .append-stretch .ensures .0,
+      at-append-stretch .append-stretch .ensures .1 .same-length,
+      start .pre .0,
+      start .pre .1,
+    )
 
 append-stretch-requires-2 : tie.Need-append-stretch-requires-2
-append-stretch-requires-2 c κs =
-    search needs
+append-stretch-requires-2 c κs = search needs
 
 same-length : tie.Need-same-length
-same-length c =
-    search needs
+same-length c = search needs
 
 returns : tie.Need-returns
-returns c = (
-  omega (arith, c .before .before .before .before .before .before .before .before .before .before .append-stretch .ensures .0, c .before .before .before .before .before .before .append-one .ensures .ends, c .before .before .append-stretch2 .ensures .0, c .before .before .before .before .before .before .before .before .before .before .before .before .before .before .pre .0),
-  built (c .before .before .before .before .before .before .before .before .before .before .before .before .before .before .args .list .now) (c .before .before .before .before .before .before .before .before .before .before .before .before .before .before .args .visit) (c .before .before .before .before .before .before .before .before .before .before .before .before .before .before .args .place) (c .before .before .before .before .before .before .before .before .before .before .append-stretch .ensures .1 .filled) (c .before .before .before .before .before .before .append-one .ensures .filled) (c .before .before .append-stretch2 .ensures .1 .filled),
-)
+returns c =
+    let at-append-stretch2 = c .before .before in
+    let at-append-one = at-append-stretch2 .before .before .before .before in
+    let at-append-stretch = at-append-one .before .before .before .before in
+    let start = at-append-stretch .before .before .before .before in (
+      omega (
+        arith,
+        at-append-stretch .append-stretch .ensures .0,
+        at-append-one .append-one .ensures .ends,
+        at-append-stretch2 .append-stretch2 .ensures .0,
+        start .pre .0,
+      ),
+      built (start .args .list .now) (start .args .visit) (start .args .place) (at-append-stretch .append-stretch .ensures .1 .filled)
+          (at-append-one .append-one .ensures .filled) (at-append-stretch2 .append-stretch2 .ensures .1 .filled),
+    )
 
 pub inserted-into-spec : {M : Type 1} → statement M
 inserted-into-spec =

@@ -23,45 +23,54 @@ loop-holds c =
     (refl, omega arith, omega arith)
 
 mul-wide : tie.Need-mul-wide Inv-loop μ-loop
-mul-wide c =
-    search needs
+mul-wide c = search needs
 
 shared-slice-read-wide : tie.Need-shared-slice-read-wide Inv-loop μ-loop
-shared-slice-read-wide c =
-    search needs
+shared-slice-read-wide c = search needs
 
 wide-requires : tie.Need-wide-requires Inv-loop μ-loop
-wide-requires c κs =
-    search needs
+wide-requires c κs = search needs
 
 boxes-of-requires : tie.Need-boxes-of-requires Inv-loop μ-loop
 boxes-of-requires c κs =
-    let below = c .before .before .before .before .before .pre .1 .below _ (c .before .before .loop-test .taken) in
-    (omega (arith, c .wide .ensures, below, c .before .before .before .before .before .pre .0 .size), rw (c .wide .ensures) (c .before .before .before .before .before .pre .0 .each _ below))
+    let at-loop-test = c .before .before in
+    let start = at-loop-test .before .before .before in
+    let below = start .pre .1 .below _ (at-loop-test .loop-test .taken) in
+    (omega (arith, c .wide .ensures, below, start .pre .0 .size), rw (c .wide .ensures) (start .pre .0 .each _ below))
 
 add-load : tie.Need-add-load Inv-loop μ-loop
 add-load c =
-    omega (arith, c .before .before .before .before .loop .inv .1, c .boxes-of .ensures .1, c .before .before .before .before .before .before .pre .1 .few, c .before .before .before .loop-test .taken)
+    let at-loop-test = c .before .before .before in
+    let at-loop = at-loop-test .before in
+    let start = at-loop .before .before in
+    omega (arith, at-loop .loop .inv .1, c .boxes-of .ensures .1, start .pre .1 .few, at-loop-test .loop-test .taken)
 
 add-i : tie.Need-add-i Inv-loop μ-loop
-add-i c =
-    search needs
+add-i c = search needs
 
 loop-less : tie.Need-loop-less Inv-loop μ-loop
-loop-less c =
-    search needs
+loop-less c = search needs
 
 loop-again : tie.Need-loop-again Inv-loop μ-loop
 loop-again c =
-    let turn = load-turn (boxesOf (c .before .before .before .before .before .before .args .demand .now)) (c .before .before .before .before .before .before .args .list .now) (c .before .before .before .before .loop .i) (c .before .before .before .loop-test .taken) in
-    let here = ap (boxesOf (c .before .before .before .before .before .before .args .demand .now)) (c .before .wide .ensures) in
-    (omega (arith, turn, here, c .before .before .before .before .loop .inv .0, c .boxes-of .ensures .0), omega (arith, c .before .before .before .before .loop .inv .1, c .boxes-of .ensures .1), omega (arith, c .before .before .before .loop-test .taken))
+    let at-wide = c .before in
+    let at-loop-test = at-wide .before .before in
+    let at-loop = at-loop-test .before in
+    let start = at-loop .before .before in
+    let turn = load-turn (boxesOf (start .args .demand .now)) (start .args .list .now) (at-loop .loop .i) (at-loop-test .loop-test .taken) in
+    let here = ap (boxesOf (start .args .demand .now)) (at-wide .wide .ensures) in (
+      omega (arith, turn, here, at-loop .loop .inv .0, c .boxes-of .ensures .0),
+      omega (arith, at-loop .loop .inv .1, c .boxes-of .ensures .1),
+      omega (arith, at-loop-test .loop-test .taken),
+    )
 
 returns : tie.Need-returns Inv-loop μ-loop
-returns c = (
-  c .before .loop .inv .0 ∙ ap (total (boxesOf (c .before .before .before .args .demand .now))) (take-all (c .before .loop .i) (c .before .before .before .args .list .now) (c .loop-test .left)),
-  omega (arith, c .before .loop .inv .1, c .before .loop .inv .2, c .before .before .before .pre .1 .few),
-)
+returns c =
+    let at-loop = c .before in
+    let start = at-loop .before .before in (
+      at-loop .loop .inv .0 ∙ ap (total (boxesOf (start .args .demand .now))) (take-all (at-loop .loop .i) (start .args .list .now) (c .loop-test .left)),
+      omega (arith, at-loop .loop .inv .1, at-loop .loop .inv .2, start .pre .1 .few),
+    )
 
 pub load-of-spec : {M : Type 1} → statement M
 load-of-spec =

@@ -8,23 +8,54 @@ use Rattle.relocate.proofs.offer_visit.Tie as tie
 
 offer-among-requires : tie.Need-offer-among-requires
 offer-among-requires c κs =
-    (c .before .before .before .before .before .before .before .before .before .before .before .pre .0, (c .before .before .before .before .before .before .before .before .before .before .before .pre .1 .0, (c .before .before .before .before .before .before .before .before .before .before .before .pre .1 .1 .0, (c .before .before .before .before .before .before .before .before .before .before .before .pre .1 .1 .1 .0, (c .before .before .before .before .before .before .before .before .before .before .before .pre .1 .1 .1 .1 .0, c .before .before .before .before .before .before .before .before .before .before .before .pre .1 .1 .1 .1 .1, omega (arith, c .before .before .before .before .before .before .before .before .before .before .before .pre .1 .1 .1 .1 .0), inl (omega arith))))))
+    let start = c .before .before .before .before .before .before .before .before .before .before .before in (
+      start .pre .0,
+      (
+        start .pre .1 .0,
+        (
+          start .pre .1 .1 .0,
+          (
+            start .pre .1 .1 .1 .0,
+            (
+              start .pre .1 .1 .1 .1,
+              (
+                omega (arith, start .pre .1 .1 .1 .1 .0),
+                inl (omega arith),
+              ),
+            ),
+          ),
+        ),
+      ),
+    )
 
 add-behind : tie.Need-add-behind
 add-behind c =
-    omega (arith, c .before .before .before .before .before .before .before .before .before .before .before .before .before .before .pre .1 .1 .1 .1 .0, c .before .before .before .before .before .before .before .before .before .before .before .before .before .before .pre .1 .0 .1 .laid .few)
+    let start = c .before .before .before .before .before .before .before .before .before .before .before .before .before .before in
+    omega (arith, start .pre .1 .1 .1 .1 .0, start .pre .1 .0 .1 .laid .few)
 
 offer-among-requires-2 : tie.Need-offer-among-requires-2
 offer-among-requires-2 c κs =
-    (c .before .before .before .before .before .before .before .before .before .before .before .before .before .before .before .pre .0, (c .before .before .before .before .before .before .before .before .before .before .before .before .before .before .before .pre .1 .0, (omega (arith, c .before .before .before .offer-among .kept .1 .1 .1 .1 .1 .1 .1 .1 .1 .1 .1 .0, c .before .before .before .before .before .before .before .before .before .before .before .before .before .before .before .pre .1 .1 .0), (c .before .before .before .offer-among .ensures .still, (c .before .before .before .before .before .before .before .before .before .before .before .before .before .before .before .pre .1 .1 .1 .1 .0, c .before .before .before .before .before .before .before .before .before .before .before .before .before .before .before .pre .1 .1 .1 .1 .1, omega arith, inr (omega arith))))))
+    let at-offer-among = c .before .before .before in
+    let start = at-offer-among .before .before .before .before .before .before .before .before .before .before .before .before in (
+      start .pre .0,
+      (
+        start .pre .1 .0,
+        (
+          omega (arith, at-offer-among .offer-among .kept .1 .1 .1 .1 .1 .1 .1 .1 .1 .1 .1 .0, start .pre .1 .1 .0),
+          (at-offer-among .offer-among .ensures .still, (start .pre .1 .1 .1 .1, (omega arith, inr (omega arith)))),
+        ),
+      ),
+    )
 
 same-length : tie.Need-same-length
-same-length c =
-    search needs
+same-length c = search needs
 
 returns : tie.Need-returns
 returns c =
-    both-sides _ _ (c .before .before .before .before .before .before .before .before .before .before .before .before .before .before .before .before .before .before .args .setup) _ _ _ _ _ _ _ (c .before .before .before .before .before .before .offer-among .ensures) (c .before .before .offer-among2 .ensures)
+    let at-offer-among2 = c .before .before in
+    let at-offer-among = at-offer-among2 .before .before .before .before in
+    let start = at-offer-among .before .before .before .before .before .before .before .before .before .before .before .before in
+    both-sides _ _ (start .args .setup) _ _ _ _ _ _ _ (at-offer-among .offer-among .ensures) (at-offer-among2 .offer-among2 .ensures)
 
 pub offer-visit-spec : {M : Type 1} → statement M
 offer-visit-spec =

@@ -10,50 +10,51 @@ use Rattle.relocate.proofs.relocate_improve.Statement.{statement}
 use Rattle.relocate.proofs.relocate_improve.Tie as tie
 
 scale-requires : tie.Need-scale-requires
-scale-requires c κs =
-    search needs
+scale-requires c κs = search needs
 
 gain-floor-requires : tie.Need-gain-floor-requires
-gain-floor-requires c κs =
-    search needs
+gain-floor-requires c κs = search needs
 
 route-checks-needed-requires : tie.Need-route-checks-needed-requires
-route-checks-needed-requires c κs =
-    search needs
+route-checks-needed-requires c κs = search needs
 
 cast-t22 : tie.Need-cast-t22
 cast-t22 c =
-    let e = toZ-ofZ w32 (c .before .before .before .before .before .before .before .before .before .before .before .before .args .capacity) (c .before .before .before .before .before .before .before .before .before .before .before .before .fits .capacity) in
-    let t = capacity-plain (c .before .before .before .before .before .before .before .before .before .before .before .before .args .capacity) (c .before .before .before .before .before .before .before .before .before .before .before .before .pre .1 .0 .1) in
+    let start = c .before .before .before .before .before .before .before .before .before .before .before .before in
+    let e = toZ-ofZ w32 (start .args .capacity) (start .fits .capacity) in
+    let t = capacity-plain (start .args .capacity) (start .pre .1 .0 .1) in
     let h = t .1 in
     rw e (t .0, search needs)
 
 slice-aggregate-descend : tie.Need-slice-aggregate-descend
-slice-aggregate-descend c =
-    search needs
+slice-aggregate-descend c = search needs
 
 descend-requires : tie.Need-descend-requires
-descend-requires c κs = (
-  record {
-    formed = c .before .before .before .before .before .before .before .before .before .before .before .before .before .before .before .pre .0;
-    depot-there = c .before .before .before .before .before .before .before .before .before .before .before .before .before .before .before .pre .1 .1 .0;
-    floor = c .before .before .before .before .gain-floor .ensures ∙ ap gainFloor (c .before .before .before .before .before .scale .ensures);
-    needed = c .before .before .before .route-checks-needed .ensures;
-  },
-  ((c .before .before .before .before .before .before .before .before .before .before .before .before .before .before .before .pre .1 .0 .0, c .before .before .before .before .before .before .before .before .before .before .before .before .before .before .before .pre .1 .1 .1), omega arith),
-)
+descend-requires c κs =
+    let at-route-checks-needed = c .before .before .before in
+    let at-gain-floor = at-route-checks-needed .before in
+    let at-scale = at-gain-floor .before in
+    let start = at-scale .before .before .before .before .before .before .before .before .before .before in (
+      record {
+        formed = start .pre .0;
+        depot-there = start .pre .1 .1 .0;
+        floor = at-gain-floor .gain-floor .ensures ∙ ap gainFloor (at-scale .scale .ensures);
+        needed = at-route-checks-needed .route-checks-needed .ensures;
+      },
+      ((start .pre .1 .0 .0, start .pre .1 .1 .1), omega arith),
+    )
 
 same-length : tie.Need-same-length
-same-length c =
-    search needs
+same-length c = search needs
 
 same-length-2 : tie.Need-same-length-2
-same-length-2 c =
-    search needs
+same-length-2 c = search needs
 
 returns : tie.Need-returns
 returns c =
-    rw (toZ-ofZ w32 (c .before .before .before .before .before .before .before .before .before .before .before .before .before .before .before .before .before .before .before .before .before .args .capacity) (c .before .before .before .before .before .before .before .before .before .before .before .before .before .before .before .before .before .before .before .before .before .fits .capacity)) at (c .before .before .before .before .before .descend .ensures)
+    let at-descend = c .before .before .before .before .before in
+    let start = at-descend .before .before .before .before .before .before .before .before .before .before .before .before .before .before .before .before in
+    rw (toZ-ofZ w32 (start .args .capacity) (start .fits .capacity)) at (at-descend .descend .ensures)
 
 pub relocate-improve-spec : {M : Type 1} → statement M
 relocate-improve-spec =
