@@ -1,2 +1,4 @@
 pub mod Refusal
 pub mod Answer
+pub mod Improve
+pub mod Demand3

@@ -58,3 +58,8 @@ module _ (c : Columns) (limits : RouteLimits) (depot limit : ℕ) (list : List �
 
   pub ran-length : (which : Neighbourhood) → length (ranBy which c limits depot limit list .list) ≡ length list
   ran-length which = same-length list (ranBy which c limits depot limit list .list) (ran-same which)
+
+  -- without a soft window the run is the engine's of demand 3
+  pub ran-hard : (which : Neighbourhood) → hasSoftWindows (c .flags) ≡ false → ranBy which c limits depot limit list ≡ hardRan which c limits depot limit list
+  unfolding ranBy
+  ran-hard which none = rw none
