@@ -79,6 +79,15 @@ exports_of_list! {
         taken: *mut u8, position: *mut usize, start: *mut f64);
 }
 
+exports! {
+    planner_two_opt_improve(visits: *mut u16, visits_count: usize, lengths: *const u16, lengths_count: usize, list: usize,
+        limit: u32, settled: *mut u8, moves: *mut u32, distance: *mut f64);
+    planner_or_opt_improve(visits: *mut u16, visits_count: usize, lengths: *const u16, lengths_count: usize, list: usize,
+        limit: u32, settled: *mut u8, moves: *mut u32, distance: *mut f64);
+    planner_three_opt_improve(visits: *mut u16, visits_count: usize, lengths: *const u16, lengths_count: usize, list: usize,
+        limit: u32, settled: *mut u8, moves: *mut u32, distance: *mut f64);
+}
+
 /// Calls one of `exports!`.
 #[macro_export]
 macro_rules! call {
