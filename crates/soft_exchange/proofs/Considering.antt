@@ -11,7 +11,7 @@ use lib.ListN.{length}
 use lib.Ieee.{Float, lt}
 use lib.Ieee.Scale.{finite}
 use Rattle.numbers.specs.Operations.{_⊕_, _⊖_}
-use Rattle.tests.specs.Pick.{picked, other, no, yes}
+use Rattle.tests.specs.Pick.{picked, other}
 use Rattle.evaluation.specs.Columns.{Columns}
 use Rattle.edits.specs.Total.{total}
 use Rattle.lists.specs.Edits.{joined}

@@ -5,23 +5,25 @@ use mathlib.Core.Bool.{true, _&&_}
 use mathlib.Core.Option.{some}
 use mathlib.Core.List.{List, [], _∷_}
 use Prim.Native.Nat.{ℕ, _≤_}
-use lib.IntN.{ℤ}
+use lib.IntN.{ℤ, natAbs}
 use lib.ListN.{length, getD}
 use lib.Ieee.{Float}
 use Rattle.day.specs.declared.vehicle.RouteLimits.{RouteLimits}
-use Rattle.edits.specs.Total.{total}
+use lib.Dec.{eqb}
+use Rattle.edits.specs.Total.{total, bit, count}
 use Rattle.evaluation.specs.Columns.{Columns}
 use Rattle.evaluation.specs.Route.{effectiveCost}
 use Rattle.descent.specs.Order.{_∈_, here}
-use Rattle.descent.specs.Permitted.{Measure, Checks, load, room, Permitted, tail-exchange}
-use Rattle.descent.specs.Search.{stopped, Search, Judge, Sweep, ok, next}
+use Rattle.descent.specs.Permitted.{Measure, Checks, room, Permitted, tail-exchange}
+use Rattle.descent.specs.Search.{stopped, Search, Judge, Sweep, Outcome, ok, next}
 use Rattle.descent.specs.Across.{at, Pair, Tails, pairs, new1, new2}
-use Rattle.descent.specs.Claim.{Steps}
+use Rattle.descent.specs.Claim.{Steps, dropped}
+use Rattle.descent.specs.Always.{Always}
 use Rattle.descent.proofs.Members.{and-parts, and-both, not-in}
 use Rattle.descent.proofs.Runs.{ran, chain-map, chain-keeps}
 use Rattle.descent.proofs.Kept.{Kept, kept-same, kept-on, permitted-keeps}
 use Rattle.descent.proofs.Sweeps.{next-some}
-use Rattle.descent.proofs.Claims.{Tried}
+use Rattle.descent.proofs.Claims.{Tried, handed-total}
 use Rattle.descent.proofs.Demand3.{faithful}
 use Rattle.exchange.specs.Boxes.{boxesAt, boxes}
 use Rattle.soft_exchange.specs.SoftExchange.{priced, soft-exchange-search, soft-exchange-judge, soft-exchange-run}
@@ -64,34 +66,45 @@ module _ (c : Columns) (demand : List ℤ) (limits : RouteLimits) (capacity : �
   abbrev checks : Checks
   checks = loads-only (boxes demand capacity ∷ [])
 
+  abbrev outcome : Outcome (Sweep (List (List ℕ)) Pair)
+  outcome = soft-exchange-run c demand limits capacity depot floor limit lent
+
   -- exactly so many permitted moves lead from the lists lent to those that the last move left
-  pub soft-exchange-chain : let r = soft-exchange-run c demand limits capacity depot floor limit lent in
-      Steps (Permitted tail-exchange checks) (r .moves) lent (r .last .now)
+  pub soft-exchange-chain : Steps (Permitted tail-exchange checks) (outcome .moves) lent (outcome .last .now)
   unfolding soft-exchange-run Among
   soft-exchange-chain =
+      let measures = boxes demand capacity ∷ [] in
       let cost = effectiveCost c limits depot in
-      let search = soft-exchange-search (boxes demand capacity ∷ []) cost in
       let judge = soft-exchange-judge cost floor in
-      let told = ran (next search judge) limit (record { now = lent; ahead = [] }) in
-      chain-map (Permitted tail-exchange checks) (λ s. s .now) (Among (boxes demand capacity ∷ []) cost judge)
-      (step (boxes demand capacity ∷ []) cost judge) (λ p h. not-in h) (told .chain) .1
+      let told = ran (next (soft-exchange-search measures cost) judge) limit (record { now = lent; ahead = [] }) in
+      chain-map (Permitted tail-exchange checks) (λ s. s .now) (Among measures cost judge) (step measures cost judge) (λ p h. not-in h) (told .chain) .1
 
-  pub soft-exchange-kept : Kept checks lent (soft-exchange-run c demand limits capacity depot floor limit lent .last .now)
+  pub soft-exchange-kept : Kept checks lent (outcome .last .now)
   soft-exchange-kept =
       chain-keeps (Kept checks) (kept-same checks) (λ x y z r k. kept-on checks x y z (permitted-keeps tail-exchange checks x y r) k) soft-exchange-chain
 
   -- every total over the visits of all lists, and so the same offices
-  pub soft-exchange-same : (f : ℕ → ℕ) → total (total f) (soft-exchange-run c demand limits capacity depot floor limit lent .last .now) ≡ total (total f) lent
+  pub soft-exchange-same : (f : ℕ → ℕ) → total (total f) (outcome .last .now) ≡ total (total f) lent
   soft-exchange-same f = soft-exchange-kept .sums f
 
   -- a list that met the capacity is within it
-  pub soft-exchange-loads : (r : ℕ) → load (boxes demand capacity) (getD lent r []) ≤ boxes demand capacity .capacity
-      → load (boxes demand capacity) (getD (soft-exchange-run c demand limits capacity depot floor limit lent .last .now) r []) ≤ boxes demand capacity .capacity
+  pub soft-exchange-loads : (r : ℕ) → total (boxesAt demand) (getD lent r []) ≤ natAbs capacity
+      → total (boxesAt demand) (getD (outcome .last .now) r []) ≤ natAbs capacity
   soft-exchange-loads r h = soft-exchange-kept .loads (boxes demand capacity) here r h
 
   -- stopped exactly at the limit
-  pub soft-exchange-stops : let r = soft-exchange-run c demand limits capacity depot floor limit lent in r .word ≡ stopped → r .moves ≡ limit
+  pub soft-exchange-stops : outcome .word ≡ stopped → outcome .moves ≡ limit
   unfolding soft-exchange-run
   soft-exchange-stops w =
       let cost = effectiveCost c limits depot in
       ran (next (soft-exchange-search (boxes demand capacity ∷ []) cost) (soft-exchange-judge cost floor)) limit (record { now = lent; ahead = [] }) .stops w .0
+
+  -- all of this as the entries state it, the planner's dropping of empty lists included
+  pub soft-exchange-always : Always tail-exchange checks limit lent (outcome .last .now) (dropped (outcome .last .now)) (outcome .moves) (outcome .word)
+  soft-exchange-always = record {
+    chain = soft-exchange-chain;
+    dropping = refl;
+    offices = λ x. handed-total (count x) refl tail-exchange (outcome .last .now) ∙ soft-exchange-same (λ v. bit (eqb x v));
+    loads = soft-exchange-kept .loads;
+    stops = soft-exchange-stops;
+  }

@@ -29,42 +29,58 @@ unfolding bestOf
 loop-holds c = (omega arith, refl, refl)
 
 boxes-at-requires : tie.Need-boxes-at-requires Inv-loop μ-loop
-boxes-at-requires c κs = (c .before .before .before .before .before .before .before .before .before .before .before .before .pre .0 .loaded, c .loop-test .taken, c .before .before .before .before .before .before .before .before .before .before .before .before .pre .1 .0 .one-below _ (c .loop-test .taken))
+boxes-at-requires c κs =
+    let start = c .before .before .before .before .before .before .before .before .before .before .before .before in
+    (start .pre .0 .loaded, c .loop-test .taken, start .pre .1 .0 .one-below _ (c .loop-test .taken))
 
 add-head1 : tie.Need-add-head1 Inv-loop μ-loop
 add-head1 c =
-    let small = sum-small _ _ _ (c .before .before .before .before .before .before .before .before .before .before .before .before .before .pre .0 .loaded) (c .before .before .before .before .before .before .before .before .before .before .before .before .before .pre .1 .0 .one-below) (omega (arith, c .before .before .before .before .before .before .before .before .before .before .before .before .before .pre .1 .0 .few)) _ _ _ (c .before .loop-test .taken) (c .before .before .loop .inv .1)
-    (c .boxes-at .ensures) in
+    let at-loop = c .before .before in
+    let start = at-loop .before .before .before .before .before .before .before .before .before .before .before in
+    let small = sum-small _ _ _ (start .pre .0 .loaded) (start .pre .1 .0 .one-below) (omega (arith, start .pre .1 .0 .few)) _ _ _ (c .before .loop-test .taken)
+    (at-loop .loop .inv .1) (c .boxes-at .ensures) in
     omega (arith, small .0, small .1)
 
 add-best-row : tie.Need-add-best-row Inv-loop μ-loop
-add-best-row c = omega (arith, c .before .loop-test .taken, c .before .before .before .before .before .before .before .before .before .before .before .before .before .pre .1 .0 .few)
+add-best-row c =
+    let start = c .before .before .before .before .before .before .before .before .before .before .before .before .before in
+    omega (arith, c .before .loop-test .taken, start .pre .1 .0 .few)
 
 best-row-requires : tie.Need-best-row-requires Inv-loop μ-loop
-best-row-requires c κs = (
-  c .before .before .before .before .before .before .before .before .before .before .before .before .before .pre .0,
-  (
-    (c .before .before .before .before .before .before .before .before .before .before .before .before .before .pre .1 .0, omega (arith, c .before .loop-test .taken)),
-    (c .before .before .before .before .before .before .before .before .before .before .before .before .before .pre .1 .1, load-more _ _ _ _ _ (c .before .loop-test .taken) (c .before .before .loop .inv .1) (c .boxes-at .ensures)),
-  ),
-)
+best-row-requires c κs =
+    let at-loop = c .before .before in
+    let start = at-loop .before .before .before .before .before .before .before .before .before .before .before in (
+      start .pre .0,
+      (
+        (start .pre .1 .0, omega (arith, c .before .loop-test .taken)),
+        (start .pre .1 .1, load-more _ _ _ _ _ (c .before .loop-test .taken) (at-loop .loop .inv .1) (c .boxes-at .ensures)),
+      ),
+    )
 
 add-last : tie.Need-add-last Inv-loop μ-loop
-add-last c = omega (arith, c .before .before .loop-test .taken, c .before .before .before .before .before .before .before .before .before .before .before .before .before .before .pre .1 .0 .few)
+add-last c =
+    let at-loop-test = c .before .before in
+    let start = at-loop-test .before .before .before .before .before .before .before .before .before .before .before .before in
+    omega (arith, at-loop-test .loop-test .taken, start .pre .1 .0 .few)
 
 loop-less : tie.Need-loop-less Inv-loop μ-loop
-loop-less c = omega (arith, c .before .before .loop-test .taken)
+loop-less c =
+    let at-loop-test = c .before .before in
+    omega (arith, at-loop-test .loop-test .taken)
 
 loop-again : tie.Need-loop-again Inv-loop μ-loop
-loop-again c = (
-  omega (arith, c .before .before .loop-test .taken),
-  load-more _ _ _ _ _ (c .before .before .loop-test .taken) (c .before .before .before .loop .inv .1) (c .before .boxes-at .ensures),
-  scan-turn _ _ _ _ _ (omega (arith, c .before .before .loop-test .taken)) (c .best-row .ensures) ∙ c .before .before .before .loop .inv .2,
-)
+loop-again c =
+    let at-loop-test = c .before .before in
+    let at-loop = at-loop-test .before in (
+      omega (arith, at-loop-test .loop-test .taken),
+      load-more _ _ _ _ _ (at-loop-test .loop-test .taken) (at-loop .loop .inv .1) (c .before .boxes-at .ensures),
+      scan-turn _ _ _ _ _ (omega (arith, at-loop-test .loop-test .taken)) (c .best-row .ensures) ∙ at-loop .loop .inv .2,
+    )
 
 returns : tie.Need-returns Inv-loop μ-loop
 returns c =
-    sym (scan-end _ (suc (c .before .loop .last)) (suc (length (c .before .before .before .before .before .before .before .before .before .before .before .before .args .one .now))) _ (omega (arith, c .loop-test .left))) ∙ c .before .loop .inv .2
+    let start = c .before .before .before .before .before .before .before .before .before .before .before .before in
+    sym (scan-end _ (suc (c .before .loop .last)) (suc (length (start .args .one .now))) _ (omega (arith, c .loop-test .left))) ∙ c .before .loop .inv .2
 
 pub best-priced-spec : {M : Type 1} → statement M
 best-priced-spec =

@@ -30,7 +30,9 @@ unfolding bestRow
 loop-holds c = (omega arith, refl, refl)
 
 boxes-at-requires : tie.Need-boxes-at-requires Inv-loop μ-loop
-boxes-at-requires c κs = (c .before .before .before .before .before .before .before .before .before .before .before .pre .0 .loaded, c .loop-test .taken, c .before .before .before .before .before .before .before .before .before .before .before .pre .1 .0 .0 .other-below _ (c .loop-test .taken))
+boxes-at-requires c κs =
+    let start = c .before .before .before .before .before .before .before .before .before .before .before in
+    (start .pre .0 .loaded, c .loop-test .taken, start .pre .1 .0 .0 .other-below _ (c .loop-test .taken))
 
 -- the function's entry
 abbrev start : tie.After-boxes-at Inv-loop μ-loop → tie.Start Inv-loop μ-loop
@@ -61,69 +63,90 @@ add-head2 c =
     omega (arith, small .0, small .1)
 
 add-cut2 : tie.Need-add-cut2 Inv-loop μ-loop
-add-cut2 c = omega (arith, c .before .loop-test .taken, c .before .before .before .before .before .before .before .before .before .before .before .before .pre .1 .0 .0 .few)
+add-cut2 c =
+    let start = c .before .before .before .before .before .before .before .before .before .before .before .before in
+    omega (arith, c .before .loop-test .taken, start .pre .1 .0 .0 .few)
 
 sub-new1 : tie.Need-sub-new1 Inv-loop μ-loop
 sub-new1 c =
+    let start = c .before .before .before .before .before .before .before .before .before .before .before .before .before in
     let small = head2-small (c .before) in
-    omega (arith, small .0, c .before .before .before .before .before .before .before .before .before .before .before .before .before .pre .1 .1 .0 .second-load)
+    omega (arith, small .0, start .pre .1 .1 .0 .second-load)
 
 add-new1 : tie.Need-add-new1 Inv-loop μ-loop
 add-new1 c =
+    let start = c .before .before .before .before .before .before .before .before .before .before .before .before .before in
     let small = head2-small (c .before) in
     let head = head1-small (c .before) in
     let most = one-small (c .before) in
-    omega (arith, small .1, head, most, c .before .before .before .before .before .before .before .before .before .before .before .before .before .pre .1 .1 .0 .second-load)
+    omega (arith, small .1, head, most, start .pre .1 .1 .0 .second-load)
 
 sub-new2 : tie.Need-sub-new2 Inv-loop μ-loop
 sub-new2 c =
-    let head = head1-small (c .before .before) in
-    omega (arith, head, c .before .before .before .before .before .before .before .before .before .before .before .before .before .before .pre .1 .1 .0 .first-load)
+    let at-boxes-at = c .before .before in
+    let start = at-boxes-at .before .before .before .before .before .before .before .before .before .before .before .before in
+    let head = head1-small at-boxes-at in
+    omega (arith, head, start .pre .1 .1 .0 .first-load)
 
 add-new2 : tie.Need-add-new2 Inv-loop μ-loop
 add-new2 c =
-    let small = head2-small (c .before .before) in
-    let most = one-small (c .before .before) in
-    omega (arith, small .0, small .1, most, c .before .before .before .before .before .before .before .before .before .before .before .before .before .before .pre .1 .1 .0 .first-load)
+    let at-boxes-at = c .before .before in
+    let start = at-boxes-at .before .before .before .before .before .before .before .before .before .before .before .before in
+    let small = head2-small at-boxes-at in
+    let most = one-small at-boxes-at in
+    omega (arith, small .0, small .1, most, start .pre .1 .1 .0 .first-load)
 
 consider-requires : tie.Need-consider-requires Inv-loop μ-loop
 consider-requires c κs =
-    let boxes = boxesAt (c .before .before .before .before .before .before .before .before .before .before .before .before .before .before .args .demand .now) in
-    let one = c .before .before .before .before .before .before .before .before .before .before .before .before .before .before .args .one .now in
-    let other = c .before .before .before .before .before .before .before .before .before .before .before .before .before .before .args .other .now in
-    let figured = c .before .before .before .before .before .before .before .before .before .before .before .before .before .before .pre .1 .1 .0 in
-    let cut1 = c .before .before .before .before .before .before .before .before .before .before .before .before .before .before .args .cut1 in
-    let cut2 = c .before .before .before .before .loop .last + 1 in
-    let head2 = load-more _ _ _ _ _ (c .before .before .before .loop-test .taken) (c .before .before .before .before .loop .inv .1) (c .before .before .boxes-at .ensures) in (
-      c .before .before .before .before .before .before .before .before .before .before .before .before .before .before .pre .0,
+    let at-boxes-at = c .before .before in
+    let at-loop-test = at-boxes-at .before in
+    let at-loop = at-loop-test .before in
+    let start = at-loop .before .before .before .before .before .before .before .before .before .before in
+    let boxes = boxesAt (start .args .demand .now) in
+    let one = start .args .one .now in
+    let other = start .args .other .now in
+    let figured = start .pre .1 .1 .0 in
+    let cut1 = start .args .cut1 in
+    let cut2 = at-loop .loop .last + 1 in
+    let head2 = load-more _ _ _ _ _ (at-loop-test .loop-test .taken) (at-loop .loop .inv .1) (at-boxes-at .boxes-at .ensures) in (
+      start .pre .0,
       (
-        (c .before .before .before .before .before .before .before .before .before .before .before .before .before .before .pre .1 .0 .0, c .before .before .before .before .before .before .before .before .before .before .before .before .before .before .pre .1 .0 .1, omega (arith, c .before .before .before .loop-test .taken)),
+        (start .pre .1 .0 .0, start .pre .1 .0 .1, omega (arith, at-loop-test .loop-test .taken)),
         (
           figured,
           (
-            load-joined boxes one other cut1 cut2 _ _ _ (c .before .before .before .before .before .before .before .before .before .before .before .before .before .before .pre .1 .1 .1) head2 (figured .second-load),
-            load-joined boxes other one cut2 cut1 _ _ _ head2 (c .before .before .before .before .before .before .before .before .before .before .before .before .before .before .pre .1 .1 .1) (figured .first-load),
+            load-joined boxes one other cut1 cut2 _ _ _ (start .pre .1 .1 .1) head2 (figured .second-load),
+            load-joined boxes other one cut2 cut1 _ _ _ head2 (start .pre .1 .1 .1) (figured .first-load),
           ),
         ),
       ),
     )
 
 add-last : tie.Need-add-last Inv-loop μ-loop
-add-last c = omega (arith, c .before .before .before .before .loop-test .taken, c .before .before .before .before .before .before .before .before .before .before .before .before .before .before .before .pre .1 .0 .0 .few)
+add-last c =
+    let at-loop-test = c .before .before .before .before in
+    let start = at-loop-test .before .before .before .before .before .before .before .before .before .before .before in
+    omega (arith, at-loop-test .loop-test .taken, start .pre .1 .0 .0 .few)
 
 loop-less : tie.Need-loop-less Inv-loop μ-loop
-loop-less c = omega (arith, c .before .before .before .before .loop-test .taken)
+loop-less c =
+    let at-loop-test = c .before .before .before .before in
+    omega (arith, at-loop-test .loop-test .taken)
 
 loop-again : tie.Need-loop-again Inv-loop μ-loop
-loop-again c = (
-  omega (arith, c .before .before .before .before .loop-test .taken),
-  load-more _ _ _ _ _ (c .before .before .before .before .loop-test .taken) (c .before .before .before .before .before .loop .inv .1) (c .before .before .before .boxes-at .ensures),
-  scan-turn _ _ _ _ _ (omega (arith, c .before .before .before .before .loop-test .taken)) (c .consider .ensures) ∙ c .before .before .before .before .before .loop .inv .2,
-)
+loop-again c =
+    let at-boxes-at = c .before .before .before in
+    let at-loop-test = at-boxes-at .before in
+    let at-loop = at-loop-test .before in (
+      omega (arith, at-loop-test .loop-test .taken),
+      load-more _ _ _ _ _ (at-loop-test .loop-test .taken) (at-loop .loop .inv .1) (at-boxes-at .boxes-at .ensures),
+      scan-turn _ _ _ _ _ (omega (arith, at-loop-test .loop-test .taken)) (c .consider .ensures) ∙ at-loop .loop .inv .2,
+    )
 
 returns : tie.Need-returns Inv-loop μ-loop
 returns c =
-    sym (scan-end _ (suc (c .before .loop .last)) (suc (length (c .before .before .before .before .before .before .before .before .before .before .before .args .other .now))) _ (omega (arith, c .loop-test .left))) ∙ c .before .loop .inv .2
+    let start = c .before .before .before .before .before .before .before .before .before .before .before in
+    sym (scan-end _ (suc (c .before .loop .last)) (suc (length (start .args .other .now))) _ (omega (arith, c .loop-test .left))) ∙ c .before .loop .inv .2
 
 pub best-row-spec : {M : Type 1} → statement M
 best-row-spec =

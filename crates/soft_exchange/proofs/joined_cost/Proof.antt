@@ -29,16 +29,22 @@ part-effective-cost-end c = search needs
 
 effective-cost-requires : tie.Need-effective-cost-requires
 effective-cost-requires c κs =
-    let whole = front (c .before .before .before .before .append-stretch2 .result) (c .before .before .before .before .append-stretch2 .last .0) _
-    (built (c .before .before .before .before .before .before .before .before .before .before .before .before .before .before .before .before .before .before .args .one .now) (c .before .before .before .before .before .before .before .before .before .before .before .before .before .before .before .before .before .before .args .other .now) (c .before .before .before .before .before .before .before .before .before .before .before .before .before .before .before .before .before .before .args .cut1) (c .before .before .before .before .before .before .before .before .before .before .before .before .before .before .before .before .before .before .args .cut2) (c .before .before .before .before .before .before .before .append-stretch .ensures .1 .filled)
-    (c .before .before .before .before .append-stretch2 .ensures .1 .filled)) in
-    (c .before .before .before .before .before .before .before .before .before .before .before .before .before .before .before .before .before .before .pre .0 .0, (c .before .before .before .before .before .before .before .before .before .before .before .before .before .before .before .before .before .before .pre .0 .1, rw whole (visits-joined _ _ _ (c .before .before .before .before .before .before .before .before .before .before .before .before .before .before .before .before .before .before .pre .1 .0) (c .before .before .before .before .before .before .before .before .before .before .before .before .before .before .before .before .before .before .args .cut1) (c .before .before .before .before .before .before .before .before .before .before .before .before .before .before .before .before .before .before .args .cut2) (c .before .before .before .before .before .before .before .before .before .before .before .before .before .before .before .before .before .before .pre .1 .1 .0))))
+    let at-append-stretch2 = c .before .before .before .before in
+    let at-append-stretch = at-append-stretch2 .before .before .before in
+    let start = at-append-stretch .before .before .before .before .before .before .before .before .before .before .before in
+    let whole = front (at-append-stretch2 .append-stretch2 .result) (at-append-stretch2 .append-stretch2 .last .0) _
+    (built (start .args .one .now) (start .args .other .now) (start .args .cut1) (start .args .cut2) (at-append-stretch .append-stretch .ensures .1 .filled)
+    (at-append-stretch2 .append-stretch2 .ensures .1 .filled)) in
+    (start .pre .0 .0, (start .pre .0 .1, rw whole (visits-joined _ _ _ (start .pre .1 .0) (start .args .cut1) (start .args .cut2) (start .pre .1 .1 .0))))
 
 returns : tie.Need-returns
 returns c =
-    let whole = front (c .before .before .before .before .before .append-stretch2 .result) (c .before .before .before .before .before .append-stretch2 .last .0) _
-    (built (c .before .before .before .before .before .before .before .before .before .before .before .before .before .before .before .before .before .before .before .args .one .now) (c .before .before .before .before .before .before .before .before .before .before .before .before .before .before .before .before .before .before .before .args .other .now) (c .before .before .before .before .before .before .before .before .before .before .before .before .before .before .before .before .before .before .before .args .cut1) (c .before .before .before .before .before .before .before .before .before .before .before .before .before .before .before .before .before .before .before .args .cut2) (c .before .before .before .before .before .before .before .before .append-stretch .ensures .1 .filled)
-    (c .before .before .before .before .before .append-stretch2 .ensures .1 .filled)) in
+    let at-append-stretch2 = c .before .before .before .before .before in
+    let at-append-stretch = at-append-stretch2 .before .before .before in
+    let start = at-append-stretch .before .before .before .before .before .before .before .before .before .before .before in
+    let whole = front (at-append-stretch2 .append-stretch2 .result) (at-append-stretch2 .append-stretch2 .last .0) _
+    (built (start .args .one .now) (start .args .other .now) (start .args .cut1) (start .args .cut2) (at-append-stretch .append-stretch .ensures .1 .filled)
+    (at-append-stretch2 .append-stretch2 .ensures .1 .filled)) in
     c .effective-cost .ensures ∙ ap (effectiveCost _ _ _) whole
 
 pub joined-cost-spec : {M : Type 1} → statement M
