@@ -96,14 +96,14 @@ module _ (c : Columns) (demand : List ℤ) (t : Terms) where
           let out : lt delta (best .delta) ≡ false = ap (λ (x : Float). lt x (best .delta)) (sym same-delta) ∙ h in
           other _ _ _ _ (left-out (lt delta (best .delta)) (rooms && priced (costIn c t) X Y) out) refl
 
-      pub taken-up : (load1 load2 : ℕ) → load1 ≡ total (boxesAt demand) newX → load1 ≤ t .capacity → load2 ≡ total (boxesAt demand) newY
-          → load2 ≤ t .capacity → lt (new1 ⊕ new2 ⊖ f .cost1 ⊖ f .cost2) (best .delta) ≡ true
+      pub taken-up : priced (costIn c t) X Y ≡ true → (load1 load2 : ℕ) → load1 ≡ total (boxesAt demand) newX → load1 ≤ t .capacity
+          → load2 ≡ total (boxesAt demand) newY → load2 ≤ t .capacity → lt (new1 ⊕ new2 ⊖ f .cost1 ⊖ f .cost2) (best .delta) ≡ true
           → record { cut1 = cut1; cut2 = cut2; delta = new1 ⊕ new2 ⊖ f .cost1 ⊖ f .cost2 } ≡ better c demand t X Y cut1 cut2 best
       unfolding better
-      taken-up load1 load2 d1 h1 d2 h2 h =
+      taken-up both-priced load1 load2 d1 h1 d2 h2 h =
           let under : lt delta (best .delta) ≡ true = ap (λ (x : Float). lt x (best .delta)) (sym same-delta) ∙ h in
           let both = and-both (room (measuresFor demand t) newX) (room (measuresFor demand t) newY) (within newX load1 d1 h1) (within newY load2 d2 h2) in
-          let pass = and-both rooms (priced (costIn c t) X Y) both (figured .both-priced) in
+          let pass = and-both rooms (priced (costIn c t) X Y) both both-priced in
           picked _ _ _ _ (and-both (lt delta (best .delta)) (rooms && priced (costIn c t) X Y) under pass)
           (ap (λ (x : Float). record { cut1 = cut1; cut2 = cut2; delta = x }) same-delta)
 

@@ -1,7 +1,7 @@
 -- Soft tail exchange as its functions state it: what stays the same over a run, what is known of a pair, the best exchange so far, and the next move.
 -- For src/; the engine's own definition is in SoftExchange.antt, and places and moves are those of `exchange`. Assumes nothing.
 use mathlib.Core.Path.{_≡_}
-use mathlib.Core.Bool.{true, cond, _&&_}
+use mathlib.Core.Bool.{cond, _&&_}
 use mathlib.Core.Option.{Option}
 use mathlib.Core.List.{List, [], _∷_}
 use Prim.Native.Nat.{ℕ, suc, _<_}
@@ -45,13 +45,12 @@ pub record Asked (c : Columns) (demand : List ℤ) (t : Terms) : Type 0 where
   pub loaded : Loaded (c .l) demand
   pub depot-there : t .depot < c .l
 
--- the loads and the costs of two lists as they are, where both have a price
+-- the loads and the costs of two lists as they are
 pub record Figured (c : Columns) (demand : List ℤ) (t : Terms) (X Y : List ℕ) (f : Figures) : Type 0 where
   pub first-load : f .load1 ≡ total (boxesAt demand) X
   pub second-load : f .load2 ≡ total (boxesAt demand) Y
   pub first-cost : f .cost1 ≡ costIn c t X
   pub second-cost : f .cost2 ≡ costIn c t Y
-  pub both-priced : priced (costIn c t) X Y ≡ true
 
 -- ---- the best exchange of two lists
 

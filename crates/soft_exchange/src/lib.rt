@@ -37,8 +37,8 @@ ghost use Rattle.descent.specs.Search.{run};
 ghost use Rattle.engine.specs.Engine.{endedAs};
 ghost use Rattle.exchange.specs.Boxes.{boxesAt, Loaded};
 ghost use Rattle.exchange.specs.Exchange.{Held, Two, pairAt, movedBy, from, InSweep, leads, Apt};
-ghost use Rattle.soft_exchange.specs.SoftExchange.{soft-exchange-run};
-ghost use Rattle.soft_exchange.specs.Parts.{Asked, Figured, better, bestRow, bestOf, takenAt, firstAt, nextOf};
+ghost use Rattle.soft_exchange.specs.SoftExchange.{priced, soft-exchange-run};
+ghost use Rattle.soft_exchange.specs.Parts.{costIn, Asked, Figured, better, bestRow, bestOf, takenAt, firstAt, nextOf};
 
 // What stays the same over a run: worked out once, before the first move.
 pub struct Terms {
@@ -126,6 +126,7 @@ fn consider(
     requires { ⌜ Asked (columnsAt (terms .l) flags service ready due penalty distances times) (now demand) terms ⌝ }
     requires { ⌜ Two (terms .l) (now one) (now other) × (cut1 ≤ length (now one)) × (cut2 ≤ length (now other)) ⌝ }
     requires { ⌜ Figured (columnsAt (terms .l) flags service ready due penalty distances times) (now demand) terms (now one) (now other) figures ⌝ }
+    requires { ⌜ priced (costIn (columnsAt (terms .l) flags service ready due penalty distances times) terms) (now one) (now other) ≡ true ⌝ }
     requires { ⌜ (load1 ≡ total (boxesAt (now demand)) (joined (now one) cut1 (now other) cut2))
         × (load2 ≡ total (boxesAt (now demand)) (joined (now other) cut2 (now one) cut1)) ⌝ }
     ensures { λ r.
@@ -197,6 +198,7 @@ fn best_row(
     requires { ⌜ Asked (columnsAt (terms .l) flags service ready due penalty distances times) (now demand) terms ⌝ }
     requires { ⌜ Two (terms .l) (now one) (now other) × (cut1 ≤ length (now one)) ⌝ }
     requires { ⌜ Figured (columnsAt (terms .l) flags service ready due penalty distances times) (now demand) terms (now one) (now other) figures ⌝ }
+    requires { ⌜ priced (costIn (columnsAt (terms .l) flags service ready due penalty distances times) terms) (now one) (now other) ≡ true ⌝ }
     requires { ⌜ head1 ≡ total (boxesAt (now demand)) (take cut1 (now one)) ⌝ }
     ensures { λ r.
         ⌜ r ≡ bestRow
@@ -253,6 +255,7 @@ fn best_priced(
     requires { ⌜ Asked (columnsAt (terms .l) flags service ready due penalty distances times) (now demand) terms ⌝ }
     requires { ⌜ Two (terms .l) (now one) (now other) ⌝ }
     requires { ⌜ Figured (columnsAt (terms .l) flags service ready due penalty distances times) (now demand) terms (now one) (now other) figures ⌝ }
+    requires { ⌜ priced (costIn (columnsAt (terms .l) flags service ready due penalty distances times) terms) (now one) (now other) ≡ true ⌝ }
     ensures { λ r.
         ⌜ r ≡ bestOf
         (columnsAt (terms .l) (flags .entry) (service .entry) (ready .entry) (due .entry) (penalty .entry) (distances .entry) (times .entry))
@@ -289,6 +292,63 @@ fn best_priced(
     best
 }
 
+// What two lists load and cost.
+fn figures_of(
+    flags: &[u8],
+    demand: &[i32],
+    service: &[f64],
+    ready: &[f64],
+    due: &[f64],
+    penalty: &[f64],
+    distances: &[f64],
+    times: &[f64],
+    terms: Terms,
+    one: &[u16],
+    other: &[u16],
+) -> Figures
+    requires { ⌜ Asked (columnsAt (terms .l) flags service ready due penalty distances times) (now demand) terms ⌝ }
+    requires { ⌜ Two (terms .l) (now one) (now other) ⌝ }
+    ensures { λ r.
+        ⌜ Figured
+        (columnsAt (terms .l) (flags .entry) (service .entry) (ready .entry) (due .entry) (penalty .entry) (distances .entry) (times .entry))
+        (now (demand .entry)) terms (now (one .entry)) (now (other .entry)) r ⌝ }
+{
+    let cost1 = effective_cost(
+        terms.l,
+        flags,
+        service,
+        ready,
+        due,
+        penalty,
+        distances,
+        times,
+        terms.limits,
+        terms.depot,
+        one,
+    );
+    let cost2 = effective_cost(
+        terms.l,
+        flags,
+        service,
+        ready,
+        due,
+        penalty,
+        distances,
+        times,
+        terms.limits,
+        terms.depot,
+        other,
+    );
+    let load1 = load_of(terms.l, demand, one);
+    let load2 = load_of(terms.l, demand, other);
+    Figures {
+        load1,
+        load2,
+        cost1,
+        cost2,
+    }
+}
+
 // The first least of all exchanges of two lists; none where a list has no price.
 fn best_exchange(
     flags: &[u8],
@@ -315,46 +375,25 @@ fn best_exchange(
         cut2: 0,
         delta: -terms.floor,
     };
-    let cost1 = effective_cost(
-        terms.l,
+    let figures = figures_of(
         flags,
+        demand,
         service,
         ready,
         due,
         penalty,
         distances,
         times,
-        terms.limits,
-        terms.depot,
+        terms,
         one,
-    );
-    if !is_finite(cost1) {
-        return nothing;
-    }
-    let cost2 = effective_cost(
-        terms.l,
-        flags,
-        service,
-        ready,
-        due,
-        penalty,
-        distances,
-        times,
-        terms.limits,
-        terms.depot,
         other,
     );
-    if !is_finite(cost2) {
+    if !is_finite(figures.cost1) {
         return nothing;
     }
-    let load1 = load_of(terms.l, demand, one);
-    let load2 = load_of(terms.l, demand, other);
-    let figures = Figures {
-        load1,
-        load2,
-        cost1,
-        cost2,
-    };
+    if !is_finite(figures.cost2) {
+        return nothing;
+    }
     best_priced(
         flags,
         demand,

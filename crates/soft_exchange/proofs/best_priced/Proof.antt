@@ -53,7 +53,7 @@ best-row-requires c κs =
       start .pre .0,
       (
         (start .pre .1 .0, omega (arith, c .before .loop-test .taken)),
-        (start .pre .1 .1, load-more _ _ _ _ _ (c .before .loop-test .taken) (at-loop .loop .inv .1) (c .boxes-at .ensures)),
+        (start .pre .1 .1 .0, (start .pre .1 .1 .1, load-more _ _ _ _ _ (c .before .loop-test .taken) (at-loop .loop .inv .1) (c .boxes-at .ensures))),
       ),
     )
 

@@ -49,7 +49,8 @@ head2-small c =
 
 -- and so is the first
 head1-small : (c : tie.After-boxes-at Inv-loop μ-loop) → start c .args .head1 ≤ total (boxesAt (start c .args .demand .now)) (start c .args .one .now)
-head1-small c = head-small (boxesAt (start c .args .demand .now)) (start c .args .cut1) (start c .args .one .now) (start c .args .head1) (start c .pre .1 .1 .1)
+head1-small c =
+    head-small (boxesAt (start c .args .demand .now)) (start c .args .cut1) (start c .args .one .now) (start c .args .head1) (start c .pre .1 .1 .1 .1)
 
 one-small : (c : tie.After-boxes-at Inv-loop μ-loop) → total (boxesAt (start c .args .demand .now)) (start c .args .one .now) ≤ 63000000
 one-small c =
@@ -115,8 +116,11 @@ consider-requires c κs =
         (
           figured,
           (
-            load-joined boxes one other cut1 cut2 _ _ _ (start .pre .1 .1 .1) head2 (figured .second-load),
-            load-joined boxes other one cut2 cut1 _ _ _ head2 (start .pre .1 .1 .1) (figured .first-load),
+            start .pre .1 .1 .1 .0,
+            (
+              load-joined boxes one other cut1 cut2 _ _ _ (start .pre .1 .1 .1 .1) head2 (figured .second-load),
+              load-joined boxes other one cut2 cut1 _ _ _ head2 (start .pre .1 .1 .1 .1) (figured .first-load),
+            ),
           ),
         ),
       ),

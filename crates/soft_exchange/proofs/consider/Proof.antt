@@ -7,12 +7,12 @@ use Rattle.soft_exchange.proofs.consider.Tie as tie
 returns : tie.Need-returns
 returns c =
     let start = c .before .before .before .before .before .before .before .before .before .before .before in
-    stays-first-load _ _ (start .args .terms) _ _ _ _ _ _ (start .pre .1 .1 .1 .0) (c .if1 .taken)
+    stays-first-load _ _ (start .args .terms) _ _ _ _ _ _ (start .pre .1 .1 .1 .1 .0) (c .if1 .taken)
 
 returns-2 : tie.Need-returns-2
 returns-2 c =
     let start = c .before .before .before .before .before .before .before .before .before .before .before .before .before in
-    stays-second-load _ _ (start .args .terms) _ _ _ _ _ _ (start .pre .1 .1 .1 .1) (c .if2 .taken)
+    stays-second-load _ _ (start .args .terms) _ _ _ _ _ _ (start .pre .1 .1 .1 .1 .1) (c .if2 .taken)
 
 joined-cost-requires : tie.Need-joined-cost-requires
 joined-cost-requires c κs =
@@ -32,7 +32,8 @@ returns-3 c =
     let at-if1 = at-if2 .before .before in
     let start = at-if1 .before .before .before .before .before .before .before .before .before .before .before in
     taken-up _ _ (start .args .terms) _ _ _ _ _ (start .args .figures) (start .pre .1 .1 .0) _ _ (at-joined-cost .joined-cost .ensures)
-    (at-joined-cost2 .joined-cost2 .ensures) _ _ (start .pre .1 .1 .1 .0) (at-if1 .if1 .left) (start .pre .1 .1 .1 .1) (at-if2 .if2 .left) (c .if3 .taken)
+    (at-joined-cost2 .joined-cost2 .ensures) (start .pre .1 .1 .1 .0) _ _ (start .pre .1 .1 .1 .1 .0) (at-if1 .if1 .left)
+    (start .pre .1 .1 .1 .1 .1) (at-if2 .if2 .left) (c .if3 .taken)
 
 returns-4 : tie.Need-returns-4
 returns-4 c =
