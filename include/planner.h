@@ -108,6 +108,16 @@ uint8_t planner_or_opt_improve(PLANNER_DAY, struct planner_van van, PLANNER_CHAN
 uint8_t planner_three_opt_improve(PLANNER_DAY, struct planner_van van, PLANNER_CHANGED_LIST, uint32_t limit,
                                   uint8_t *settled, uint32_t *moves, double *distance);
 
+/* All lists, changed in place with their lengths. */
+#define PLANNER_ALL_LISTS                       \
+    uint16_t *visits, size_t visits_count,      \
+    uint16_t *lengths, size_t lengths_count
+
+/* Tail exchange between all lists, by at most limit moves; settled and moves as above. With two lists or more the empty ones
+ * are dropped at the end: the others keep their order, remaining says how many they are, and behind them lengths has 0. */
+uint8_t planner_exchange_improve(PLANNER_DAY, struct planner_van van, PLANNER_ALL_LISTS, uint32_t limit,
+                                 uint8_t *settled, uint32_t *moves, size_t *remaining);
+
 /* What is worked out of day and van before the first move: the largest distance, the least gain that counts (1e-12 times
  * that), whether each distance equals its mirror (1 or 0), the van's fixed cost in distance, and the number of depots.
  * Refusals 1 to 7. */

@@ -105,6 +105,42 @@ fn within_line(call: &Call, lent: &Lent, refusal: u8, settled: u8, moves: u32, d
     format!("{word} {moves} {} [{}]", hex(distance), joined(&lent.visits[start..end]))
 }
 
+/// A run that changes all lists, on a copy of what is lent.
+macro_rules! across {
+    ($name:ident, $call:expr $(, $more:expr)*) => {{
+        let mut lent = $call.lent.clone();
+        let mut settled = UNWRITTEN_BYTE;
+        let mut moves = UNWRITTEN_COUNT;
+        let mut remaining = UNWRITTEN_SIZE;
+        let refusal = call!($name, lent, $call.van, lent.visits.as_mut_ptr(), lent.visits.len(), lent.lengths.as_mut_ptr(),
+            lent.lengths.len(), limit_of($call.run) $(, $more)*, &mut settled, &mut moves, &mut remaining);
+        across_line($call, &lent, refusal, settled, moves, remaining)
+    }};
+}
+
+/// The line of a run that changed all lists: the lengths behind those that remain have to be 0.
+fn across_line(call: &Call, lent: &Lent, refusal: u8, settled: u8, moves: u32, remaining: usize) -> String {
+    if refusal != 0 {
+        let nothing = settled == UNWRITTEN_BYTE && moves == UNWRITTEN_COUNT && remaining == UNWRITTEN_SIZE;
+        return refused(refusal, nothing && untouched(lent, call.lent));
+    }
+    let mut others = lent.clone();
+    others.visits = call.lent.visits.clone();
+    others.lengths = call.lent.lengths.clone();
+    if !untouched(&others, call.lent) || remaining > lent.lengths.len() || lent.lengths[remaining..].iter().any(|n| *n != 0) {
+        return "left the tables wrong".to_string();
+    }
+    let mut start = 0;
+    let mut lists = Vec::new();
+    for n in &lent.lengths[..remaining] {
+        let end = start + *n as usize;
+        lists.push(joined(lent.visits.get(start..end).unwrap_or(&[])));
+        start = end;
+    }
+    let word = ["stopped", "settled"].get(settled as usize).copied().unwrap_or("no word");
+    format!("{word} {moves} [{}] {remaining}", lists.join("|"))
+}
+
 /// Visits as the reference prints them.
 fn joined(visits: &[u16]) -> String {
     visits.iter().map(u16::to_string).collect::<Vec<_>>().join(",")
@@ -121,6 +157,7 @@ fn answer(call: &Call) -> String {
         "two_opt" => within!(planner_two_opt_improve, call),
         "or_opt" => within!(planner_or_opt_improve, call),
         "three_opt" => within!(planner_three_opt_improve, call),
+        "exchange" => across!(planner_exchange_improve, call),
         _ => "unknown".to_string(),
     }
 }

@@ -88,6 +88,11 @@ exports! {
         limit: u32, settled: *mut u8, moves: *mut u32, distance: *mut f64);
 }
 
+exports! {
+    planner_exchange_improve(visits: *mut u16, visits_count: usize, lengths: *mut u16, lengths_count: usize, limit: u32,
+        settled: *mut u8, moves: *mut u32, remaining: *mut usize);
+}
+
 /// Calls one of `exports!`.
 #[macro_export]
 macro_rules! call {

@@ -23,6 +23,8 @@ use Rattle.engine.specs.Engine.{checksOf, mapOf}
 use Rattle.exchange.specs.Boxes.{boxes}
 use Rattle.planner.specs.declared.improve.Improved.{Improved}
 use Rattle.planner.specs.declared.improve.Improved.the-variants as improved
+use Rattle.planner.specs.declared.rearrange.Rearranged.{Rearranged}
+use Rattle.planner.specs.declared.rearrange.Rearranged.the-variants as rearranged
 
 -- 00, demand 3: 'whole distances up to 16,777,216, zero from the van's depot to itself, a fixed cost worth a whole distance in that range and no soft window'
 pub record WholeDay (d : Day) (van : Van) : Type 0 where
@@ -55,3 +57,15 @@ abbrev pub reported : Improved → Option Report
 reported (improved.Refused n) = none
 reported (improved.Settled moves distance) = some (record { word = settled; moves = moves })
 reported (improved.Stopped moves distance) = some (record { word = stopped; moves = moves })
+
+-- and in an answer across lists
+abbrev pub reportedOver : Rearranged → Option Report
+reportedOver (rearranged.Refused n) = none
+reportedOver (rearranged.Settled moves remaining) = some (record { word = settled; moves = moves })
+reportedOver (rearranged.Stopped moves remaining) = some (record { word = stopped; moves = moves })
+
+-- how many lists it says remain
+abbrev pub remainingIn : Rearranged → ℕ
+remainingIn (rearranged.Refused n) = 0
+remainingIn (rearranged.Settled moves remaining) = remaining
+remainingIn (rearranged.Stopped moves remaining) = remaining

@@ -6,6 +6,8 @@ use Rattle.planner.specs.declared.table.Table.{Table}
 use Rattle.planner.specs.declared.table.Table.the-variants as table
 use Rattle.planner.specs.declared.improve.Improved.{Improved}
 use Rattle.planner.specs.declared.improve.Improved.the-variants as improved
+use Rattle.planner.specs.declared.rearrange.Rearranged.{Rearranged}
+use Rattle.planner.specs.declared.rearrange.Rearranged.the-variants as rearranged
 use Rattle.planner.specs.declared.check.Distance.{Distance}
 use Rattle.planner.specs.declared.check.Distance.the-variants as distance
 use Rattle.planner.specs.declared.check.Feasibility.{Feasibility}
@@ -42,6 +44,32 @@ unfoldable pub endDistanceIn : Improved → Float → Float
 endDistanceIn (improved.Refused n) before = before
 endDistanceIn (improved.Settled moves distance) before = distance
 endDistanceIn (improved.Stopped moves distance) before = distance
+
+-- ---- relocate_improve, exchange_improve
+
+-- the refusal's number, else 0
+unfoldable pub rearrangeCode : Rearranged → ℕ
+rearrangeCode (rearranged.Refused n) = n
+rearrangeCode (rearranged.Settled moves remaining) = 0
+rearrangeCode (rearranged.Stopped moves remaining) = 0
+
+-- 1 where the run settled, 0 where it stopped
+unfoldable pub overSettledIn : Rearranged → ℕ → ℕ
+overSettledIn (rearranged.Refused n) before = before
+overSettledIn (rearranged.Settled moves remaining) before = 1
+overSettledIn (rearranged.Stopped moves remaining) before = 0
+
+-- the moves made
+unfoldable pub overMovesIn : Rearranged → ℕ → ℕ
+overMovesIn (rearranged.Refused n) before = before
+overMovesIn (rearranged.Settled moves remaining) before = moves
+overMovesIn (rearranged.Stopped moves remaining) before = moves
+
+-- how many lists remain
+unfoldable pub remainingWritten : Rearranged → ℕ → ℕ
+remainingWritten (rearranged.Refused n) before = before
+remainingWritten (rearranged.Settled moves remaining) before = remaining
+remainingWritten (rearranged.Stopped moves remaining) before = remaining
 
 -- ---- route_distance
 
