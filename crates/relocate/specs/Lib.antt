@@ -1,2 +1,3 @@
 pub mod Scan
+pub mod Cache
 pub mod Relocate

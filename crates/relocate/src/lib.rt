@@ -4,6 +4,8 @@
 //
 // The Rust keeps the best move of every pair of lists; here each move is found by a whole scan, which is the definition. A candidate list is built and
 // walked only where its delta is below the best so far.
+pub mod cache;
+
 use day::matrix::scale;
 use day::vehicle::RouteLimits;
 use deltas::insertion_delta;
