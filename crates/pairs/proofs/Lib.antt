@@ -1,1 +1,3 @@
 pub mod Scanning
+pub mod Order
+pub mod Rows
