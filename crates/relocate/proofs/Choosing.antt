@@ -34,13 +34,14 @@ use Rattle.descent.proofs.Loops.{range-step, range-done}
 use Rattle.deltas.specs.Deltas.{stopAt, removalDelta, insertionDelta, relocateDelta}
 use Rattle.deltas.proofs.Stops.{getD-any}
 use Rattle.engine.specs.Engine.{passing}
-use Rattle.relocate.specs.Scan.{onward, figure, Counted}
+use Rattle.pairs.specs.Scan.{onward, figure, Counted}
 use Rattle.relocate.specs.Relocate.{boxesOf, Held, Prepared, searchOf, judgeOf, bound, intoList, ofVisit, ofList, inserted}
-use Rattle.relocate.specs.Relocate.{moveOf, taken-at, offerDelta, better, bestAmong, scan, Best, Scanned}
+use Rattle.relocate.specs.Relocate.{taken-at, offerDelta, better, bestAmong, scan, Best, Scanned}
 use Rattle.relocate.specs.declared.Setup.{Setup}
 use Rattle.relocate.specs.declared.Offer.{Offer}
-use Rattle.relocate.specs.declared.Choice.{Choice}
-use Rattle.relocate.proofs.Scanning.{onward-better, counted-better, onward-stays, onward-end, onward-append, onward-none}
+use Rattle.pairs.specs.declared.Choice.{Choice}
+use Rattle.pairs.specs.Pairs.{moveOf}
+use Rattle.pairs.proofs.Scanning.{onward-better, counted-better, onward-stays, onward-end, onward-append, onward-none}
 
 -- ---- a list with a visit put in
 

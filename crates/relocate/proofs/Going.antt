@@ -25,9 +25,10 @@ use Rattle.deltas.specs.Judged.{float-judge}
 use Rattle.engine.specs.Engine.{checksOf, mapOf, endedAs}
 use Rattle.engine.specs.declared.Ended.{Ended}
 use Rattle.engine.specs.declared.Ended.the-variants.{Settled, Stopped}
-use Rattle.relocate.specs.Relocate.{measureOf, boxes, Held, searchOf, judgeOf, moveOf}
+use Rattle.relocate.specs.Relocate.{measureOf, boxes, Held, searchOf, judgeOf}
 use Rattle.relocate.specs.declared.Setup.{Setup}
-use Rattle.relocate.specs.declared.Choice.{Choice}
+use Rattle.pairs.specs.declared.Choice.{Choice}
+use Rattle.pairs.specs.Pairs.{moveOf}
 
 -- the run that `relocate_improve` answers
 abbrev pub outcome : Columns → List ℤ → RouteLimits → ℤ → Float → ℕ → ℕ → List (List ℕ) → Outcome (Sweep (List (List ℕ)) Unit)

@@ -24,10 +24,11 @@ use Rattle.descent.specs.Engines.{search-of}
 use Rattle.deltas.specs.Deltas.{insertionDelta}
 use Rattle.deltas.specs.Judged.{float-judge}
 use Rattle.engine.specs.Engine.{passing, checksOf, mapOf}
-use Rattle.relocate.specs.Scan.{onward, figure, Counted}
+use Rattle.pairs.specs.Scan.{onward, figure, Counted}
+use Rattle.pairs.specs.Pairs.{moveOf}
+use Rattle.pairs.specs.declared.Choice.{Choice}
 use Rattle.relocate.specs.declared.Setup.{Setup}
 use Rattle.relocate.specs.declared.Offer.{Offer}
-use Rattle.relocate.specs.declared.Choice.{Choice}
 
 -- ---- boxes
 
@@ -95,13 +96,6 @@ abbrev pub inserted : List ℕ → ℕ → ℕ → List ℕ
 inserted list visit place = take place list ++ visit ∷ drop place list
 
 -- ---- the best so far
-
--- the move that a choice says
-unfoldable pub moveOf : Choice → Option Relocation
-moveOf b = elim (b .found) [
-  | true ↦ some (record { from = b .from; position = b .position; to = b .to; place = b .place })
-  | false ↦ none
-]
 
 -- an offer, taken at a place
 abbrev pub taken-at : Offer → ℕ → Float → Choice

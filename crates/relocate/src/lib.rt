@@ -19,6 +19,7 @@ use lists::length_of;
 use lists::list_of;
 use lists::move_visit;
 use numbers::gain_floor;
+use pairs::Choice;
 ghost use mathlib.Core.Path.{_≡_};
 ghost use mathlib.Core.Logic.{_⊎_, _≢_};
 ghost use mathlib.Core.Bool.{true, false};
@@ -36,9 +37,10 @@ ghost use Rattle.descent.specs.Permitted.{relocate};
 ghost use Rattle.descent.specs.Search.{taken};
 ghost use Rattle.descent.specs.Engines.{run-of};
 ghost use Rattle.deltas.specs.Judged.{float-judge};
+ghost use Rattle.pairs.specs.Pairs.{moveOf};
 ghost use Rattle.engine.specs.Engine.{passing, checksOf, mapOf, endedAs};
 ghost use Rattle.relocate.specs.Relocate.{boxesOf, boxes, measureOf, Boxed, Held, Prepared, searchOf, judgeOf};
-ghost use Rattle.relocate.specs.Relocate.{intoList, ofVisit, ofList, inserted, moveOf, better, bestAmong, Best, Scanned};
+ghost use Rattle.relocate.specs.Relocate.{intoList, ofVisit, ofList, inserted, better, bestAmong, Best, Scanned};
 
 // What is worked out once before the first move.
 pub struct Setup {
@@ -62,16 +64,6 @@ pub struct Offer {
     pub to: usize,
     pub visit: u16,
     pub removal: f64,
-}
-
-// The best move so far with its delta; while none is found, minus the floor.
-pub struct Choice {
-    pub found: bool,
-    pub from: usize,
-    pub position: usize,
-    pub to: usize,
-    pub place: usize,
-    pub delta: f64,
 }
 
 // ---- boxes
