@@ -57,14 +57,14 @@ module _ (delta : Relocation → Float) (pass : Relocation → Bool) (bound : Fl
     pub best : Best delta pass bound S (moveOf c)
 
   -- a choice's delta is its move's, which is below the bound; with none it is the bound
-  found-delta : (S : Relocation → Type 0) (c : Choice) → Standing S c → c .found ≡ true → (lt (c .delta) bound ≡ true) × (c .delta ≡ delta (asMove c))
+  pub found-delta : (S : Relocation → Type 0) (c : Choice) → Standing S c → c .found ≡ true → (lt (c .delta) bound ≡ true) × (c .delta ≡ delta (asMove c))
   unfolding figure
   found-delta S c s e =
       let b : Best delta pass bound S (some (asMove c)) = subst (λ (o : Option Relocation). Best delta pass bound S o) (found-move c e) (s .best) in
       let d : c .delta ≡ delta (asMove c) = s .figured ∙ ap (figure delta pass bound) (found-move c e) in
       (ap (λ (x : Float). lt x bound) d ∙ and-parts (lt (delta (asMove c)) bound) (pass (asMove c)) (b .1) .0, d)
 
-  none-delta : (S : Relocation → Type 0) (c : Choice) → Standing S c → c .found ≡ false → c .delta ≡ bound
+  pub none-delta : (S : Relocation → Type 0) (c : Choice) → Standing S c → c .found ≡ false → c .delta ≡ bound
   unfolding figure
   none-delta S c s e = s .figured ∙ ap (figure delta pass bound) (no-move c e)
 

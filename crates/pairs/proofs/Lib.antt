@@ -5,3 +5,4 @@ pub mod Sorted
 pub mod Best
 pub mod Listed
 pub mod Least
+pub mod Kept
