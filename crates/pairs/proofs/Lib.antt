@@ -6,3 +6,4 @@ pub mod Best
 pub mod Listed
 pub mod Least
 pub mod Kept
+pub mod Taken
