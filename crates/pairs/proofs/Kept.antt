@@ -1,24 +1,24 @@
 -- The table is right pair by pair: a search puts a pair's best in and leaves the other entries; row by row this fills the table; and after a move, which
 -- changes two lists, the entries of the pairs without them are right still, and the others are put in again. Assumes nothing.
-use mathlib.Core.Path.{_≡_, refl, sym, ap, ap₂, _∙_, subst}
+use mathlib.Core.Path.{_≡_, refl, sym, ap, _∙_, subst}
 use mathlib.Core.Logic.{_⊎_, inl, inr, _≢_}
-use mathlib.Core.Bool.{Bool, true, false, cond, _&&_}
+use mathlib.Core.Bool.{Bool, true, false}
 use mathlib.Core.Option.{Option, none, some}
-use mathlib.Core.List.{List, [], _∷_}
-use Prim.Native.Nat.{ℕ, suc, _+_, _*_, _≤_, _<_}
+use mathlib.Core.List.{List, []}
+use Prim.Native.Nat.{ℕ, _+_, _≤_, _<_}
 use native.Mathlib.Omega.{arith}
 use native.Mathlib.Decide.{ℕ-discrete}
 use borrow.Author.Tests.{lt-ltb}
-use lib.Dec.{eqb, ltb}
-use lib.ListN.{length, getD, set, length-set}
+use lib.ListN.{length-set}
 use lib.Seq.{getD-set-same, getD-set-other}
 use lib.Ieee.{Float, nan, lt}
 use Rattle.numbers.proofs.Total as Total
 use Rattle.descent.specs.Order.{_∈_}
-use Rattle.descent.specs.Across.{at, Relocation}
+use Rattle.descent.specs.Across.{Relocation}
 use Rattle.descent.proofs.Members.{true-T}
 use Rattle.pairs.specs.Scan.{may, onward, figure}
-use Rattle.pairs.specs.Pairs.{across, between, Short, asMove, moveOf, Table, Sized, slot, entry, narrowed, put, pairBest, IsBest, Stored, RightWhere, Right}
+use Rattle.pairs.specs.Pairs.{between, Short, asMove, moveOf, Table, Sized, slot, entry, narrowed, put}
+use Rattle.pairs.specs.Pairs.{pairBest, IsBest, Stored, RightWhere, Right}
 use Rattle.pairs.specs.Pairs.{Before, Untouched, Renewed, Agree}
 use Rattle.pairs.specs.declared.Choice.{Choice}
 use Rattle.pairs.proofs.Order.{fails, better, same-move}

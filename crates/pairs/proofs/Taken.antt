@@ -2,12 +2,12 @@
 -- comes to by such choices. Assumes nothing.
 use mathlib.Core.Path.{_≡_, refl, sym, ap, _∙_, subst}
 use mathlib.Core.Logic.{_≢_}
-use mathlib.Core.Bool.{Bool, true, false, _&&_}
+use mathlib.Core.Bool.{Bool, true, false}
 use mathlib.Core.Option.{Option, none, some}
 use mathlib.Core.List.{List, [], _∷_}
-use Prim.Native.Nat.{ℕ, _≤_, _<_}
+use Prim.Native.Nat.{ℕ}
 use native.Mathlib.Omega.{arith}
-use lib.ListN.{length, getD, set}
+use lib.ListN.{length, set}
 use lib.Seq.{getD-set-other}
 use lib.Ieee.{Float, lt}
 use Rattle.lists.specs.Table.{Laid, lists}
@@ -19,7 +19,7 @@ use Rattle.descent.specs.Search.{begins-again, Search, Judge, ok, taken, firstM
 use Rattle.descent.specs.Across.{at, Relocation, relocations, relocate-search}
 use Rattle.descent.proofs.Loops.{place-passed, place-moved, next-sweep}
 use Rattle.pairs.specs.Scan.{onward, figure}
-use Rattle.pairs.specs.Pairs.{across, between, Moves, Short, asMove, moveOf, nothing, Table, leastEntry, pairBest, IsBest, Right, Agree}
+use Rattle.pairs.specs.Pairs.{across, Moves, Short, asMove, moveOf, nothing, Table, leastEntry, pairBest, IsBest, Right, Agree}
 use Rattle.pairs.specs.declared.Choice.{Choice}
 use Rattle.pairs.proofs.Scanning.{onward-end, onward-none}
 use Rattle.pairs.proofs.Best.{Best, best-sorted}
@@ -89,7 +89,8 @@ module _ (delta : Relocation → Float) (pass : Relocation → Bool) (bound : Fl
   best-across from to c h e f = record { best = e ∙ ap (onward delta pass bound none) (sym (between-apart ls from to h)); figured = f }
 
   -- where no move across passes there is none
-  pub best-refused : (from to : ℕ) → from ≢ to → ((m : Relocation) → m ∈ across ls from to → pass m ≡ false) → IsBest delta pass bound ls from to (nothing bound)
+  pub best-refused : (from to : ℕ) → from ≢ to → ((m : Relocation) → m ∈ across ls from to → pass m ≡ false)
+      → IsBest delta pass bound ls from to (nothing bound)
   unfolding moveOf figure
   best-refused from to h fails =
       best-across from to (nothing bound) h (sym (onward-none delta pass bound none (across ls from to) fails)) refl

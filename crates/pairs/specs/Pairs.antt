@@ -88,6 +88,7 @@ pub record Table : Type 0 where
   pub positions : List ℕ
   pub places : List ℕ
 
+-- these three
 abbrev pub table : List Float → List ℕ → List ℕ → Table
 table deltas positions places = record { deltas = deltas; positions = positions; places = places }
 
