@@ -5,10 +5,10 @@ use mathlib.Core.Logic.{_≢_}
 use mathlib.Core.List.{List, []}
 use Prim.Native.Nat.{ℕ, zero, suc, _+_, _*_, _≤_, _<_}
 use native.Mathlib.Omega.{arith}
-use native.Mathlib.Decide.{ℕ-discrete}
+use native.Mathlib.Decide.{ℕ-discrete, decLt}
 use native.Mathlib.Numerals.{add-one}
 use lib.Dec.{T}
-use lib.ListN.{length, getD, set, length-set}
+use lib.ListN.{length, getD, set, replicate, length-set, length-replicate}
 use lib.Seq.{getD-set-same, getD-set-other}
 use lib.Ieee.{Float, nan}
 use lib.Ieee.Scale.{finite}
@@ -68,18 +68,46 @@ module _ {A : Type 0} (f : ℕ → A) (r : ℕ) (xs : List A) where
 
 -- ---- what is known
 
+nan-anywhere : (n k : ℕ) → getD (replicate n nan) k nan ≡ nan
+nan-anywhere zero k = refl
+nan-anywhere (suc n) zero = refl
+nan-anywhere (suc n) (suc k) = nan-anywhere n k
+
 module _ (cost : List ℕ → ℕ → ℕ → Float) (n : ℕ) (ls : List (List ℕ)) (figures : List Float) (places : List ℕ) where
   -- whatever is right of a visit and a list
   abbrev Right : List ℕ → ℕ → Least → Type 0
   Right Y v l = T (finite (l .figure)) → LeastAt (cost Y v) (suc (length Y)) (l .figure) (l .place)
 
-  pub nothing-known : n ≤ 64 → length figures ≡ 1024 → length places ≡ 1024 → ((k : ℕ) → getD figures k nan ≡ nan) → Known cost n ls figures places
+  nothing-known : n ≤ 64 → length figures ≡ 1024 → length places ≡ 1024 → ((k : ℕ) → getD figures k nan ≡ nan) → Known cost n ls figures places
   nothing-known few a b h = record {
     few = few;
     figures-long = a;
     places-long = b;
     known = λ v r hv hr f. absurd (rw (h (cell v r)) at f);
   }
+
+  -- as a run starts
+  pub nothing-known-yet : (x : Float) → x ≡ nan → n ≤ 64 → figures ≡ replicate 1024 x → length places ≡ 1024 → Known cost n ls figures places
+  nothing-known-yet x e few is long = nothing-known few (ap length is ∙ length-replicate 1024 x) long
+      (λ k. ap (λ (xs : List Float). getD xs k nan) (is ∙ ap (replicate 1024) e) ∙ nan-anywhere 1024 k)
+
+  -- one figure is forgotten
+  pub forgot : Known cost n ls figures places → (v r : ℕ) → Known cost n ls (set figures (cell v r) nan) places
+  forgot K v r = record {
+    few = K .few;
+    figures-long = simp length-set (K .figures-long);
+    places-long = K .places-long;
+    known = λ u s hu hs. go u s hu hs (ℕ-discrete (cell u s) (cell v r)) (decLt (cell v r) (length figures));
+  }
+    where
+      Then : ℕ → ℕ → Type 0
+      Then u s = T (finite (getD (set figures (cell v r) nan) (cell u s) nan))
+          → LeastAt (cost (getD ls s []) u) (suc (length (getD ls s []))) (getD (set figures (cell v r) nan) (cell u s) nan) (getD places (cell u s) 0)
+
+      go : (u s : ℕ) → u < n → s < 16 → Dec (cell u s ≡ cell v r) → Dec (cell v r < length figures) → Then u s
+      go u s hu hs (yes e) (yes i) = let a = getD-set-same figures (cell v r) nan nan i in rw (e, a) (λ f. absurd f)
+      go u s hu hs (yes e) (no i) = absurd (omega (arith, K .few, K .figures-long))
+      go u s hu hs (no e) d = let a = getD-set-other figures (cell v r) (cell u s) nan nan e in rw a (K .known u s hu hs)
 
   module _ (K : Known cost n ls figures places) (r : ℕ) (hr : r < 16) where
     -- list r is Y now, and its column is right of Y

@@ -4,5 +4,8 @@ pub mod Reached
 pub mod Shifted
 pub mod Cached
 pub mod Choosing
+pub mod Trying
+pub mod Searching
+pub mod Moving
 pub mod Going
 pub mod Claimed

@@ -7,6 +7,7 @@ use mathlib.Core.Logic.{_≢_, _⊎_, inl, inr}
 use Prim.Native.Nat.{ℕ, zero, suc, _+_, _-_, _≤_, _<_}
 use native.Mathlib.Omega.{arith}
 use native.Mathlib.Decide.{ℕ-discrete, decLt}
+use native.Mathlib.Numerals.{add-one}
 use borrow.Author.Tests.{ltb-true, ltb-false, eqb-false}
 use lib.Dec.{T, ltb, eqb}
 use lib.Ieee.{Float, nan, inf, lt, le}
@@ -94,6 +95,18 @@ module _ (cost : ℕ → Float) where
 
   pub scan-reaches : (m : ℕ) → T (finite (leastBelow cost m .figure)) → LeastAt cost m (leastBelow cost m .figure) (leastBelow cost m .place)
   scan-reaches m f = seen m .reached f
+
+-- as a loop scans: none yet, one place more, and all
+pub least-start : (cost : ℕ → Float) (x : Float) → x ≡ inf false → record { figure = x; place = 0 } ≡ leastBelow cost 0
+unfolding leastBelow
+least-start cost x e = rw e
+
+pub least-turn : (cost : ℕ → Float) (k : ℕ) (l r : Least) (x : Float) → l ≡ leastBelow cost k → x ≡ cost k → r ≡ lesser l x k → r ≡ leastBelow cost (k + 1)
+unfolding leastBelow
+least-turn cost k l r x e f g = g ∙ rw (e, f, add-one k)
+
+pub least-end : (cost : ℕ → Float) (k n : ℕ) (l : Least) → l ≡ leastBelow cost k → k ≡ n → l ≡ leastBelow cost n
+least-end cost k n l e h = rw (← h) e
 
 -- ---- one place more
 

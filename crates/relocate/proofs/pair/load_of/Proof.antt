@@ -8,8 +8,8 @@ use lib.Seq.{take-all}
 use Rattle.edits.specs.Total.{total}
 use Rattle.relocate.specs.Relocate.{boxesOf}
 use Rattle.relocate.proofs.Choosing.{load-turn}
-use Rattle.relocate.proofs.load_of.Statement.{statement}
-use Rattle.relocate.proofs.load_of.Tie as tie
+use Rattle.relocate.proofs.pair.load_of.Statement.{statement}
+use Rattle.relocate.proofs.pair.load_of.Tie as tie
 
 abbrev Inv-loop : tie.InvT-loop
 Inv-loop l demand list load₀ i₀ load i =

@@ -6,8 +6,8 @@ use borrow.Author.Tests.{not-true}
 use Rattle.tests.specs.All.{off}
 use Rattle.engine.specs.Engine.{passing}
 use Rattle.relocate.proofs.Choosing.{front, visits-inserted}
-use Rattle.relocate.proofs.candidate_passes.Statement.{statement}
-use Rattle.relocate.proofs.candidate_passes.Tie as tie
+use Rattle.relocate.proofs.pair.candidate_passes.Statement.{statement}
+use Rattle.relocate.proofs.pair.candidate_passes.Tie as tie
 
 returns : tie.Need-returns
 unfolding passing

@@ -8,8 +8,8 @@ use borrow.Author.Needs.{sfits-of}
 use mathlib.Core.Path.{refl}
 use Rattle.relocate.specs.Relocate.{boxesOf}
 use Rattle.relocate.proofs.Choosing.{demand-plain}
-use Rattle.relocate.proofs.boxes_of.Statement.{statement}
-use Rattle.relocate.proofs.boxes_of.Tie as tie
+use Rattle.relocate.proofs.pair.boxes_of.Statement.{statement}
+use Rattle.relocate.proofs.pair.boxes_of.Tie as tie
 
 mul-boxes : tie.Need-mul-boxes
 mul-boxes c = search needs

@@ -2,8 +2,8 @@
 use borrow.Author.Needs.{needs}
 use native.Mathlib.Omega.{arith}
 use Rattle.relocate.proofs.Choosing.{built}
-use Rattle.relocate.proofs.inserted_into.Statement.{statement}
-use Rattle.relocate.proofs.inserted_into.Tie as tie
+use Rattle.relocate.proofs.pair.inserted_into.Statement.{statement}
+use Rattle.relocate.proofs.pair.inserted_into.Tie as tie
 
 append-stretch-requires : tie.Need-append-stretch-requires
 append-stretch-requires c κs = search needs
