@@ -23,7 +23,6 @@ use Rattle.day.specs.Refusal.{demandOk, capacityOk}
 use Rattle.edits.specs.Total.{total, bit, total-append, total-none, total-one, part-le}
 use Rattle.edits.proofs.Cuts.{to-end, lent}
 use Rattle.lists.specs.Table.{sum, lists, listOf}
-use Rattle.lists.specs.Edits.{Relocates}
 use Rattle.lists.proofs.Tables.{at-lists, length-lists, length-list, list-at, start-later, start-within}
 use Rattle.evaluation.specs.Columns.{Columns, Visits}
 use Rattle.descent.specs.Order.{from-on, range, each}
@@ -34,13 +33,14 @@ use Rattle.descent.proofs.Loops.{range-step, range-done}
 use Rattle.deltas.specs.Deltas.{stopAt, removalDelta, insertionDelta, relocateDelta}
 use Rattle.deltas.proofs.Stops.{getD-any}
 use Rattle.engine.specs.Engine.{passing}
-use Rattle.relocate.specs.Scan.{onward, figure, Counted}
-use Rattle.relocate.specs.Relocate.{boxesOf, Held, Prepared, searchOf, judgeOf, bound, intoList, ofVisit, ofList, inserted}
-use Rattle.relocate.specs.Relocate.{moveOf, taken-at, offerDelta, better, bestAmong, scan, Best, Scanned}
-use Rattle.relocate.specs.declared.Setup.{Setup}
-use Rattle.relocate.specs.declared.Offer.{Offer}
-use Rattle.relocate.specs.declared.Choice.{Choice}
-use Rattle.relocate.proofs.Scanning.{onward-better, counted-better, onward-stays, onward-end, onward-append, onward-none}
+use Rattle.pairs.specs.Scan.{onward, figure, Counted}
+use Rattle.relocate.specs.Relocate.{boxesOf, Held, Prepared, searchOf, judgeOf, bound, intoList, inserted}
+use Rattle.relocate.specs.Relocate.{taken-at, offerDelta, better, bestAmong, scan, Best, Scanned}
+use Rattle.relocate.specs.declared.pair.Setup.{Setup}
+use Rattle.relocate.specs.declared.pair.Offer.{Offer}
+use Rattle.pairs.specs.declared.Choice.{Choice}
+use Rattle.pairs.specs.Pairs.{moveOf}
+use Rattle.pairs.proofs.Scanning.{onward-better, counted-better, onward-stays, onward-end, onward-append, onward-none}
 
 -- ---- a list with a visit put in
 
@@ -124,11 +124,6 @@ module _ (l : ℕ) (visits lengths : List ℕ) (held : Held l visits lengths) wh
   pub visit-below : (r k : ℕ) → k < getD lengths r 0 → getD (listOf visits lengths r) k 0 < l
   visit-below r k h = list-visits r .below k (rw (length-list visits lengths (held .laid .add-up) r) h)
 
--- one list isn't among those before it, nor among those behind it
-pub elsewhere : (from first end to : ℕ) → ((end ≤ from) ⊎ (from < first)) → first ≤ to → to < end → from ≢ to
-elsewhere from first end to (inl h) a b e = omega arith
-elsewhere from first end to (inr h) a b e = omega arith
-
 -- ---- one place more, as the code tries it
 
 module _ (c : Columns) (s : Setup) (list : List ℕ) (offer : Offer) (best : Choice) (place : ℕ) where
@@ -180,10 +175,6 @@ module _ (c : Columns) (s : Setup) (list : List ℕ) (offer : Offer) (best : Cho
 
 -- ---- loops
 
-each-append : {A B : Type 0} (f : A → List B) (xs ys : List A) → each (xs ++ ys) f ≡ each xs f ++ each ys f
-each-append f [] ys = refl
-each-append f (x ∷ xs) ys = rw (each-append f xs ys) (sym (append-assoc (f x) (each xs f) (each ys f)))
-
 module _ (c : Columns) (demand : List ℤ) (s : Setup) (visits lengths : List ℕ) where
   -- from here on the scan over what is left comes to the scan over all from the start
   pub record Scanning (left all : List Relocation) (first best : Choice) : Type 0 where
@@ -213,32 +204,6 @@ module _ (c : Columns) (demand : List ℤ) (s : Setup) (visits lengths : List �
           still = w .still;
         }
 
-  -- all visits of a list
-  pub list-start : (add-up : sum lengths ≡ length visits) (from n : ℕ) (best : Choice) → n ≡ getD lengths from 0 → Best c demand s visits lengths best
-      → Scanning (each (range 0 n) (ofVisit (lists visits lengths) from)) (ofList (lists visits lengths) from) best best
-  unfolding ofList
-  list-start add-up from n best e b =
-      rw (at-lists visits lengths from, length-list visits lengths add-up from, e) (scanning-start _ best b)
-
-  -- the lists before the giver, and those behind it
-  pub both-sides : (from position : ℕ) (best before after : Choice)
-      → Scanned c demand s visits lengths (each (range 0 from) (intoList (lists visits lengths) from position)) best before
-      → Scanned c demand s visits lengths (each (range (from + 1) (length lengths)) (intoList (lists visits lengths) from position)) before after
-      → Scanned c demand s visits lengths (ofVisit (lists visits lengths) from position) best after
-  unfolding ofVisit
-  both-sides from position best before after one two =
-      let into = intoList (lists visits lengths) from position in
-      let behind : each (range (from + 1) (length lengths)) into ≡ each (range (suc from) (length (lists visits lengths))) into
-      = rw (add-one from, length-lists visits lengths) in
-      record {
-        scanned = two .scanned
-            ∙ ap (λ (o : Option Relocation). scan c demand s visits lengths o (each (range (from + 1) (length lengths)) into)) (one .scanned)
-            ∙ onward-append _ _ _ (moveOf best) (each (range 0 from) into) (each (range (from + 1) (length lengths)) into)
-            ∙ ap (λ (cs : List Relocation). scan c demand s visits lengths (moveOf best) (each (range 0 from) into ++ cs)) behind
-            ∙ ap (scan c demand s visits lengths (moveOf best)) (sym (each-append into (range 0 from) (range (suc from) (length (lists visits lengths)))));
-        still = two .still;
-      }
-
   -- none is found yet
   pub none-yet : (floor : Float) → Prepared s c → floor ≡ s .floor
       → Best c demand s visits lengths (record { found = false; from = 0; position = 0; to = 0; place = 0; delta = neg floor })
@@ -246,43 +211,31 @@ module _ (c : Columns) (demand : List ℤ) (s : Setup) (visits lengths : List �
   none-yet floor p e = record {
     figured = ap neg (e ∙ p .floor);
     counted = tt;
-    there = λ h. let z : _≡_ {A = ℕ} 0 1 = cc in absurd (omega arith);
   }
 
-  -- the scan over all lists from nothing on is the choice
-  pub all-scanned : (floor : Float) (best : Choice)
-      → Scanned c demand s visits lengths (each (range 0 (length lengths)) (ofList (lists visits lengths)))
-      (record { found = false; from = 0; position = 0; to = 0; place = 0; delta = neg floor }) best
-      → moveOf best ≡ taken (searchOf c demand s) (judgeOf c s) (lists visits lengths) tt
-  unfolding moveOf onward taken ok searchOf judgeOf bound intoList ofVisit ofList
-  all-scanned floor best t = rw (← length-lists visits lengths) at (t .scanned)
-
   -- a candidate that is better is the best now
-  taken-there : (from position to place : ℕ) (delta : Float) (best : Choice)
+  taken-now : (from position to place : ℕ) (delta : Float) (best : Choice)
       → Counted (judgeOf c s .delta (lists visits lengths)) (searchOf c demand s .passes (lists visits lengths)) (bound c) (moveOf best)
       → (lt (judgeOf c s .delta (lists visits lengths) (record { from = from; position = position; to = to; place = place }))
       (figure (judgeOf c s .delta (lists visits lengths)) (searchOf c demand s .passes (lists visits lengths)) (bound c) (moveOf best))
       && searchOf c demand s .passes (lists visits lengths) (record { from = from; position = position; to = to; place = place })) ≡ true
       → delta ≡ judgeOf c s .delta (lists visits lengths) (record { from = from; position = position; to = to; place = place })
-      → Relocates visits lengths from position to place
       → Scanned c demand s visits lengths (record { from = from; position = position; to = to; place = place } ∷ []) best
       (record { found = true; from = from; position = position; to = to; place = place; delta = delta })
   unfolding moveOf figure
-  taken-there from position to place delta best counted tested is-delta there =
+  taken-now from position to place delta best counted tested is-delta =
       let m : Relocation = record { from = from; position = position; to = to; place = place } in
       record {
         scanned = sym (onward-better _ _ _ (moveOf best) m [] counted tested ∙ onward-end _ _ _ (some m));
         still = record {
           figured = is-delta;
           counted = counted-better _ _ _ (moveOf best) m counted tested;
-          there = λ h. there;
         };
       }
 
   -- ---- an offer to a list
 
-  module _ (from position to visit : ℕ) (prepared : Prepared s c) (held : Held (c .l) visits lengths)
-      (gives : from < length lengths) (takes : to < length lengths) (apart : from ≢ to) (visit-there : position < getD lengths from 0)
+  module _ (from position to visit : ℕ) (prepared : Prepared s c) (held : Held (c .l) visits lengths) (visit-there : position < getD lengths from 0)
       (is-visit : visit ≡ getD (listOf visits lengths from) position 0) where
     abbrev X : List ℕ
     X = listOf visits lengths from
@@ -360,15 +313,7 @@ module _ (c : Columns) (demand : List ℤ) (s : Setup) (visits lengths : List �
 
           go : (t : Bool) → (lt (offerDelta c s Y offer place) (best .delta) && passing (s .needed) c (s .limits) (s .depot) (inserted Y visit place)) ≡ t
               → Scanned c demand s visits lengths (move place ∷ []) best (cond t (taken-at offer place (offerDelta c s Y offer place)) best)
-          go true e = taken-there from position to place (offerDelta c s Y offer place) best (b .counted) (tested ∙ e) (delta-is place)
-              (record {
-                laid = held .laid;
-                gives = gives;
-                takes = takes;
-                apart = apart;
-                visit-there = visit-there;
-                place-there = rw (length-list visits lengths (held .laid .add-up) to) at h;
-              })
+          go true e = taken-now from position to place (offerDelta c s Y offer place) best (b .counted) (tested ∙ e) (delta-is place)
           go false e = record {
             scanned = sym (onward-stays _ _ _ (moveOf best) (move place) [] (tested ∙ e) ∙ onward-end _ _ _ (moveOf best));
             still = b;
@@ -393,8 +338,7 @@ module _ (c : Columns) (demand : List ℤ) (s : Setup) (visits lengths : List �
       offered best b = rw (at-lists visits lengths to, sub-zero (suc (length Y))) (all-places 0 (suc (length Y)) best (omega arith) b)
 
   -- in the code's terms: the giver and the receiver as they were lent, the load and the boxes that were counted
-  module _ (from position to : ℕ) (prepared : Prepared s c) (held : Held (c .l) visits lengths)
-      (gives : from < length lengths) (takes : to < length lengths) (apart : from ≢ to) (visit-there : position < getD lengths from 0)
+  module _ (from position to : ℕ) (prepared : Prepared s c) (held : Held (c .l) visits lengths) (visit-there : position < getD lengths from 0)
       (xs ys : List ℕ) (is-giver : xs ≡ listOf visits lengths from) (is-receiver : ys ≡ listOf visits lengths to) (visit load more : ℕ)
       (is-visit : visit ≡ getD xs position 0) (is-load : load ≡ total (boxesOf demand) ys) (is-more : more ≡ boxesOf demand visit)
       (best : Choice) (b : Best c demand s visits lengths best) where
@@ -405,7 +349,7 @@ module _ (c : Columns) (demand : List ℤ) (s : Setup) (visits lengths : List �
     the-load = rw (is-load, is-more, is-visit, is-receiver)
 
     pub refused-as : s .capacity < load + more → Scanned c demand s visits lengths (intoList (lists visits lengths) from position to) best best
-    refused-as h = no-room from position to (getD xs position 0) prepared held gives takes apart visit-there the-visit best b (omega (arith, the-load))
+    refused-as h = no-room from position to (getD xs position 0) prepared held visit-there the-visit best b (omega (arith, the-load))
 
     pub offered-as : load + more ≤ s .capacity → (removal : Float) (after : Choice)
         → removal ≡ removalDelta (leg (c .l) (c .distances)) (s .depot) (s .fixed) xs position
@@ -415,4 +359,4 @@ module _ (c : Columns) (demand : List ℤ) (s : Setup) (visits lengths : List �
     offered-as h removal after is-removal is-after =
         let lower = rw is-giver at is-removal in
         rw (is-after, is-receiver)
-        (offered from position to (getD xs position 0) prepared held gives takes apart visit-there the-visit removal (omega (arith, the-load)) lower best b)
+        (offered from position to (getD xs position 0) prepared held visit-there the-visit removal (omega (arith, the-load)) lower best b)

@@ -9,7 +9,8 @@ use native.Mathlib.Omega.{arith}
 use borrow.Author.Tests.{lt-ltb, ltb-true}
 use lib.Dec.{ltb}
 use lib.IntN.{ℤ}
-use lib.Ieee.{Float}
+use lib.ListN.{length}
+use lib.Ieee.{Float, neg}
 use Rattle.day.specs.declared.vehicle.RouteLimits.{RouteLimits}
 use Rattle.edits.proofs.Kept.{same-each, same-length}
 use Rattle.lists.specs.Table.{Laid, lists}
@@ -17,17 +18,20 @@ use Rattle.lists.specs.Edits.{Edited, relocated}
 use Rattle.lists.specs.Refused.{TableFine}
 use Rattle.evaluation.specs.Columns.{Columns}
 use Rattle.descent.specs.Permitted.{relocate}
-use Rattle.descent.specs.Search.{Sweep, Outcome, settled, stopped, taken, firstMove, next, run}
+use Rattle.descent.specs.Search.{Sweep, Outcome, settled, stopped, taken, next, run}
 use Rattle.descent.specs.Across.{Relocation}
 use Rattle.descent.specs.Engines.{run-of}
-use Rattle.descent.proofs.Loops.{place-passed, place-moved, next-sweep, run-settles, run-stops, run-moves}
+use Rattle.descent.proofs.Loops.{run-settles, run-stops, run-moves}
 use Rattle.deltas.specs.Judged.{float-judge}
 use Rattle.engine.specs.Engine.{checksOf, mapOf, endedAs}
 use Rattle.engine.specs.declared.Ended.{Ended}
 use Rattle.engine.specs.declared.Ended.the-variants.{Settled, Stopped}
-use Rattle.relocate.specs.Relocate.{measureOf, boxes, Held, searchOf, judgeOf, moveOf}
-use Rattle.relocate.specs.declared.Setup.{Setup}
-use Rattle.relocate.specs.declared.Choice.{Choice}
+use Rattle.relocate.specs.Relocate.{measureOf, boxes, Held, Prepared, searchOf, judgeOf, bound, PairsRight, Every}
+use Rattle.relocate.specs.declared.pair.Setup.{Setup}
+use Rattle.pairs.specs.declared.Choice.{Choice}
+use Rattle.pairs.specs.Pairs.{Moves, moveOf, Table, leastEntry}
+use Rattle.pairs.proofs.Taken.{Relocating, relocate-relocating, table-taken, taken-there}
+use Rattle.pairs.proofs.Taken as pairs
 
 -- the run that `relocate_improve` answers
 abbrev pub outcome : Columns → List ℤ → RouteLimits → ℤ → Float → ℕ → ℕ → List (List ℕ) → Outcome (Sweep (List (List ℕ)) Unit)
@@ -115,29 +119,32 @@ module _ {S : Type 0} (step : S → Option S) (limit : ℕ) (first : S) where
 
 -- ---- one search
 
+-- this engine searches for relocations
+relocating : (c : Columns) (demand : List ℤ) (s : Setup) → Relocating (searchOf c demand s) (judgeOf c s) (bound c)
+unfolding searchOf judgeOf bound
+relocating c demand s = relocate-relocating false (checksOf (measureOf demand (s .capacity) ∷ []) c (s .limits) (s .depot)) (judgeOf c s .delta) (bound c)
+
+module _ (c : Columns) (demand : List ℤ) (s : Setup) (ls : List (List ℕ)) where
+  -- the least entry of a right table is the move that the definition takes
+  pub table-choice : Prepared s c → (n : ℕ) (t : Table) → n ≡ length ls → PairsRight c demand s ls n Every t
+      → (best : Choice) → best ≡ leastEntry n (neg (s .floor)) t → moveOf best ≡ taken (searchOf c demand s) (judgeOf c s) ls tt
+  unfolding bound
+  table-choice prepared n t e right best is =
+      let same : neg (s .floor) ≡ bound c = ap neg (prepared .floor) in
+      rw (is, same) (table-taken (searchOf c demand s) (judgeOf c s) (bound c) (relocating c demand s) ls n t e right)
+
 module _ (c : Columns) (demand : List ℤ) (s : Setup) (ls : List (List ℕ)) (best : Choice)
     (found : moveOf best ≡ taken (searchOf c demand s) (judgeOf c s) ls tt) where
-  nowhere : firstMove (searchOf c demand s) (judgeOf c s) ls [] ≡ none
-  unfolding firstMove
-  nowhere = refl
-
-  fresh : next (searchOf c demand s) (judgeOf c s) (record { now = ls; ahead = [] }) ≡ firstMove (searchOf c demand s) (judgeOf c s) ls (tt ∷ [])
-  unfolding searchOf
-  fresh = next-sweep (searchOf c demand s) (judgeOf c s) (record { now = ls; ahead = [] }) nowhere
+  -- it can be made
+  pub choice-there : best .found ≡ true → Moves ls (best .from) (best .position) (best .to) (best .place)
+  choice-there e = taken-there (searchOf c demand s) (judgeOf c s) (bound c) (relocating c demand s) ls best found e
 
   no-next : best .found ≡ false → next (searchOf c demand s) (judgeOf c s) (record { now = ls; ahead = [] }) ≡ none
-  unfolding moveOf
-  no-next e =
-      let is : moveOf best ≡ none = rw (e, moveOf) in
-      fresh ∙ place-passed (searchOf c demand s) (judgeOf c s) ls tt [] (sym found ∙ is) ∙ nowhere
+  no-next e = pairs.no-next (searchOf c demand s) (judgeOf c s) (bound c) (relocating c demand s) ls best found e
 
   a-next : best .found ≡ true → next (searchOf c demand s) (judgeOf c s) (record { now = ls; ahead = [] })
       ≡ some (record { now = relocated ls (best .from) (best .position) (best .to) (best .place); ahead = [] })
-  unfolding searchOf relocated moveOf
-  a-next e =
-      let m : Relocation = record { from = best .from; position = best .position; to = best .to; place = best .place } in
-      let is : moveOf best ≡ some m = rw (e, moveOf) in
-      fresh ∙ place-moved (searchOf c demand s) (judgeOf c s) ls tt [] m (sym found ∙ is)
+  a-next e = pairs.a-next (searchOf c demand s) (judgeOf c s) (bound c) (relocating c demand s) ls best found e
 
 -- ---- what the loop answers
 

@@ -1,2 +1,2 @@
-pub mod Scan
+pub mod Cache
 pub mod Relocate

@@ -1,33 +1,38 @@
 -- Relocate as the code goes about it: the boxes as a measure, what a run keeps at hand, the candidates by list, visit and receiver, and the best so far.
 -- For the contracts of src/; the engine's own definition is `relocate false` of descent. Assumes nothing.
 use mathlib.Core.Path.{_≡_}
-use mathlib.Core.Bool.{true, false, cond, _&&_}
+use mathlib.Core.Bool.{Bool, true, false, cond, _&&_}
 use mathlib.Core.Option.{Option, none, some}
 use mathlib.Core.List.{List, [], _∷_, _++_, map}
-use Prim.Native.Nat.{ℕ, suc, _≤_, _<_}
+use Prim.Native.Nat.{ℕ, suc, _+_, _≤_, _<_}
+use lib.Dec.{ltb}
 use lib.IntN.{ℤ, pos, natAbs}
 use lib.ListN.{length, getD, take, drop}
-use lib.Ieee.{Float, lt, neg}
+use lib.Ieee.{Float, lt, le, neg}
+use lib.Ieee.Scale.{finite}
 use Rattle.numbers.specs.Operations.{_⊕_}
 use Rattle.numbers.specs.Floor.{gainFloor}
 use Rattle.day.specs.Matrix.{leg, scaleOf}
 use Rattle.day.specs.Refusal.{demandOk}
 use Rattle.lists.specs.Table.{Laid, lists}
-use Rattle.lists.specs.Edits.{Relocates}
 use Rattle.evaluation.specs.Columns.{Columns, Formed}
 use Rattle.evaluation.specs.Route.{checksNeeded}
-use Rattle.descent.specs.Order.{range, each}
+use Rattle.descent.specs.Order.{range}
 use Rattle.descent.specs.Permitted.{Measure, relocate}
 use Rattle.descent.specs.Search.{Search, Judge}
 use Rattle.descent.specs.Across.{at, Relocation}
 use Rattle.descent.specs.Engines.{search-of}
-use Rattle.deltas.specs.Deltas.{insertionDelta}
+use Rattle.deltas.specs.Deltas.{removalDelta, insertionDelta}
 use Rattle.deltas.specs.Judged.{float-judge}
 use Rattle.engine.specs.Engine.{passing, checksOf, mapOf}
-use Rattle.relocate.specs.Scan.{onward, figure, Counted}
-use Rattle.relocate.specs.declared.Setup.{Setup}
-use Rattle.relocate.specs.declared.Offer.{Offer}
-use Rattle.relocate.specs.declared.Choice.{Choice}
+use Rattle.pairs.specs.Scan.{onward, figure, Counted}
+use Rattle.pairs.specs.Pairs.{moveOf, Table, Stored, RightWhere}
+use Rattle.pairs.specs.declared.Choice.{Choice}
+use Rattle.relocate.specs.declared.pair.Setup.{Setup}
+use Rattle.relocate.specs.declared.pair.Offer.{Offer}
+use Rattle.relocate.specs.declared.pair.Tried.{Tried}
+use Rattle.relocate.specs.declared.cache.Least.{Least}
+use Rattle.relocate.specs.Cache.{Known, leastBelow}
 
 -- ---- boxes
 
@@ -82,26 +87,11 @@ unfoldable pub intoList : List (List ℕ) → ℕ → ℕ → ℕ → List Reloc
 intoList ls from position to =
     map (λ place. record { from = from; position = position; to = to; place = place }) (range 0 (suc (length (at ls to))))
 
--- of one visit
-unfoldable pub ofVisit : List (List ℕ) → ℕ → ℕ → List Relocation
-ofVisit ls from position = each (range 0 from ++ range (suc from) (length ls)) (intoList ls from position)
-
--- of one list
-unfoldable pub ofList : List (List ℕ) → ℕ → List Relocation
-ofList ls from = each (range 0 (length (at ls from))) (ofVisit ls from)
-
 -- a list with a visit put in at a place
 abbrev pub inserted : List ℕ → ℕ → ℕ → List ℕ
 inserted list visit place = take place list ++ visit ∷ drop place list
 
 -- ---- the best so far
-
--- the move that a choice says
-unfoldable pub moveOf : Choice → Option Relocation
-moveOf b = elim (b .found) [
-  | true ↦ some (record { from = b .from; position = b .position; to = b .to; place = b .place })
-  | false ↦ none
-]
 
 -- an offer, taken at a place
 abbrev pub taken-at : Offer → ℕ → Float → Choice
@@ -124,16 +114,67 @@ unfoldable pub bestAmong : Columns → Setup → List ℕ → Offer → List ℕ
 bestAmong c s list offer [] best = best
 bestAmong c s list offer (place ∷ places) best = bestAmong c s list offer places (better c s list offer best place)
 
+-- ---- one visit, with what is known of it
+
+-- what it costs to insert a visit into a list at a place: what the cache is about
+abbrev pub costOf : Columns → Setup → List ℕ → ℕ → ℕ → Float
+costOf c s = insertionDelta (leg (c .l) (c .distances)) (s .depot) (s .fixed)
+
+-- the cache is right of these lists
+abbrev pub Cached : Columns → Setup → List (List ℕ) → List Float → List ℕ → Type 0
+Cached c s ls figures places = Known (costOf c s) (c .l) ls figures places
+
+-- `if self.prune && known.is_finite() && removal_delta + known >= -self.floor`
+unfoldable pub ruledOut : Bool → Float → Float → Float → Bool
+ruledOut pruning floor removal known = pruning && (finite known && le (neg floor) (removal ⊕ known))
+
+-- the visit at a position of X, offered
+abbrev pub offerOf : Columns → Setup → List ℕ → ℕ → ℕ → ℕ → Offer
+offerOf c s X from position to = record {
+  from = from;
+  position = position;
+  to = to;
+  visit = getD X position 0;
+  removal = removalDelta (leg (c .l) (c .distances)) (s .depot) (s .fixed) X position;
+}
+
+-- offered to Y: nothing where that has no room for it, nothing where no place gains, or else every place
+unfoldable pub tried : Columns → List ℤ → Setup → Bool → List ℕ → List ℕ → ℕ → ℕ → ℕ → ℕ → Choice → Least → Tried
+tried c demand s pruning X Y load from position to best known =
+    let offer = offerOf c s X from position to in
+    let untouched : Tried = record { best = best; least = known } in
+    cond (ltb (s .capacity) (load + boxesOf demand (offer .visit))) untouched
+    (cond (ruledOut pruning (s .floor) (offer .removal) (known .figure)) untouched
+    (record {
+      best = bestAmong c s Y offer (range 0 (suc (length Y))) best;
+      least = leastBelow (costOf c s Y (offer .visit)) (suc (length Y));
+    }))
+
+-- ---- the table of pairs
+
+-- a pair was searched, and its best put into the table
+abbrev pub Searched : Columns → List ℤ → Setup → List (List ℕ) → ℕ → ℕ → Table → Table → Type 0
+Searched c demand s ls = Stored (judgeOf c s .delta ls) (searchOf c demand s .passes ls) (bound c) ls
+
+-- the table of n lists is right of the pairs that are done
+abbrev pub PairsRight : Columns → List ℤ → Setup → List (List ℕ) → ℕ → (ℕ → ℕ → Type 0) → Table → Type 0
+PairsRight c demand s ls = RightWhere (judgeOf c s .delta ls) (searchOf c demand s .passes ls) (bound c) ls
+
+-- every pair
+abbrev pub Every : ℕ → ℕ → Type 0
+Every from to = Unit {0}
+
+-- ---- the best so far, as a scan
+
 module _ (c : Columns) (demand : List ℤ) (s : Setup) (visits lengths : List ℕ) where
   -- what the scan over some candidates comes to
   abbrev pub scan : Option Relocation → List Relocation → Option Relocation
   scan = onward (judgeOf c s .delta (lists visits lengths)) (searchOf c demand s .passes (lists visits lengths)) (bound c)
 
-  -- a choice is one: its delta is its move's, which counts and lies in the lists
+  -- a choice is one: its delta is its move's, which counts
   pub record Best (b : Choice) : Type 0 where
     pub figured : b .delta ≡ figure (judgeOf c s .delta (lists visits lengths)) (searchOf c demand s .passes (lists visits lengths)) (bound c) (moveOf b)
     pub counted : Counted (judgeOf c s .delta (lists visits lengths)) (searchOf c demand s .passes (lists visits lengths)) (bound c) (moveOf b)
-    pub there : b .found ≡ true → Relocates visits lengths (b .from) (b .position) (b .to) (b .place)
 
   -- the best after some candidates more
   pub record Scanned (cs : List Relocation) (best after : Choice) : Type 0 where

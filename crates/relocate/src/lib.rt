@@ -1,278 +1,52 @@
 // Inter-route relocation (Or 1976), ports local_search/relocate.rs without soft windows: one visit goes to any place of another list, the least delta
-// first, until none gains. The candidates are scanned in the order (from list, position, to list, place), and of equal deltas the first is taken; the
-// receiver has to have room and to pass, the giver isn't tested.
+// first, until none gains. Of equal deltas the first in the order (from list, position, to list, place) is taken; the receiver has to have room and to
+// pass, the giver isn't tested.
 //
-// The Rust keeps the best move of every pair of lists; here each move is found by a whole scan, which is the definition. A candidate list is built and
-// walked only where its delta is below the best so far.
+// As in the Rust the best move of every pair of lists is kept in a table (crate `pairs`), and so is what it costs at least to insert a visit into a list
+// (cache.rt), by which most visits need not be offered (pair.rt). A move changes two lists, so that only the pairs with one of them in it are searched
+// again. The move taken is the one that a scan of all candidates takes, which is the definition.
+pub mod cache;
+pub mod pair;
+
+use crate::cache::after_insertion;
+use crate::cache::after_removal;
+use crate::cache::wide;
+use crate::pair::Setup;
+use crate::pair::best_between;
 use day::matrix::scale;
 use day::vehicle::RouteLimits;
-use deltas::insertion_delta;
-use deltas::removal_delta;
-use edits::append_one;
-use edits::append_stretch;
 use engine::Ended;
-use engine::passes;
 use evaluation::route::route_checks_needed;
-use lists::length_of;
 use lists::list_of;
 use lists::move_visit;
 use numbers::gain_floor;
+use numbers::unknown;
+use pairs::best_pair;
+use pairs::put_pair;
 ghost use mathlib.Core.Path.{_≡_};
-ghost use mathlib.Core.Logic.{_⊎_, _≢_};
 ghost use mathlib.Core.Bool.{true, false};
 ghost use mathlib.Core.List.{[], _∷_};
-ghost use Prim.Native.Nat.{suc, _+_, _<_, _≤_};
-ghost use lib.IntN.{pos};
-ghost use lib.ListN.{length, take, getD};
-ghost use Rattle.day.specs.Refusal.{demandOk, capacityOk};
-ghost use Rattle.edits.specs.Total.{total};
-ghost use Rattle.lists.specs.Table.{lists};
-ghost use Rattle.lists.specs.Edits.{Edited};
-ghost use Rattle.evaluation.specs.Columns.{columnsAt, Formed, Visits};
-ghost use Rattle.descent.specs.Order.{range, each};
+ghost use Prim.Native.Nat.{_+_, _<_, _≤_};
+ghost use lib.ListN.{length, getD, set};
+ghost use lib.Ieee.{nan};
+ghost use Rattle.day.specs.Matrix.{leg, Square};
+ghost use Rattle.day.specs.Refusal.{capacityOk};
+ghost use Rattle.lists.specs.Table.{Laid, lists, listOf};
+ghost use Rattle.lists.specs.Edits.{Edited, Relocates, relocated};
+ghost use Rattle.evaluation.specs.Columns.{columnsAt, Formed};
 ghost use Rattle.descent.specs.Permitted.{relocate};
-ghost use Rattle.descent.specs.Search.{taken};
 ghost use Rattle.descent.specs.Engines.{run-of};
+ghost use Rattle.deltas.specs.Deltas.{insertionDelta};
 ghost use Rattle.deltas.specs.Judged.{float-judge};
-ghost use Rattle.engine.specs.Engine.{passing, checksOf, mapOf, endedAs};
-ghost use Rattle.relocate.specs.Relocate.{boxesOf, boxes, measureOf, Boxed, Held, Prepared, searchOf, judgeOf};
-ghost use Rattle.relocate.specs.Relocate.{intoList, ofVisit, ofList, inserted, moveOf, better, bestAmong, Best, Scanned};
+ghost use Rattle.engine.specs.Engine.{checksOf, mapOf, endedAs};
+ghost use Rattle.pairs.specs.Pairs.{Sized, Before, Renewed, tableAt};
+ghost use Rattle.relocate.specs.Cache.{cell, Known};
+ghost use Rattle.relocate.specs.Relocate.{boxes, measureOf, Boxed, Held, Prepared, Cached, Searched, PairsRight, Every};
 
-// What is worked out once before the first move.
-pub struct Setup {
-    pub l: usize,
-    pub depot: usize,
-    pub limits: RouteLimits,
-    // The boxes a van holds.
-    pub capacity: usize,
-    // What a list costs that has a visit, as a distance.
-    pub fixed: f64,
-    // The least gain that counts.
-    pub floor: f64,
-    // Whether candidates have to be checked.
-    pub needed: bool,
-}
+// ---- the table of pairs
 
-// The visit at `position` of list `from`, offered to list `to`; `removal` is what taking it out changes.
-pub struct Offer {
-    pub from: usize,
-    pub position: usize,
-    pub to: usize,
-    pub visit: u16,
-    pub removal: f64,
-}
-
-// The best move so far with its delta; while none is found, minus the floor.
-pub struct Choice {
-    pub found: bool,
-    pub from: usize,
-    pub position: usize,
-    pub to: usize,
-    pub place: usize,
-    pub delta: f64,
-}
-
-// ---- boxes
-
-fn wide(v: u16) -> usize
-    ensures { λ r. ⌜ r ≡ v ⌝ }
-{
-    v as usize
-}
-
-// The boxes of a visit.
-fn boxes_of(demand: &[i32], visit: usize) -> usize
-    requires { ⌜ visit < length (now demand) ⌝ }
-    requires { ⌜ demandOk (getD (now demand) visit (pos 0)) ≡ true ⌝ }
-    ensures { λ r. ⌜ (r ≡ boxesOf (now (demand .entry)) visit) × (r ≤ 1000000) ⌝ }
-{
-    let boxes = demand[visit];
-    boxes as usize
-}
-
-// The load of a list.
-fn load_of(l: usize, demand: &[i32], list: &[u16]) -> usize
-    requires { ⌜ Boxed l (now demand) × Visits l (now list) ⌝ }
-    ensures { λ r. ⌜ (r ≡ total (boxesOf (now (demand .entry))) (now (list .entry))) × (r ≤ 63000000) ⌝ }
-{
-    let mut load = 0;
-    let mut i = 0;
-    while i < list.len() {
-        load += boxes_of(demand, wide(list[i]));
-        i += 1;
-    }
-    load
-}
-
-// ---- an offer to a list
-
-// Builds a list with a visit put in at a place, at the front of the buffer.
-fn inserted_into(buffer: &mut [u16], list: &[u16], visit: u16, place: usize) -> usize
-    requires { ⌜ (place ≤ length (now list)) × (length (now list) < length (now buffer)) ⌝ }
-    ensures { λ r. ⌜ r ≡ length (now (list .entry)) + 1 ⌝ }
-    ensures { λ r. ⌜ take r (now (buffer .exit)) ≡ inserted (now (list .entry)) visit place ⌝ }
-{
-    let head = append_stretch(buffer, 0, list, 0, place);
-    let middle = append_one(buffer, head, visit);
-    append_stretch(buffer, middle, list, place, list.len())
-}
-
-// Whether a list with a visit put in at a place passes. Where no check is needed it is not built.
-fn candidate_passes(
-    setup: Setup,
-    flags: &[u8],
-    service: &[f64],
-    ready: &[f64],
-    due: &[f64],
-    penalty: &[f64],
-    distances: &[f64],
-    times: &[f64],
-    list: &[u16],
-    buffer: &mut [u16],
-    visit: u16,
-    place: usize,
-) -> bool
-    requires { ⌜ Prepared setup (columnsAt (setup .l) flags service ready due penalty distances times) ⌝ }
-    requires { ⌜ 64 ≤ length (now buffer) ⌝ }
-    requires { ⌜ Visits (setup .l) (now list) × (length (now list) < 63) × (visit < setup .l) × (place ≤ length (now list)) ⌝ }
-    ensures { λ r.
-        ⌜ r ≡ passing (setup .needed)
-        (columnsAt (setup .l) (flags .entry) (service .entry) (ready .entry) (due .entry) (penalty .entry) (distances .entry) (times .entry))
-        (setup .limits) (setup .depot)
-        (inserted (now (list .entry)) visit place) ⌝ }
-{
-    if !setup.needed {
-        return true;
-    }
-    let end = inserted_into(buffer, list, visit, place);
-    let limits = setup.limits;
-    passes(
-        setup.needed,
-        setup.l,
-        flags,
-        service,
-        ready,
-        due,
-        penalty,
-        distances,
-        times,
-        limits,
-        setup.depot,
-        &buffer[0..end],
-    )
-}
-
-// The better of the best so far and an offer at a place.
-fn better_of(
-    setup: Setup,
-    flags: &[u8],
-    service: &[f64],
-    ready: &[f64],
-    due: &[f64],
-    penalty: &[f64],
-    distances: &[f64],
-    times: &[f64],
-    list: &[u16],
-    buffer: &mut [u16],
-    offer: Offer,
-    best: Choice,
-    place: usize,
-) -> Choice
-    requires { ⌜ Prepared setup (columnsAt (setup .l) flags service ready due penalty distances times) ⌝ }
-    requires { ⌜ 64 ≤ length (now buffer) ⌝ }
-    requires { ⌜ Visits (setup .l) (now list) × (length (now list) < 63) × (offer .visit < setup .l) × (place ≤ length (now list)) ⌝ }
-    ensures { λ r.
-        ⌜ r ≡ better (columnsAt (setup .l) (flags .entry) (service .entry) (ready .entry) (due .entry) (penalty .entry) (distances .entry) (times .entry))
-        setup (now (list .entry)) offer best place ⌝ }
-{
-    // What an empty list costs once it is opened.
-    let paid = setup.fixed;
-    let insertion = insertion_delta(
-        setup.l,
-        distances,
-        setup.depot,
-        paid,
-        list,
-        wide(offer.visit),
-        place,
-    );
-    let delta = offer.removal + insertion;
-    if !(delta < best.delta) {
-        return best;
-    }
-    if !candidate_passes(
-        setup,
-        flags,
-        service,
-        ready,
-        due,
-        penalty,
-        distances,
-        times,
-        list,
-        buffer,
-        offer.visit,
-        place,
-    ) {
-        return best;
-    }
-    Choice {
-        found: true,
-        from: offer.from,
-        position: offer.position,
-        to: offer.to,
-        place,
-        delta,
-    }
-}
-
-// The best after an offer at every place of a list that has room for it.
-fn best_place(
-    setup: Setup,
-    flags: &[u8],
-    service: &[f64],
-    ready: &[f64],
-    due: &[f64],
-    penalty: &[f64],
-    distances: &[f64],
-    times: &[f64],
-    list: &[u16],
-    buffer: &mut [u16],
-    offer: Offer,
-    best: Choice,
-) -> Choice
-    requires { ⌜ Prepared setup (columnsAt (setup .l) flags service ready due penalty distances times) ⌝ }
-    requires { ⌜ 64 ≤ length (now buffer) ⌝ }
-    requires { ⌜ Visits (setup .l) (now list) × (length (now list) < 63) × (offer .visit < setup .l) ⌝ }
-    ensures { λ r.
-        ⌜ r ≡ bestAmong (columnsAt (setup .l) (flags .entry) (service .entry) (ready .entry) (due .entry) (penalty .entry) (distances .entry) (times .entry))
-        setup (now (list .entry)) offer (range 0 (suc (length (now (list .entry))))) best ⌝ }
-{
-    let mut after = best;
-    let mut place = 0;
-    while place <= list.len() {
-        after = better_of(
-            setup,
-            flags,
-            service,
-            ready,
-            due,
-            penalty,
-            distances,
-            times,
-            list,
-            buffer,
-            offer,
-            after,
-            place,
-        );
-        place += 1;
-    }
-    after
-}
-
-// The best after the visit at `position` of list `from` was offered to list `to`.
-fn offer_to(
+// Searches a pair of lists, and puts its best into the table.
+fn search_pair(
     setup: Setup,
     flags: &[u8],
     service: &[f64],
@@ -285,39 +59,27 @@ fn offer_to(
     visits: &[u16],
     lengths: &[u16],
     buffer: &mut [u16],
+    figures: &mut [f64],
+    places: &mut [u16],
+    deltas: &mut [f64],
+    positions: &mut [u16],
+    to_places: &mut [u16],
+    pruning: bool,
     from: usize,
-    position: usize,
     to: usize,
-    best: Choice,
-) -> Choice
+)
     requires { ⌜ Prepared setup (columnsAt (setup .l) flags service ready due penalty distances times) ⌝ }
-    requires { ⌜ Boxed (setup .l) (now demand) × Held (setup .l) (now visits) (now lengths) ⌝ }
-    requires { ⌜ 64 ≤ length (now buffer) ⌝ }
-    requires { ⌜ Best (columnsAt (setup .l) flags service ready due penalty distances times) (now demand) setup (now visits) (now lengths) best ⌝ }
-    requires { ⌜ (from < length (now lengths)) × (position < getD (now lengths) from 0) × (to < length (now lengths)) × (from ≢ to) ⌝ }
-    ensures { λ r.
-        ⌜ (let ls = lists (now (visits .entry)) (now (lengths .entry))
-        in Scanned (columnsAt (setup .l) (flags .entry) (service .entry) (ready .entry) (due .entry) (penalty .entry) (distances .entry) (times .entry))
-        (now (demand .entry)) setup (now (visits .entry)) (now (lengths .entry)) (intoList ls from position to) best r) ⌝ }
+    requires { ⌜ Boxed (setup .l) (now demand) × Held (setup .l) (now visits) (now lengths) × (64 ≤ length (now buffer)) ⌝ }
+    requires { ⌜ Cached (columnsAt (setup .l) flags service ready due penalty distances times) setup (lists (now visits) (now lengths)) (now figures) (now places) ⌝ }
+    requires { ⌜ Sized (tableAt deltas positions «to_places») × (from < length (now lengths)) × (to < length (now lengths)) ⌝ }
+    ensures { λ _.
+        ⌜ (let c = columnsAt (setup .l) (flags .entry) (service .entry) (ready .entry) (due .entry) (penalty .entry) (distances .entry) (times .entry) in
+        let ls = lists (now (visits .entry)) (now (lengths .entry))
+        in Searched c (now (demand .entry)) setup ls from to (tableAt (deltas .entry) (positions .entry) («to_places» .entry))
+        (tableAt (deltas .exit) (positions .exit) («to_places» .exit))
+        × Cached c setup ls (now (figures .exit)) (now (places .exit))) ⌝ }
 {
-    let giver = list_of(visits, lengths, from);
-    let receiver = list_of(visits, lengths, to);
-    let visit = giver[position];
-    let load = load_of(setup.l, demand, receiver) + boxes_of(demand, wide(visit));
-    if load > setup.capacity {
-        return best;
-    }
-    // What a list no longer costs once it is emptied.
-    let saved = setup.fixed;
-    let removal = removal_delta(setup.l, distances, setup.depot, saved, giver, position);
-    let offer = Offer {
-        from,
-        position,
-        to,
-        visit,
-        removal,
-    };
-    best_place(
+    let best = best_between(
         setup,
         flags,
         service,
@@ -326,15 +88,21 @@ fn offer_to(
         penalty,
         distances,
         times,
-        receiver,
+        demand,
+        visits,
+        lengths,
         buffer,
-        offer,
-        best,
-    )
+        figures,
+        places,
+        pruning,
+        from,
+        to,
+    );
+    put_pair(deltas, positions, to_places, from, to, best);
 }
 
-// The best after it was offered to each of the lists from `first` up to, not including, `end`.
-fn offer_among(
+// Searches every pair with list `from` as the giver.
+fn search_row(
     setup: Setup,
     flags: &[u8],
     service: &[f64],
@@ -347,27 +115,30 @@ fn offer_among(
     visits: &[u16],
     lengths: &[u16],
     buffer: &mut [u16],
+    figures: &mut [f64],
+    places: &mut [u16],
+    deltas: &mut [f64],
+    positions: &mut [u16],
+    to_places: &mut [u16],
+    pruning: bool,
     from: usize,
-    position: usize,
-    first: usize,
-    end: usize,
-    best: Choice,
-) -> Choice
+)
     requires { ⌜ Prepared setup (columnsAt (setup .l) flags service ready due penalty distances times) ⌝ }
-    requires { ⌜ Boxed (setup .l) (now demand) × Held (setup .l) (now visits) (now lengths) ⌝ }
-    requires { ⌜ 64 ≤ length (now buffer) ⌝ }
-    requires { ⌜ Best (columnsAt (setup .l) flags service ready due penalty distances times) (now demand) setup (now visits) (now lengths) best ⌝ }
-    requires { ⌜ (from < length (now lengths)) × (position < getD (now lengths) from 0) ⌝ }
-    requires { ⌜ (end ≤ length (now lengths)) × ((end ≤ from) ⊎ (from < first)) ⌝ }
-    ensures { λ r.
-        ⌜ (let ls = lists (now (visits .entry)) (now (lengths .entry))
-        in Scanned (columnsAt (setup .l) (flags .entry) (service .entry) (ready .entry) (due .entry) (penalty .entry) (distances .entry) (times .entry))
-        (now (demand .entry)) setup (now (visits .entry)) (now (lengths .entry)) (each (range first end) (intoList ls from position)) best r) ⌝ }
+    requires { ⌜ Boxed (setup .l) (now demand) × Held (setup .l) (now visits) (now lengths) × (64 ≤ length (now buffer)) ⌝ }
+    requires { ⌜ Cached (columnsAt (setup .l) flags service ready due penalty distances times) setup (lists (now visits) (now lengths)) (now figures) (now places) ⌝ }
+    requires { ⌜ PairsRight (columnsAt (setup .l) flags service ready due penalty distances times) (now demand) setup (lists (now visits) (now lengths)) (length (now lengths))
+        (Before from 0) (tableAt deltas positions «to_places») ⌝ }
+    requires { ⌜ from < length (now lengths) ⌝ }
+    ensures { λ _.
+        ⌜ (let c = columnsAt (setup .l) (flags .entry) (service .entry) (ready .entry) (due .entry) (penalty .entry) (distances .entry) (times .entry) in
+        let ls = lists (now (visits .entry)) (now (lengths .entry))
+        in PairsRight c (now (demand .entry)) setup ls (length (now (lengths .entry))) (Before (from + 1) 0)
+        (tableAt (deltas .exit) (positions .exit) («to_places» .exit))
+        × Cached c setup ls (now (figures .exit)) (now (places .exit))) ⌝ }
 {
-    let mut after = best;
-    let mut to = first;
-    while to < end {
-        after = offer_to(
+    let mut to = 0;
+    while to < lengths.len() {
+        search_pair(
             setup,
             flags,
             service,
@@ -380,18 +151,21 @@ fn offer_among(
             visits,
             lengths,
             buffer,
+            figures,
+            places,
+            deltas,
+            positions,
+            to_places,
+            pruning,
             from,
-            position,
             to,
-            after,
         );
         to += 1;
     }
-    after
 }
 
-// The best after it was offered to every other list.
-fn offer_visit(
+// Searches every pair.
+fn search_all(
     setup: Setup,
     flags: &[u8],
     service: &[f64],
@@ -404,151 +178,27 @@ fn offer_visit(
     visits: &[u16],
     lengths: &[u16],
     buffer: &mut [u16],
-    from: usize,
-    position: usize,
-    best: Choice,
-) -> Choice
+    figures: &mut [f64],
+    places: &mut [u16],
+    deltas: &mut [f64],
+    positions: &mut [u16],
+    to_places: &mut [u16],
+    pruning: bool,
+)
     requires { ⌜ Prepared setup (columnsAt (setup .l) flags service ready due penalty distances times) ⌝ }
-    requires { ⌜ Boxed (setup .l) (now demand) × Held (setup .l) (now visits) (now lengths) ⌝ }
-    requires { ⌜ 64 ≤ length (now buffer) ⌝ }
-    requires { ⌜ Best (columnsAt (setup .l) flags service ready due penalty distances times) (now demand) setup (now visits) (now lengths) best ⌝ }
-    requires { ⌜ (from < length (now lengths)) × (position < getD (now lengths) from 0) ⌝ }
-    ensures { λ r.
-        ⌜ (let ls = lists (now (visits .entry)) (now (lengths .entry))
-        in Scanned (columnsAt (setup .l) (flags .entry) (service .entry) (ready .entry) (due .entry) (penalty .entry) (distances .entry) (times .entry))
-        (now (demand .entry)) setup (now (visits .entry)) (now (lengths .entry)) (ofVisit ls from position) best r) ⌝ }
-{
-    let before = offer_among(
-        setup,
-        flags,
-        service,
-        ready,
-        due,
-        penalty,
-        distances,
-        times,
-        demand,
-        visits,
-        lengths,
-        buffer,
-        from,
-        position,
-        0,
-        from,
-        best,
-    );
-    let behind = from + 1;
-    offer_among(
-        setup,
-        flags,
-        service,
-        ready,
-        due,
-        penalty,
-        distances,
-        times,
-        demand,
-        visits,
-        lengths,
-        buffer,
-        from,
-        position,
-        behind,
-        lengths.len(),
-        before,
-    )
-}
-
-// ---- the search
-
-// The best after every visit of list `from` was offered.
-fn best_from(
-    setup: Setup,
-    flags: &[u8],
-    service: &[f64],
-    ready: &[f64],
-    due: &[f64],
-    penalty: &[f64],
-    distances: &[f64],
-    times: &[f64],
-    demand: &[i32],
-    visits: &[u16],
-    lengths: &[u16],
-    buffer: &mut [u16],
-    from: usize,
-    best: Choice,
-) -> Choice
-    requires { ⌜ Prepared setup (columnsAt (setup .l) flags service ready due penalty distances times) ⌝ }
-    requires { ⌜ Boxed (setup .l) (now demand) × Held (setup .l) (now visits) (now lengths) ⌝ }
-    requires { ⌜ 64 ≤ length (now buffer) ⌝ }
-    requires { ⌜ Best (columnsAt (setup .l) flags service ready due penalty distances times) (now demand) setup (now visits) (now lengths) best ⌝ }
-    requires { ⌜ from < length (now lengths) ⌝ }
-    ensures { λ r.
-        ⌜ (let ls = lists (now (visits .entry)) (now (lengths .entry))
-        in Scanned (columnsAt (setup .l) (flags .entry) (service .entry) (ready .entry) (due .entry) (penalty .entry) (distances .entry) (times .entry))
-        (now (demand .entry)) setup (now (visits .entry)) (now (lengths .entry)) (ofList ls from) best r) ⌝ }
-{
-    let n = length_of(lengths, from);
-    let mut after = best;
-    let mut position = 0;
-    while position < n {
-        after = offer_visit(
-            setup,
-            flags,
-            service,
-            ready,
-            due,
-            penalty,
-            distances,
-            times,
-            demand,
-            visits,
-            lengths,
-            buffer,
-            from,
-            position,
-            after,
-        );
-        position += 1;
-    }
-    after
-}
-
-// The move to make.
-fn best_move(
-    setup: Setup,
-    flags: &[u8],
-    service: &[f64],
-    ready: &[f64],
-    due: &[f64],
-    penalty: &[f64],
-    distances: &[f64],
-    times: &[f64],
-    demand: &[i32],
-    visits: &[u16],
-    lengths: &[u16],
-    buffer: &mut [u16],
-) -> Choice
-    requires { ⌜ Prepared setup (columnsAt (setup .l) flags service ready due penalty distances times) ⌝ }
-    requires { ⌜ Boxed (setup .l) (now demand) × Held (setup .l) (now visits) (now lengths) ⌝ }
-    requires { ⌜ 64 ≤ length (now buffer) ⌝ }
-    ensures { λ r.
+    requires { ⌜ Boxed (setup .l) (now demand) × Held (setup .l) (now visits) (now lengths) × (64 ≤ length (now buffer)) ⌝ }
+    requires { ⌜ Cached (columnsAt (setup .l) flags service ready due penalty distances times) setup (lists (now visits) (now lengths)) (now figures) (now places) ⌝ }
+    requires { ⌜ Sized (tableAt deltas positions «to_places») ⌝ }
+    ensures { λ _.
         ⌜ (let c = columnsAt (setup .l) (flags .entry) (service .entry) (ready .entry) (due .entry) (penalty .entry) (distances .entry) (times .entry) in
         let ls = lists (now (visits .entry)) (now (lengths .entry))
-        in (moveOf r ≡ taken (searchOf c (now (demand .entry)) setup) (judgeOf c setup) ls tt)
-        × Best c (now (demand .entry)) setup (now (visits .entry)) (now (lengths .entry)) r) ⌝ }
+        in PairsRight c (now (demand .entry)) setup ls (length (now (lengths .entry))) (Every)
+        (tableAt (deltas .exit) (positions .exit) («to_places» .exit))
+        × Cached c setup ls (now (figures .exit)) (now (places .exit))) ⌝ }
 {
-    let mut best = Choice {
-        found: false,
-        from: 0,
-        position: 0,
-        to: 0,
-        place: 0,
-        delta: -setup.floor,
-    };
     let mut from = 0;
     while from < lengths.len() {
-        best = best_from(
+        search_row(
             setup,
             flags,
             service,
@@ -561,13 +211,295 @@ fn best_move(
             visits,
             lengths,
             buffer,
+            figures,
+            places,
+            deltas,
+            positions,
+            to_places,
+            pruning,
             from,
-            best,
         );
         from += 1;
     }
-    best
 }
+
+// Searches the pairs of list `other` with the lists a and b again: out of each and into each.
+fn search_again(
+    setup: Setup,
+    flags: &[u8],
+    service: &[f64],
+    ready: &[f64],
+    due: &[f64],
+    penalty: &[f64],
+    distances: &[f64],
+    times: &[f64],
+    demand: &[i32],
+    visits: &[u16],
+    lengths: &[u16],
+    buffer: &mut [u16],
+    figures: &mut [f64],
+    places: &mut [u16],
+    deltas: &mut [f64],
+    positions: &mut [u16],
+    to_places: &mut [u16],
+    pruning: bool,
+    a: usize,
+    b: usize,
+    other: usize,
+)
+    requires { ⌜ Prepared setup (columnsAt (setup .l) flags service ready due penalty distances times) ⌝ }
+    requires { ⌜ Boxed (setup .l) (now demand) × Held (setup .l) (now visits) (now lengths) × (64 ≤ length (now buffer)) ⌝ }
+    requires { ⌜ Cached (columnsAt (setup .l) flags service ready due penalty distances times) setup (lists (now visits) (now lengths)) (now figures) (now places) ⌝ }
+    requires { ⌜ PairsRight (columnsAt (setup .l) flags service ready due penalty distances times) (now demand) setup (lists (now visits) (now lengths)) (length (now lengths))
+        (Renewed a b other) (tableAt deltas positions «to_places») ⌝ }
+    requires { ⌜ (a < length (now lengths)) × (b < length (now lengths)) × (other < length (now lengths)) ⌝ }
+    ensures { λ _.
+        ⌜ (let c = columnsAt (setup .l) (flags .entry) (service .entry) (ready .entry) (due .entry) (penalty .entry) (distances .entry) (times .entry) in
+        let ls = lists (now (visits .entry)) (now (lengths .entry))
+        in PairsRight c (now (demand .entry)) setup ls (length (now (lengths .entry))) (Renewed a b (other + 1))
+        (tableAt (deltas .exit) (positions .exit) («to_places» .exit))
+        × Cached c setup ls (now (figures .exit)) (now (places .exit))) ⌝ }
+{
+    search_pair(
+        setup,
+        flags,
+        service,
+        ready,
+        due,
+        penalty,
+        distances,
+        times,
+        demand,
+        visits,
+        lengths,
+        buffer,
+        figures,
+        places,
+        deltas,
+        positions,
+        to_places,
+        pruning,
+        a,
+        other,
+    );
+    search_pair(
+        setup,
+        flags,
+        service,
+        ready,
+        due,
+        penalty,
+        distances,
+        times,
+        demand,
+        visits,
+        lengths,
+        buffer,
+        figures,
+        places,
+        deltas,
+        positions,
+        to_places,
+        pruning,
+        other,
+        a,
+    );
+    search_pair(
+        setup,
+        flags,
+        service,
+        ready,
+        due,
+        penalty,
+        distances,
+        times,
+        demand,
+        visits,
+        lengths,
+        buffer,
+        figures,
+        places,
+        deltas,
+        positions,
+        to_places,
+        pruning,
+        b,
+        other,
+    );
+    search_pair(
+        setup,
+        flags,
+        service,
+        ready,
+        due,
+        penalty,
+        distances,
+        times,
+        demand,
+        visits,
+        lengths,
+        buffer,
+        figures,
+        places,
+        deltas,
+        positions,
+        to_places,
+        pruning,
+        other,
+        b,
+    );
+}
+
+// Searches every pair with list a or b in it again, after both changed.
+fn search_changed(
+    setup: Setup,
+    flags: &[u8],
+    service: &[f64],
+    ready: &[f64],
+    due: &[f64],
+    penalty: &[f64],
+    distances: &[f64],
+    times: &[f64],
+    demand: &[i32],
+    visits: &[u16],
+    lengths: &[u16],
+    buffer: &mut [u16],
+    figures: &mut [f64],
+    places: &mut [u16],
+    deltas: &mut [f64],
+    positions: &mut [u16],
+    to_places: &mut [u16],
+    pruning: bool,
+    a: usize,
+    b: usize,
+)
+    requires { ⌜ Prepared setup (columnsAt (setup .l) flags service ready due penalty distances times) ⌝ }
+    requires { ⌜ Boxed (setup .l) (now demand) × Held (setup .l) (now visits) (now lengths) × (64 ≤ length (now buffer)) ⌝ }
+    requires { ⌜ Cached (columnsAt (setup .l) flags service ready due penalty distances times) setup (lists (now visits) (now lengths)) (now figures) (now places) ⌝ }
+    requires { ⌜ PairsRight (columnsAt (setup .l) flags service ready due penalty distances times) (now demand) setup (lists (now visits) (now lengths)) (length (now lengths))
+        (Renewed a b 0) (tableAt deltas positions «to_places») ⌝ }
+    requires { ⌜ (a < length (now lengths)) × (b < length (now lengths)) ⌝ }
+    ensures { λ _.
+        ⌜ (let c = columnsAt (setup .l) (flags .entry) (service .entry) (ready .entry) (due .entry) (penalty .entry) (distances .entry) (times .entry) in
+        let ls = lists (now (visits .entry)) (now (lengths .entry))
+        in PairsRight c (now (demand .entry)) setup ls (length (now (lengths .entry))) (Every)
+        (tableAt (deltas .exit) (positions .exit) («to_places» .exit))
+        × Cached c setup ls (now (figures .exit)) (now (places .exit))) ⌝ }
+{
+    let mut other = 0;
+    while other < lengths.len() {
+        search_again(
+            setup,
+            flags,
+            service,
+            ready,
+            due,
+            penalty,
+            distances,
+            times,
+            demand,
+            visits,
+            lengths,
+            buffer,
+            figures,
+            places,
+            deltas,
+            positions,
+            to_places,
+            pruning,
+            a,
+            b,
+            other,
+        );
+        other += 1;
+    }
+}
+
+// ---- a move
+
+// The visit at a position of a list.
+fn visit_of(visits: &[u16], lengths: &[u16], r: usize, position: usize) -> usize
+    requires { ⌜ Laid (now visits) (now lengths) × (r < length (now lengths)) × (position < getD (now lengths) r 0) ⌝ }
+    ensures { λ v. ⌜ v ≡ getD (listOf (now (visits .entry)) (now (lengths .entry)) r) position 0 ⌝ }
+{
+    let list = list_of(visits, lengths, r);
+    wide(list[position])
+}
+
+// A position as the cache has it.
+fn narrow(position: usize) -> u16
+    requires { ⌜ position < 65536 ⌝ }
+    ensures { λ r. ⌜ r ≡ position ⌝ }
+{
+    position as u16
+}
+
+// Forgets what is known of a visit and a list.
+fn forget_at(figures: &mut [f64], visit: usize, r: usize)
+    requires { ⌜ (length (now figures) ≡ 1024) × (visit < 64) × (r < 16) ⌝ }
+    ensures { λ _. ⌜ now (figures .exit) ≡ set (now (figures .entry)) (cell visit r) nan ⌝ }
+{
+    figures[16 * visit + r] = unknown();
+}
+
+// Makes a move, and brings the cache up to date. The visit sits in `to` now, and what it costs to insert it there is not asked; `from` and `to` are the
+// only lists that changed.
+fn make_move(
+    setup: Setup,
+    distances: &[f64],
+    visits: &mut [u16],
+    lengths: &mut [u16],
+    figures: &mut [f64],
+    places: &mut [u16],
+    from: usize,
+    position: usize,
+    to: usize,
+    place: usize,
+)
+    requires { ⌜ Square (setup .l) (now distances) × (setup .depot < setup .l) × Held (setup .l) (now visits) (now lengths) ⌝ }
+    requires { ⌜ Relocates (now visits) (now lengths) from position to place ⌝ }
+    requires { ⌜ Known (insertionDelta (leg (setup .l) (now distances)) (setup .depot) (setup .fixed)) (setup .l) (lists (now visits) (now lengths))
+        (now figures) (now places) ⌝ }
+    ensures { λ _.
+        ⌜ Edited (now (visits .entry)) (now (lengths .entry)) (now (visits .exit)) (now (lengths .exit))
+        (relocated (lists (now (visits .entry)) (now (lengths .entry))) from position to place) ⌝ }
+    ensures { λ _.
+        ⌜ Known (insertionDelta (leg (setup .l) (now (distances .entry))) (setup .depot) (setup .fixed)) (setup .l)
+        (lists (now (visits .exit)) (now (lengths .exit))) (now (figures .exit)) (now (places .exit)) ⌝ }
+{
+    let visit = visit_of(visits, lengths, from, position);
+    move_visit(visits, lengths, from, position, to, place);
+    forget_at(figures, visit, from);
+    forget_at(figures, visit, to);
+    let left = narrow(position);
+    let giver = list_of(visits, lengths, from);
+    after_removal(
+        setup.l,
+        distances,
+        setup.depot,
+        setup.fixed,
+        giver,
+        from,
+        left,
+        figures,
+        places,
+    );
+    let came = narrow(place);
+    let receiver = list_of(visits, lengths, to);
+    after_insertion(
+        setup.l,
+        distances,
+        setup.depot,
+        setup.fixed,
+        receiver,
+        to,
+        came,
+        figures,
+        places,
+    );
+}
+
+// ---- a run
 
 // Makes move after move until none is left or the limit is used up.
 fn descend(
@@ -583,11 +515,18 @@ fn descend(
     visits: &mut [u16],
     lengths: &mut [u16],
     buffer: &mut [u16],
+    figures: &mut [f64],
+    places: &mut [u16],
+    deltas: &mut [f64],
+    positions: &mut [u16],
+    to_places: &mut [u16],
+    pruning: bool,
     limit: u32,
 ) -> Ended
     requires { ⌜ Prepared setup (columnsAt (setup .l) flags service ready due penalty distances times) ⌝ }
-    requires { ⌜ Boxed (setup .l) (now demand) × Held (setup .l) (now visits) (now lengths) ⌝ }
-    requires { ⌜ 64 ≤ length (now buffer) ⌝ }
+    requires { ⌜ Boxed (setup .l) (now demand) × Held (setup .l) (now visits) (now lengths) × (64 ≤ length (now buffer)) ⌝ }
+    requires { ⌜ Cached (columnsAt (setup .l) flags service ready due penalty distances times) setup (lists (now visits) (now lengths)) (now figures) (now places) ⌝ }
+    requires { ⌜ Sized (tableAt deltas positions «to_places») ⌝ }
     ensures { λ r.
         ⌜ (let c = columnsAt (setup .l) (flags .entry) (service .entry) (ready .entry) (due .entry) (penalty .entry) (distances .entry) (times .entry) in
         let run = run-of (relocate false) (checksOf (measureOf (now (demand .entry)) (setup .capacity) ∷ []) c (setup .limits) (setup .depot))
@@ -596,9 +535,48 @@ fn descend(
         in Edited (now (visits .entry)) (now (lengths .entry)) (now (visits .exit)) (now (lengths .exit)) (run .last .now)
         × (r ≡ endedAs (run .word) (run .moves))) ⌝ }
 {
+    search_all(
+        setup,
+        flags,
+        service,
+        ready,
+        due,
+        penalty,
+        distances,
+        times,
+        demand,
+        visits,
+        lengths,
+        buffer,
+        figures,
+        places,
+        deltas,
+        positions,
+        to_places,
+        pruning,
+    );
     let mut moves = 0;
     loop {
-        let best = best_move(
+        let best = best_pair(lengths.len(), -setup.floor, deltas, positions, to_places);
+        if !best.found {
+            return Ended::Settled(moves);
+        }
+        if limit <= moves {
+            return Ended::Stopped(moves);
+        }
+        make_move(
+            setup,
+            distances,
+            visits,
+            lengths,
+            figures,
+            places,
+            best.from,
+            best.position,
+            best.to,
+            best.place,
+        );
+        search_changed(
             setup,
             flags,
             service,
@@ -611,26 +589,21 @@ fn descend(
             visits,
             lengths,
             buffer,
-        );
-        if !best.found {
-            return Ended::Settled(moves);
-        }
-        if limit <= moves {
-            return Ended::Stopped(moves);
-        }
-        move_visit(
-            visits,
-            lengths,
+            figures,
+            places,
+            deltas,
+            positions,
+            to_places,
+            pruning,
             best.from,
-            best.position,
             best.to,
-            best.place,
         );
         moves += 1;
     }
 }
 
-// Relocate of all lists, changed in place under their numbers, with at most `limit` moves. `fixed` is the van's fixed cost as a distance.
+// Relocate of all lists, changed in place under their numbers, with at most `limit` moves. `fixed` is the van's fixed cost as a distance. Without `pruning`
+// every visit is offered at every place, and the moves are the same.
 pub fn relocate_improve(
     l: usize,
     flags: &[u8],
@@ -648,6 +621,7 @@ pub fn relocate_improve(
     visits: &mut [u16],
     lengths: &mut [u16],
     limit: u32,
+    pruning: bool,
 ) -> Ended
     requires { ⌜ Formed (columnsAt l flags service ready due penalty distances times) ⌝ }
     requires { ⌜ Boxed l (now demand) × (capacityOk capacity ≡ true) ⌝ }
@@ -671,6 +645,11 @@ pub fn relocate_improve(
         needed,
     };
     let mut buffer = [0u16; 64];
+    let mut figures = [unknown(); 1024];
+    let mut places = [0u16; 1024];
+    let mut deltas = [0.0; 256];
+    let mut positions = [0u16; 256];
+    let mut to_places = [0u16; 256];
     descend(
         setup,
         flags,
@@ -684,6 +663,12 @@ pub fn relocate_improve(
         visits,
         lengths,
         &mut buffer,
+        &mut figures,
+        &mut places,
+        &mut deltas,
+        &mut positions,
+        &mut to_places,
+        pruning,
         limit,
     )
 }

@@ -1,0 +1,87 @@
+-- `search_changed`: before each turn, the pairs without a and b and those searched again are right.
+use mathlib.Core.Path.{_≡_, refl, _∙_}
+use Prim.Native.Nat.{_-_, _≤_}
+use native.Mathlib.Omega.{arith}
+use lib.ListN.{length}
+use Rattle.lists.specs.Table.{lists}
+use Rattle.evaluation.specs.Columns.{columns}
+use Rattle.pairs.specs.Pairs.{table, Renewed}
+use Rattle.relocate.specs.Relocate.{Cached, PairsRight}
+use Rattle.relocate.proofs.Searching.{again-end}
+use Rattle.relocate.proofs.search_changed.Statement.{statement}
+use Rattle.relocate.proofs.search_changed.Tie as tie
+
+abbrev Inv-loop : tie.InvT-loop
+Inv-loop setup flags service ready due penalty distances times demand visits lengths buffer₀ figures₀ places₀ deltas₀ positions₀ to-places₀ pruning a b other₀ buffer figures places deltas positions to-places other =
+    PairsRight (columns (setup .l) flags service ready due penalty distances times) demand setup (lists visits lengths) (length lengths) (Renewed a b other) (table deltas positions to-places)
+    × Cached (columns (setup .l) flags service ready due penalty distances times) setup (lists visits lengths) figures places × (other ≤ length lengths)
+    × (length buffer ≡ length buffer₀) × (length figures ≡ length figures₀) × (length places ≡ length places₀)
+    × (length deltas ≡ length deltas₀) × (length positions ≡ length positions₀) × (length to-places ≡ length to-places₀)
+
+abbrev μ-loop : tie.MeasureT-loop
+μ-loop setup flags service ready due penalty distances times demand visits lengths buffer₀ figures₀ places₀ deltas₀ positions₀ to-places₀ pruning a b other₀ buffer figures places deltas positions to-places other = length lengths - other
+
+loop-holds : tie.Need-loop-holds Inv-loop μ-loop
+loop-holds c = (c .before .before .before .before .before .before .before .before .before .before .before .before .before .before .before .pre .1 .1 .1 .0, c .before .before .before .before .before .before .before .before .before .before .before .before .before .before .before .pre .1 .1 .0, omega arith, refl, refl, refl, refl, refl, refl)
+
+search-again-requires : tie.Need-search-again-requires Inv-loop μ-loop
+search-again-requires c κs = (c .before .before .before .before .before .before .before .before .before .before .before .before .before .before .before .before .before .before .before .before .before .before .before .pre .0, ((c .before .before .before .before .before .before .before .before .before .before .before .before .before .before .before .before .before .before .before .before .before .before .before .pre .1 .0 .0, c .before .before .before .before .before .before .before .before .before .before .before .before .before .before .before .before .before .before .before .before .before .before .before .pre .1 .0 .1, omega (arith, c .before .before .before .before .before .before .before .loop .inv .3, c .before .before .before .before .before .before .before .before .before .before .before .before .before .before .before .before .before .before .before .before .before .before .before .pre .1 .0 .2)), (c .before .before .before .before .before .before .before .loop .inv .1, (c .before .before .before .before .before .before .before .loop .inv .0, (c .before .before .before .before .before .before .before .before .before .before .before .before .before .before .before .before .before .before .before .before .before .before .before .pre .1 .1 .1 .1 .0, c .before .before .before .before .before .before .before .before .before .before .before .before .before .before .before .before .before .before .before .before .before .before .before .pre .1 .1 .1 .1 .1, c .before .before .before .before .before .before .loop-test .taken)))))
+
+add-other : tie.Need-add-other Inv-loop μ-loop
+add-other c = omega (arith, c .before .before .before .before .before .before .before .before .before .before .before .before .before .before .before .before .before .before .before .loop-test .taken, c .before .before .before .before .before .before .before .before .before .before .before .before .before .before .before .before .before .before .before .before .before .before .before .before .before .before .before .before .before .before .before .before .before .before .before .before .pre .1 .0 .1 .laid .few)
+
+loop-less : tie.Need-loop-less Inv-loop μ-loop
+loop-less c = omega (arith, c .before .before .before .before .before .before .before .before .before .before .before .before .before .before .before .before .before .before .before .loop-test .taken)
+
+loop-again : tie.Need-loop-again Inv-loop μ-loop
+loop-again c = (
+  c .before .before .before .before .before .before .before .before .before .before .before .before .search-again .ensures .0,
+  c .before .before .before .before .before .before .before .before .before .before .before .before .search-again .ensures .1,
+  omega (arith, c .before .before .before .before .before .before .before .before .before .before .before .before .before .before .before .before .before .before .before .loop-test .taken),
+  c .before .before .before .before .before .before .before .before .before .before .before .before .search-again .kept .1 .1 .1 .1 .1 .1 .1 .1 .1 .1 .1 .0 ∙ c .before .before .before .before .before .before .before .before .before .before .before .before .before .before .before .before .before .before .before .before .loop .inv .3,
+  c .before .before .before .before .before .before .before .before .before .before .before .before .search-again .kept .1 .1 .1 .1 .1 .1 .1 .1 .1 .1 .1 .1 .0 ∙ c .before .before .before .before .before .before .before .before .before .before .before .before .before .before .before .before .before .before .before .before .loop .inv .4,
+  c .before .before .before .before .before .before .before .before .before .before .before .before .search-again .kept .1 .1 .1 .1 .1 .1 .1 .1 .1 .1 .1 .1 .1 .0 ∙ c .before .before .before .before .before .before .before .before .before .before .before .before .before .before .before .before .before .before .before .before .loop .inv .5,
+  c .before .before .before .before .before .before .before .before .before .before .before .before .search-again .kept .1 .1 .1 .1 .1 .1 .1 .1 .1 .1 .1 .1 .1 .1 .0 ∙ c .before .before .before .before .before .before .before .before .before .before .before .before .before .before .before .before .before .before .before .before .loop .inv .6,
+  c .before .before .before .before .before .before .before .before .before .before .before .before .search-again .kept .1 .1 .1 .1 .1 .1 .1 .1 .1 .1 .1 .1 .1 .1 .1 .0 ∙ c .before .before .before .before .before .before .before .before .before .before .before .before .before .before .before .before .before .before .before .before .loop .inv .7,
+  c .before .before .before .before .before .before .before .before .before .before .before .before .search-again .kept .1 .1 .1 .1 .1 .1 .1 .1 .1 .1 .1 .1 .1 .1 .1 .1 .0 ∙ c .before .before .before .before .before .before .before .before .before .before .before .before .before .before .before .before .before .before .before .before .loop .inv .8,
+)
+
+same-length : tie.Need-same-length Inv-loop μ-loop
+same-length c = c .before .loop .inv .3
+
+same-length-2 : tie.Need-same-length-2 Inv-loop μ-loop
+same-length-2 c = c .before .loop .inv .4
+
+same-length-3 : tie.Need-same-length-3 Inv-loop μ-loop
+same-length-3 c = c .before .loop .inv .5
+
+same-length-4 : tie.Need-same-length-4 Inv-loop μ-loop
+same-length-4 c = c .before .loop .inv .6
+
+same-length-5 : tie.Need-same-length-5 Inv-loop μ-loop
+same-length-5 c = c .before .loop .inv .7
+
+same-length-6 : tie.Need-same-length-6 Inv-loop μ-loop
+same-length-6 c = c .before .loop .inv .8
+
+returns : tie.Need-returns Inv-loop μ-loop
+returns c = (again-end _ _ (c .before .before .before .before .before .before .before .before .before .before .before .before .before .before .before .before .before .args .setup) _ _ (c .before .before .before .before .before .before .before .before .before .before .before .before .before .before .before .before .before .pre .1 .0 .1) _ _ _ _ (c .loop-test .left) (c .before .loop .inv .0), c .before .loop .inv .1)
+
+pub search-changed-spec : {M : Type 1} → statement M
+search-changed-spec =
+    tie.close
+    (tie.spec
+    Inv-loop
+    μ-loop
+    loop-holds
+    search-again-requires
+    add-other
+    loop-less
+    loop-again
+    same-length
+    same-length-2
+    same-length-3
+    same-length-4
+    same-length-5
+    same-length-6
+    returns)
