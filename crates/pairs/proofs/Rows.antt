@@ -8,7 +8,7 @@ use Rattle.descent.proofs.Loops.{range-step, range-done}
 use Rattle.pairs.specs.Pairs.{firstOf, firstAmong, Table, entry, rowFrom, rowsFrom}
 use Rattle.pairs.specs.declared.Choice.{Choice}
 
-among-append : (cs ds : List Choice) (best : Choice) → firstAmong (cs ++ ds) best ≡ firstAmong ds (firstAmong cs best)
+pub among-append : (cs ds : List Choice) (best : Choice) → firstAmong (cs ++ ds) best ≡ firstAmong ds (firstAmong cs best)
 unfolding firstAmong
 among-append [] ds best = refl
 among-append (c ∷ cs) ds best = among-append cs ds (firstOf best c)
