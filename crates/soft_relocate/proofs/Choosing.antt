@@ -9,7 +9,7 @@ use Prim.Native.Nat.{ℕ, zero, suc, _+_, _≤_, _<_}
 use native.Mathlib.Nat.{sub-zero}
 use native.Mathlib.Numerals.{add-one}
 use native.Mathlib.Omega.{arith}
-use borrow.Author.Tests.{le-leb, leb-true, ne-eqb}
+use borrow.Author.Tests.{le-leb, leb-true}
 use lib.Dec.{leb, eqb}
 use lib.IntN.{ℤ}
 use lib.ListN.{length, getD}
@@ -26,8 +26,9 @@ use Rattle.descent.proofs.Members.{map-in, each-in}
 use Rattle.descent.proofs.Loops.{range-step, range-done}
 use Rattle.deltas.specs.Changes.{fixedIf}
 use Rattle.pairs.specs.Scan.{onward, figure, Counted}
-use Rattle.pairs.specs.Pairs.{across, between, moveOf, nothing, pairBest, IsBest}
+use Rattle.pairs.specs.Pairs.{across, moveOf, nothing, pairBest, IsBest}
 use Rattle.pairs.specs.declared.Choice.{Choice}
+use Rattle.pairs.proofs.Listed.{between-same, between-apart}
 use Rattle.pairs.proofs.Scanning.{onward-better, counted-better, onward-stays, onward-end, onward-append, onward-none}
 use Rattle.soft_relocate.specs.SoftRelocate.{boxesOf, measureOf, inserted, givingDelta, receivingDelta, softDelta, priced}
 use Rattle.soft_relocate.specs.Offers.{priceOf, searchOf, judgeOf, bound, intoList, taken-at, offerDelta, better, bestAmong, Known, scan, Best, Scanned}
@@ -93,16 +94,20 @@ module _ (c : Columns) (demand : List ℤ) (s : Setup) (visits lengths : List �
   unfolding intoList
   pair-start add-up from to n e = record { rest = rw (at-lists visits lengths from, length-list visits lengths add-up from, e); still = none-best }
 
-  all-between : (from to : ℕ) → from ≢ to → between ls from to ≡ across ls from to
-  unfolding between
-  all-between from to apart = rw (ne-eqb from to apart)
-
   pub pair-end : (from to k n : ℕ) (best : Choice) → from ≢ to → n ≤ k
       → Scanning (each (range k n) (intoList ls from to)) (across ls from to) (nothing (bound s)) best → IsBest deltaOf passOf (bound s) ls from to best
   unfolding pairBest moveOf
   pair-end from to k n best apart h w =
       let all = scanning-end (intoList ls from to) k n (across ls from to) (nothing (bound s)) best w h in
-      record { best = all .scanned ∙ ap (onward deltaOf passOf (bound s) none) (sym (all-between from to apart)); figured = all .still .figured }
+      record { best = all .scanned ∙ ap (onward deltaOf passOf (bound s) none) (sym (between-apart ls from to apart)); figured = all .still .figured }
+
+  -- a list and itself
+  pub one-list : (from to : ℕ) → from ≡ to → IsBest deltaOf passOf (bound s) ls from to (nothing (bound s))
+  unfolding pairBest moveOf figure
+  one-list from to e = record {
+    best = sym (ap (onward deltaOf passOf (bound s) none) (between-same ls from to e) ∙ onward-end deltaOf passOf (bound s) none);
+    figured = refl;
+  }
 
   -- a list that has no price
   unpriced : (X Y : List ℕ) (position : ℕ) → (finite (priceOf c s X) && finite (priceOf c s Y)) ≡ false → priced (priceOf c s) (s .fixed) X Y position ≡ false
@@ -124,7 +129,7 @@ module _ (c : Columns) (demand : List ℤ) (s : Setup) (visits lengths : List �
       → (finite x && finite y) ≡ false → from ≢ to → IsBest deltaOf passOf (bound s) ls from to (nothing (bound s))
   unfolding pairBest moveOf figure
   no-price from to x y is-x is-y e apart = record {
-    best = sym (ap (onward deltaOf passOf (bound s) none) (all-between from to apart) ∙ onward-none deltaOf passOf (bound s) none _ fails);
+    best = sym (ap (onward deltaOf passOf (bound s) none) (between-apart ls from to apart) ∙ onward-none deltaOf passOf (bound s) none _ fails);
     figured = refl;
   }
     where

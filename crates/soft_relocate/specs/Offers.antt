@@ -19,7 +19,7 @@ use Rattle.descent.specs.Order.{range}
 use Rattle.descent.specs.Search.{Search, Judge}
 use Rattle.descent.specs.Across.{at, Relocation}
 use Rattle.pairs.specs.Scan.{onward, figure, Counted}
-use Rattle.pairs.specs.Pairs.{moveOf}
+use Rattle.pairs.specs.Pairs.{moveOf, IsBest}
 use Rattle.pairs.specs.declared.Choice.{Choice}
 use Rattle.soft_relocate.specs.SoftRelocate.{boxesOf, measureOf, inserted, soft-relocate-search, soft-relocate-judge}
 use Rattle.soft_relocate.specs.declared.Setup.{Setup}
@@ -111,3 +111,7 @@ module _ (c : Columns) (demand : List ℤ) (s : Setup) (visits lengths : List �
   pub record Scanned (cs : List Relocation) (best after : Choice) : Type 0 where
     pub scanned : moveOf after ≡ scan (moveOf best) cs
     pub still : Best after
+
+  -- the best move out of one list into another
+  abbrev pub BestOf : ℕ → ℕ → Choice → Type 0
+  BestOf = IsBest (judgeOf c s .delta (lists visits lengths)) (searchOf c demand s .passes (lists visits lengths)) (bound s) (lists visits lengths)

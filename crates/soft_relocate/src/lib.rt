@@ -15,6 +15,7 @@ use lists::move_visit;
 use numbers::gain_floor;
 use numbers::is_finite;
 use pairs::Choice;
+use tests::both;
 ghost use mathlib.Core.Path.{_≡_};
 ghost use mathlib.Core.Logic.{_≢_};
 ghost use mathlib.Core.Bool.{true, false};
@@ -29,8 +30,9 @@ ghost use Rattle.lists.specs.Table.{lists};
 ghost use Rattle.evaluation.specs.Columns.{columnsAt, Visits};
 ghost use Rattle.descent.specs.Order.{range};
 ghost use Rattle.deltas.specs.Changes.{fixedIf};
+ghost use Rattle.pairs.specs.Pairs.{nothing};
 ghost use Rattle.soft_relocate.specs.SoftRelocate.{boxesOf, without, inserted, givingDelta};
-ghost use Rattle.soft_relocate.specs.Offers.{Boxed, Held, Prepared, priceOf, intoList, better, bestAmong, Known, Best, Scanned};
+ghost use Rattle.soft_relocate.specs.Offers.{Boxed, Held, Prepared, priceOf, intoList, better, bestAmong, Known, Best, Scanned, BestOf};
 
 // What is worked out once before the first move.
 pub struct Setup {
@@ -406,5 +408,152 @@ fn offer_visit(
         buffer,
         offer,
         best,
+    )
+}
+
+// ---- a pair of lists
+
+// No move.
+fn nothing_below(bound: f64) -> Choice
+    ensures { λ r. ⌜ r ≡ nothing bound ⌝ }
+{
+    Choice {
+        found: false,
+        from: 0,
+        position: 0,
+        to: 0,
+        place: 0,
+        delta: bound,
+    }
+}
+
+// The best move of a pair of lists that have a price.
+fn best_of_pair(
+    setup: Setup,
+    flags: &[u8],
+    service: &[f64],
+    ready: &[f64],
+    due: &[f64],
+    penalty: &[f64],
+    distances: &[f64],
+    times: &[f64],
+    demand: &[i32],
+    visits: &[u16],
+    lengths: &[u16],
+    buffer: &mut [u16],
+    pair: Pair,
+) -> Choice
+    requires { ⌜ Prepared setup (columnsAt (setup .l) flags service ready due penalty distances times) ⌝ }
+    requires { ⌜ Boxed (setup .l) (now demand) × Held (setup .l) (now visits) (now lengths) ⌝ }
+    requires { ⌜ 64 ≤ length (now buffer) ⌝ }
+    requires { ⌜ Known (columnsAt (setup .l) flags service ready due penalty distances times) (now demand) setup (now visits) (now lengths) pair ⌝ }
+    requires { ⌜ (pair .from < length (now lengths)) × (pair .to < length (now lengths)) × (pair .from ≢ pair .to) ⌝ }
+    ensures { λ r.
+        ⌜ BestOf (columnsAt (setup .l) (flags .entry) (service .entry) (ready .entry) (due .entry) (penalty .entry) (distances .entry) (times .entry))
+        (now (demand .entry)) setup (now (visits .entry)) (now (lengths .entry)) (pair .from) (pair .to) r ⌝ }
+{
+    let n = length_of(lengths, pair.from);
+    let mut best = nothing_below(-setup.floor);
+    let mut position = 0;
+    while position < n {
+        best = offer_visit(
+            setup,
+            flags,
+            service,
+            ready,
+            due,
+            penalty,
+            distances,
+            times,
+            demand,
+            visits,
+            lengths,
+            buffer,
+            pair,
+            position,
+            best,
+        );
+        position += 1;
+    }
+    best
+}
+
+// The best move out of one list into another: none where they are one, or where one of them has no price.
+fn best_between(
+    setup: Setup,
+    flags: &[u8],
+    service: &[f64],
+    ready: &[f64],
+    due: &[f64],
+    penalty: &[f64],
+    distances: &[f64],
+    times: &[f64],
+    demand: &[i32],
+    visits: &[u16],
+    lengths: &[u16],
+    buffer: &mut [u16],
+    from: usize,
+    to: usize,
+) -> Choice
+    requires { ⌜ Prepared setup (columnsAt (setup .l) flags service ready due penalty distances times) ⌝ }
+    requires { ⌜ Boxed (setup .l) (now demand) × Held (setup .l) (now visits) (now lengths) ⌝ }
+    requires { ⌜ 64 ≤ length (now buffer) ⌝ }
+    requires { ⌜ (from < length (now lengths)) × (to < length (now lengths)) ⌝ }
+    ensures { λ r.
+        ⌜ BestOf (columnsAt (setup .l) (flags .entry) (service .entry) (ready .entry) (due .entry) (penalty .entry) (distances .entry) (times .entry))
+        (now (demand .entry)) setup (now (visits .entry)) (now (lengths .entry)) from to r ⌝ }
+{
+    if from == to {
+        return nothing_below(-setup.floor);
+    }
+    let giver = list_of(visits, lengths, from);
+    let receiver = list_of(visits, lengths, to);
+    let old_from = price_of(
+        setup,
+        flags,
+        service,
+        ready,
+        due,
+        penalty,
+        distances,
+        times,
+        giver,
+    );
+    let old_to = price_of(
+        setup,
+        flags,
+        service,
+        ready,
+        due,
+        penalty,
+        distances,
+        times,
+        receiver,
+    );
+    if !both(is_finite(old_from), is_finite(old_to)) {
+        return nothing_below(-setup.floor);
+    }
+    let load = load_of(setup.l, demand, receiver);
+    let pair = Pair {
+        from,
+        to,
+        old_from,
+        old_to,
+        load,
+    };
+    best_of_pair(
+        setup,
+        flags,
+        service,
+        ready,
+        due,
+        penalty,
+        distances,
+        times,
+        demand,
+        visits,
+        lengths,
+        buffer,
+        pair,
     )
 }
