@@ -5,13 +5,13 @@ use mathlib.Core.Logic.{_⊎_, inl, inr}
 use mathlib.Core.Bool.{Bool, true, false, cond, _&&_}
 use mathlib.Core.Option.{Option, none, some}
 use mathlib.Core.List.{List, [], _∷_, map}
-use Prim.Native.Nat.{ℕ, _<_}
+use Prim.Native.Nat.{ℕ}
 use lib.ListN.{length}
 use lib.Ieee.{Float, lt}
 use Rattle.descent.specs.Order.{_∈_, here, there, range, each}
 use Rattle.descent.specs.Across.{Relocation, relocations}
 use Rattle.descent.proofs.Members.{and-parts, not-in, in-cons, range-in}
-use Rattle.pairs.specs.Scan.{may, onward, figure}
+use Rattle.pairs.specs.Scan.{onward, figure}
 use Rattle.pairs.specs.Pairs.{between, asMove, moveOf, nothing, lessThen, earlier, ahead, firstOf, firstAmong}
 use Rattle.pairs.specs.Pairs.{Table, entry, rowFrom, leastEntry, pairBest, IsBest, Right}
 use Rattle.pairs.specs.declared.Choice.{Choice}
@@ -57,14 +57,14 @@ module _ (delta : Relocation → Float) (pass : Relocation → Bool) (bound : Fl
     pub best : Best delta pass bound S (moveOf c)
 
   -- a choice's delta is its move's, which is below the bound; with none it is the bound
-  found-delta : (S : Relocation → Type 0) (c : Choice) → Standing S c → c .found ≡ true → (lt (c .delta) bound ≡ true) × (c .delta ≡ delta (asMove c))
+  pub found-delta : (S : Relocation → Type 0) (c : Choice) → Standing S c → c .found ≡ true → (lt (c .delta) bound ≡ true) × (c .delta ≡ delta (asMove c))
   unfolding figure
   found-delta S c s e =
       let b : Best delta pass bound S (some (asMove c)) = subst (λ (o : Option Relocation). Best delta pass bound S o) (found-move c e) (s .best) in
       let d : c .delta ≡ delta (asMove c) = s .figured ∙ ap (figure delta pass bound) (found-move c e) in
       (ap (λ (x : Float). lt x bound) d ∙ and-parts (lt (delta (asMove c)) bound) (pass (asMove c)) (b .1) .0, d)
 
-  none-delta : (S : Relocation → Type 0) (c : Choice) → Standing S c → c .found ≡ false → c .delta ≡ bound
+  pub none-delta : (S : Relocation → Type 0) (c : Choice) → Standing S c → c .found ≡ false → c .delta ≡ bound
   unfolding figure
   none-delta S c s e = s .figured ∙ ap (figure delta pass bound) (no-move c e)
 
@@ -154,7 +154,8 @@ module _ (delta : Relocation → Float) (pass : Relocation → Bool) (bound : Fl
   each-standing h R [] turn S best s = standing-iff S (λ m. S m ⊎ Some [] R m) best (λ m x. inl x) (none-more R S) s
   each-standing h R (x ∷ xs) turn S best s =
       rw (among-append (h x) (each xs h) best)
-      (standing-iff (λ m. (S m ⊎ R x m) ⊎ Some xs R m) (λ m. S m ⊎ Some (x ∷ xs) R m) (firstAmong (each xs h) (firstAmong (h x) best)) (over R S x xs) (back R S x xs)
+      (standing-iff (λ m. (S m ⊎ R x m) ⊎ Some xs R m) (λ m. S m ⊎ Some (x ∷ xs) R m) (firstAmong (each xs h) (firstAmong (h x) best))
+      (over R S x xs) (back R S x xs)
       (each-standing h R xs (λ a i. turn a (there i)) (λ m. S m ⊎ R x m) (firstAmong (h x) best) (turn x here S best s)))
 
   row-standing : {A : Type 0} (g : A → Choice) (R : A → Relocation → Type 0) (xs : List A) → ((a : A) → a ∈ xs → Standing (R a) (g a))
@@ -162,7 +163,8 @@ module _ (delta : Relocation → Float) (pass : Relocation → Bool) (bound : Fl
   unfolding firstAmong
   row-standing g R [] turn S best s = standing-iff S (λ m. S m ⊎ Some [] R m) best (λ m x. inl x) (none-more R S) s
   row-standing g R (x ∷ xs) turn S best s =
-      standing-iff (λ m. (S m ⊎ R x m) ⊎ Some xs R m) (λ m. S m ⊎ Some (x ∷ xs) R m) (firstAmong (map g xs) (firstOf best (g x))) (over R S x xs) (back R S x xs)
+      standing-iff (λ m. (S m ⊎ R x m) ⊎ Some xs R m) (λ m. S m ⊎ Some (x ∷ xs) R m) (firstAmong (map g xs) (firstOf best (g x)))
+      (over R S x xs) (back R S x xs)
       (row-standing g R xs (λ a i. turn a (there i)) (λ m. S m ⊎ R x m) (firstOf best (g x)) (first-standing S (R x) best (g x) s (turn x here)))
 
   -- ---- the table

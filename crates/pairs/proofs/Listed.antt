@@ -3,16 +3,16 @@
 use mathlib.Core.Path.{_≡_, refl, sym, ap, _∙_, subst}
 use mathlib.Core.Logic.{_⊎_, inl, inr, _≢_}
 use mathlib.Core.Bool.{Bool, true, false, cond}
-use mathlib.Core.List.{List, [], _∷_, _++_, map}
-use Prim.Native.Nat.{ℕ, zero, suc, _+_, _-_, _≤_, _<_}
+use mathlib.Core.List.{List, [], _++_, map}
+use Prim.Native.Nat.{ℕ, suc, _+_, _≤_, _<_}
 use native.Mathlib.Omega.{arith}
 use native.Mathlib.Decide.{decLt}
-use borrow.Author.Tests.{eqb-true, eqb-false, eq-eqb, ne-eqb}
+use borrow.Author.Tests.{eqb-false, eq-eqb, ne-eqb}
 use lib.Dec.{eqb}
 use lib.ListN.{length}
-use Rattle.descent.specs.Order.{_∈_, here, there, range, each}
+use Rattle.descent.specs.Order.{_∈_, range, each}
 use Rattle.descent.specs.Across.{at, Relocation, relocations}
-use Rattle.descent.proofs.Members.{not-in, in-left, in-right, in-either, in-range, range-in, in-each, each-in, in-map, map-in}
+use Rattle.descent.proofs.Members.{not-in, in-left, in-right, in-either, in-range, range-in, in-each, each-in, map-in}
 use Rattle.pairs.specs.Pairs.{across, between, Moves}
 use Rattle.pairs.proofs.Order.{by-place, by-to, by-position, by-from}
 use Rattle.pairs.proofs.Sorted.{Sorted, range-sorted, others-sorted, sorted-map, sorted-each}

@@ -1,9 +1,9 @@
 -- Lists in an order: those that `range`, `map` and `each` list are, where what is listed for a number stands before what is listed for a greater one.
 -- Assumes nothing.
-use mathlib.Core.Path.{_≡_, refl, sym, _∙_}
+use mathlib.Core.Path.{_≡_, sym}
 use mathlib.Core.Logic.{_⊎_, inl, inr}
 use mathlib.Core.List.{List, [], _∷_, _++_, map}
-use Prim.Native.Nat.{ℕ, zero, suc, _+_, _-_, _≤_, _<_}
+use Prim.Native.Nat.{ℕ, zero, suc, _+_, _-_, _<_}
 use native.Mathlib.Omega.{arith}
 use Rattle.descent.specs.Order.{_∈_, here, there, from-on, range, each}
 use Rattle.descent.proofs.Members.{in-either, from-on-in, range-in, each-in, map-in}

@@ -88,6 +88,7 @@ pub record Table : Type 0 where
   pub positions : List ℕ
   pub places : List ℕ
 
+-- these three
 abbrev pub table : List Float → List ℕ → List ℕ → Table
 table deltas positions places = record { deltas = deltas; positions = positions; places = places }
 
@@ -151,6 +152,12 @@ module _ (delta : Relocation → Float) (pass : Relocation → Bool) (bound : Fl
   pub record IsBest (from to : ℕ) (c : Choice) : Type 0 where
     pub best : moveOf c ≡ pairBest from to
     pub figured : c .delta ≡ figure delta pass bound (moveOf c)
+
+  -- a pair was searched and its best put into the table
+  pub record Stored (from to : ℕ) (old new : Table) : Type 0 where
+    pub choice : Choice
+    pub is-best : IsBest from to choice
+    pub is-put : new ≡ put old from to choice
 
   -- the entries of the pairs that are done are right
   pub record RightWhere (n : ℕ) (done : ℕ → ℕ → Type 0) (t : Table) : Type 0 where

@@ -1,5 +1,4 @@
 -- `best_pair`: before each row the first of the best so far and the rows from here on is the first of all.
-use borrow.Author.Needs.{needs}
 use mathlib.Core.Path.{_≡_, refl, sym, _∙_}
 use Prim.Native.Nat.{_-_}
 use native.Mathlib.Omega.{arith}
@@ -19,7 +18,9 @@ loop-holds : tie.Need-loop-holds Inv-loop μ-loop
 loop-holds c = refl
 
 best-of-row-requires : tie.Need-best-of-row-requires Inv-loop μ-loop
-best-of-row-requires c κs = (c .before .before .before .before .before .pre .0, (c .before .before .before .before .before .pre .1, omega (arith, c .loop-test .taken, c .before .before .before .before .before .pre .1)))
+best-of-row-requires c κs =
+    let start = c .before .before .before .before .before in
+    (start .pre .0, (start .pre .1, omega (arith, c .loop-test .taken, start .pre .1)))
 
 add-from : tie.Need-add-from Inv-loop μ-loop
 add-from c = omega (arith, c .before .loop-test .taken, c .before .before .before .before .before .before .pre .1)

@@ -17,7 +17,9 @@ less-then-requires c κs = search needs
 
 returns-2 : tie.Need-returns-2
 unfolding ahead
-returns-2 c = rw (not-false (c .before .before .before .before .args .choice .found) (c .before .before .if1 .left), ← c .before .is-earlier .ensures) (c .less-then .ensures)
+returns-2 c =
+    rw (not-false (c .before .before .before .before .args .choice .found) (c .before .before .if1 .left), ← c .before .is-earlier .ensures)
+    (c .less-then .ensures)
 
 pub is-ahead-spec : {M : Type 1} → statement M
 is-ahead-spec = tie.close (tie.spec returns is-earlier-requires less-then-requires returns-2)
