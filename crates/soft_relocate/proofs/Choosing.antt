@@ -3,7 +3,7 @@
 use mathlib.Core.Path.{_≡_, refl, sym, ap, _∙_}
 use mathlib.Core.Logic.{_≢_}
 use mathlib.Core.Bool.{Bool, true, false, cond, _&&_}
-use mathlib.Core.Option.{Option, none, some}
+use mathlib.Core.Option.{Option, some}
 use mathlib.Core.List.{List, [], _∷_, _++_, map}
 use Prim.Native.Nat.{ℕ, zero, suc, _+_, _≤_, _<_}
 use native.Mathlib.Nat.{sub-zero}
@@ -25,10 +25,10 @@ use Rattle.descent.specs.Across.{at, Relocation}
 use Rattle.descent.proofs.Members.{map-in, each-in}
 use Rattle.descent.proofs.Loops.{range-step, range-done}
 use Rattle.deltas.specs.Changes.{fixedIf}
-use Rattle.pairs.specs.Scan.{onward, figure, Counted}
-use Rattle.pairs.specs.Pairs.{across, moveOf, nothing, pairBest, IsBest}
+use Rattle.pairs.specs.Scan.{figure, Counted}
+use Rattle.pairs.specs.Pairs.{across, moveOf, nothing, IsBest}
 use Rattle.pairs.specs.declared.Choice.{Choice}
-use Rattle.pairs.proofs.Listed.{between-same, between-apart}
+use Rattle.pairs.proofs.Taken.{best-across, best-refused}
 use Rattle.pairs.proofs.Scanning.{onward-better, counted-better, onward-stays, onward-end, onward-append, onward-none}
 use Rattle.soft_relocate.specs.SoftRelocate.{boxesOf, measureOf, inserted, givingDelta, receivingDelta, softDelta, priced}
 use Rattle.soft_relocate.specs.Offers.{priceOf, searchOf, judgeOf, bound, intoList, taken-at, offerDelta, better, bestAmong, Known, scan, Best, Scanned}
@@ -96,18 +96,10 @@ module _ (c : Columns) (demand : List ℤ) (s : Setup) (visits lengths : List �
 
   pub pair-end : (from to k n : ℕ) (best : Choice) → from ≢ to → n ≤ k
       → Scanning (each (range k n) (intoList ls from to)) (across ls from to) (nothing (bound s)) best → IsBest deltaOf passOf (bound s) ls from to best
-  unfolding pairBest moveOf
+  unfolding moveOf
   pair-end from to k n best apart h w =
       let all = scanning-end (intoList ls from to) k n (across ls from to) (nothing (bound s)) best w h in
-      record { best = all .scanned ∙ ap (onward deltaOf passOf (bound s) none) (sym (between-apart ls from to apart)); figured = all .still .figured }
-
-  -- a list and itself
-  pub one-list : (from to : ℕ) → from ≡ to → IsBest deltaOf passOf (bound s) ls from to (nothing (bound s))
-  unfolding pairBest moveOf figure
-  one-list from to e = record {
-    best = sym (ap (onward deltaOf passOf (bound s) none) (between-same ls from to e) ∙ onward-end deltaOf passOf (bound s) none);
-    figured = refl;
-  }
+      best-across deltaOf passOf (bound s) ls from to best apart (all .scanned) (all .still .figured)
 
   -- a list that has no price
   unpriced : (X Y : List ℕ) (position : ℕ) → (finite (priceOf c s X) && finite (priceOf c s Y)) ≡ false → priced (priceOf c s) (s .fixed) X Y position ≡ false
@@ -127,11 +119,7 @@ module _ (c : Columns) (demand : List ℤ) (s : Setup) (visits lengths : List �
 
   pub no-price : (from to : ℕ) (x y : Float) → x ≡ priceOf c s (listOf visits lengths from) → y ≡ priceOf c s (listOf visits lengths to)
       → (finite x && finite y) ≡ false → from ≢ to → IsBest deltaOf passOf (bound s) ls from to (nothing (bound s))
-  unfolding pairBest moveOf figure
-  no-price from to x y is-x is-y e apart = record {
-    best = sym (ap (onward deltaOf passOf (bound s) none) (between-apart ls from to apart) ∙ onward-none deltaOf passOf (bound s) none _ fails);
-    figured = refl;
-  }
+  no-price from to x y is-x is-y e apart = best-refused deltaOf passOf (bound s) ls from to apart fails
     where
       fails : (m : Relocation) → m ∈ across ls from to → passOf m ≡ false
       fails m i =

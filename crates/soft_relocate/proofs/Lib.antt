@@ -1,5 +1,7 @@
--- `Boxes`: loads, and the lists of a table. `Laid`: the two lists of a move in a buffer. `Offering`: an offer at every place of a list. `Choosing`: the best of a pair.
+-- `Boxes`: loads, and the lists of a table. `Laid`: the two lists of a move in a buffer. `Offering`: an offer at every place of a list.
+-- `Choosing`: the best of a pair. `Searching`: the table of pairs.
 pub mod Boxes
 pub mod Laid
 pub mod Offering
 pub mod Choosing
+pub mod Searching

@@ -19,7 +19,7 @@ use Rattle.descent.specs.Order.{range}
 use Rattle.descent.specs.Search.{Search, Judge}
 use Rattle.descent.specs.Across.{at, Relocation}
 use Rattle.pairs.specs.Scan.{onward, figure, Counted}
-use Rattle.pairs.specs.Pairs.{moveOf, IsBest}
+use Rattle.pairs.specs.Pairs.{moveOf, Table, IsBest, Stored, RightWhere}
 use Rattle.pairs.specs.declared.Choice.{Choice}
 use Rattle.soft_relocate.specs.SoftRelocate.{boxesOf, measureOf, inserted, soft-relocate-search, soft-relocate-judge}
 use Rattle.soft_relocate.specs.declared.Setup.{Setup}
@@ -115,3 +115,16 @@ module _ (c : Columns) (demand : List ℤ) (s : Setup) (visits lengths : List �
   -- the best move out of one list into another
   abbrev pub BestOf : ℕ → ℕ → Choice → Type 0
   BestOf = IsBest (judgeOf c s .delta (lists visits lengths)) (searchOf c demand s .passes (lists visits lengths)) (bound s) (lists visits lengths)
+
+  -- a table of pairs in which it was put
+  abbrev pub StoredOf : ℕ → ℕ → Table → Table → Type 0
+  StoredOf = Stored (judgeOf c s .delta (lists visits lengths)) (searchOf c demand s .passes (lists visits lengths)) (bound s) (lists visits lengths)
+
+  -- a table of pairs that is right for those that are done
+  abbrev pub RightOf : (ℕ → ℕ → Type 0) → Table → Type 0
+  RightOf = RightWhere (judgeOf c s .delta (lists visits lengths)) (searchOf c demand s .passes (lists visits lengths)) (bound s) (lists visits lengths)
+      (length lengths)
+
+  -- for all
+  abbrev pub AllRight : Table → Type 0
+  AllRight = RightOf λ from to. Unit {0}

@@ -15,6 +15,8 @@ use lists::move_visit;
 use numbers::gain_floor;
 use numbers::is_finite;
 use pairs::Choice;
+use pairs::best_pair;
+use pairs::put_pair;
 use tests::both;
 ghost use mathlib.Core.Path.{_≡_};
 ghost use mathlib.Core.Logic.{_≢_};
@@ -23,16 +25,22 @@ ghost use mathlib.Core.List.{[], _∷_};
 ghost use Prim.Native.Nat.{suc, _+_, _-_, _<_, _≤_};
 ghost use lib.IntN.{pos};
 ghost use lib.ListN.{length, take, getD};
-ghost use Rattle.day.specs.Refusal.{demandOk};
+ghost use Rattle.numbers.specs.Floor.{gainFloor};
+ghost use Rattle.day.specs.Matrix.{scaleOf};
+ghost use Rattle.day.specs.Refusal.{demandOk, capacityOk};
 ghost use Rattle.edits.specs.Total.{total};
 ghost use Rattle.edits.specs.Edits.{swapped};
 ghost use Rattle.lists.specs.Table.{lists};
-ghost use Rattle.evaluation.specs.Columns.{columnsAt, Visits};
+ghost use Rattle.lists.specs.Edits.{Edited};
+ghost use Rattle.evaluation.specs.Columns.{columnsAt, Formed, Visits};
 ghost use Rattle.descent.specs.Order.{range};
+ghost use Rattle.descent.specs.Search.{next, run};
 ghost use Rattle.deltas.specs.Changes.{fixedIf};
-ghost use Rattle.pairs.specs.Pairs.{nothing};
-ghost use Rattle.soft_relocate.specs.SoftRelocate.{boxesOf, without, inserted, givingDelta};
-ghost use Rattle.soft_relocate.specs.Offers.{Boxed, Held, Prepared, priceOf, intoList, better, bestAmong, Known, Best, Scanned, BestOf};
+ghost use Rattle.engine.specs.Engine.{endedAs};
+ghost use Rattle.pairs.specs.Pairs.{nothing, tableAt, Sized, Before, Renewed};
+ghost use Rattle.soft_relocate.specs.SoftRelocate.{boxesOf, without, inserted, givingDelta, soft-relocate-run};
+ghost use Rattle.soft_relocate.specs.Offers.{Boxed, Held, Prepared, priceOf, intoList, better, bestAmong, Known, Best, Scanned};
+ghost use Rattle.soft_relocate.specs.Offers.{searchOf, judgeOf, BestOf, StoredOf, RightOf, AllRight};
 
 // What is worked out once before the first move.
 pub struct Setup {
@@ -556,4 +564,319 @@ fn best_between(
         buffer,
         pair,
     )
+}
+
+// ---- the table of pairs
+
+// Searches a pair of lists, and puts its best move into the table.
+fn search_pair(
+    setup: Setup,
+    flags: &[u8],
+    service: &[f64],
+    ready: &[f64],
+    due: &[f64],
+    penalty: &[f64],
+    distances: &[f64],
+    times: &[f64],
+    demand: &[i32],
+    visits: &[u16],
+    lengths: &[u16],
+    buffer: &mut [u16],
+    deltas: &mut [f64],
+    positions: &mut [u16],
+    places: &mut [u16],
+    from: usize,
+    to: usize,
+)
+    requires { ⌜ Prepared setup (columnsAt (setup .l) flags service ready due penalty distances times) ⌝ }
+    requires { ⌜ Boxed (setup .l) (now demand) × Held (setup .l) (now visits) (now lengths) ⌝ }
+    requires { ⌜ 64 ≤ length (now buffer) ⌝ }
+    requires { ⌜ Sized (tableAt deltas positions places) × (from < length (now lengths)) × (to < length (now lengths)) ⌝ }
+    ensures { λ _.
+        ⌜ StoredOf (columnsAt (setup .l) (flags .entry) (service .entry) (ready .entry) (due .entry) (penalty .entry) (distances .entry) (times .entry))
+        (now (demand .entry)) setup (now (visits .entry)) (now (lengths .entry)) from to (tableAt (deltas .entry) (positions .entry) (places .entry)) (tableAt (deltas .exit) (positions .exit) (places .exit)) ⌝ }
+{
+    let best = best_between(
+        setup,
+        flags,
+        service,
+        ready,
+        due,
+        penalty,
+        distances,
+        times,
+        demand,
+        visits,
+        lengths,
+        buffer,
+        from,
+        to,
+    );
+    put_pair(deltas, positions, places, from, to, best);
+}
+
+// Searches all pairs out of one list.
+fn search_row(
+    setup: Setup,
+    flags: &[u8],
+    service: &[f64],
+    ready: &[f64],
+    due: &[f64],
+    penalty: &[f64],
+    distances: &[f64],
+    times: &[f64],
+    demand: &[i32],
+    visits: &[u16],
+    lengths: &[u16],
+    buffer: &mut [u16],
+    deltas: &mut [f64],
+    positions: &mut [u16],
+    places: &mut [u16],
+    from: usize,
+)
+    requires { ⌜ Prepared setup (columnsAt (setup .l) flags service ready due penalty distances times) ⌝ }
+    requires { ⌜ Boxed (setup .l) (now demand) × Held (setup .l) (now visits) (now lengths) ⌝ }
+    requires { ⌜ 64 ≤ length (now buffer) ⌝ }
+    requires { ⌜ RightOf (columnsAt (setup .l) flags service ready due penalty distances times) (now demand) setup (now visits) (now lengths) (Before from 0) (tableAt deltas positions places)
+        × (from < length (now lengths)) ⌝ }
+    ensures { λ _.
+        ⌜ RightOf (columnsAt (setup .l) (flags .entry) (service .entry) (ready .entry) (due .entry) (penalty .entry) (distances .entry) (times .entry))
+        (now (demand .entry)) setup (now (visits .entry)) (now (lengths .entry)) (Before (from + 1) 0) (tableAt (deltas .exit) (positions .exit) (places .exit)) ⌝ }
+{
+    let mut to = 0;
+    while to < lengths.len() {
+        search_pair(
+            setup,
+            flags,
+            service,
+            ready,
+            due,
+            penalty,
+            distances,
+            times,
+            demand,
+            visits,
+            lengths,
+            buffer,
+            deltas,
+            positions,
+            places,
+            from,
+            to,
+        );
+        to += 1;
+    }
+}
+
+// Searches all pairs.
+fn search_all(
+    setup: Setup,
+    flags: &[u8],
+    service: &[f64],
+    ready: &[f64],
+    due: &[f64],
+    penalty: &[f64],
+    distances: &[f64],
+    times: &[f64],
+    demand: &[i32],
+    visits: &[u16],
+    lengths: &[u16],
+    buffer: &mut [u16],
+    deltas: &mut [f64],
+    positions: &mut [u16],
+    places: &mut [u16],
+)
+    requires { ⌜ Prepared setup (columnsAt (setup .l) flags service ready due penalty distances times) ⌝ }
+    requires { ⌜ Boxed (setup .l) (now demand) × Held (setup .l) (now visits) (now lengths) ⌝ }
+    requires { ⌜ 64 ≤ length (now buffer) ⌝ }
+    requires { ⌜ Sized (tableAt deltas positions places) ⌝ }
+    ensures { λ _.
+        ⌜ AllRight (columnsAt (setup .l) (flags .entry) (service .entry) (ready .entry) (due .entry) (penalty .entry) (distances .entry) (times .entry))
+        (now (demand .entry)) setup (now (visits .entry)) (now (lengths .entry)) (tableAt (deltas .exit) (positions .exit) (places .exit)) ⌝ }
+{
+    let mut from = 0;
+    while from < lengths.len() {
+        search_row(
+            setup,
+            flags,
+            service,
+            ready,
+            due,
+            penalty,
+            distances,
+            times,
+            demand,
+            visits,
+            lengths,
+            buffer,
+            deltas,
+            positions,
+            places,
+            from,
+        );
+        from += 1;
+    }
+}
+
+// Searches again, after a move out of list a into list b, the pairs of one list with both.
+fn search_with(
+    setup: Setup,
+    flags: &[u8],
+    service: &[f64],
+    ready: &[f64],
+    due: &[f64],
+    penalty: &[f64],
+    distances: &[f64],
+    times: &[f64],
+    demand: &[i32],
+    visits: &[u16],
+    lengths: &[u16],
+    buffer: &mut [u16],
+    deltas: &mut [f64],
+    positions: &mut [u16],
+    places: &mut [u16],
+    a: usize,
+    b: usize,
+    other: usize,
+)
+    requires { ⌜ Prepared setup (columnsAt (setup .l) flags service ready due penalty distances times) ⌝ }
+    requires { ⌜ Boxed (setup .l) (now demand) × Held (setup .l) (now visits) (now lengths) ⌝ }
+    requires { ⌜ 64 ≤ length (now buffer) ⌝ }
+    requires { ⌜ RightOf (columnsAt (setup .l) flags service ready due penalty distances times) (now demand) setup (now visits) (now lengths) (Renewed a b other) (tableAt deltas positions places) ⌝ }
+    requires { ⌜ (a < length (now lengths)) × (b < length (now lengths)) × (other < length (now lengths)) ⌝ }
+    ensures { λ _.
+        ⌜ RightOf (columnsAt (setup .l) (flags .entry) (service .entry) (ready .entry) (due .entry) (penalty .entry) (distances .entry) (times .entry))
+        (now (demand .entry)) setup (now (visits .entry)) (now (lengths .entry)) (Renewed a b (other + 1)) (tableAt (deltas .exit) (positions .exit) (places .exit)) ⌝ }
+{
+    search_pair(
+        setup,
+        flags,
+        service,
+        ready,
+        due,
+        penalty,
+        distances,
+        times,
+        demand,
+        visits,
+        lengths,
+        buffer,
+        deltas,
+        positions,
+        places,
+        a,
+        other,
+    );
+    search_pair(
+        setup,
+        flags,
+        service,
+        ready,
+        due,
+        penalty,
+        distances,
+        times,
+        demand,
+        visits,
+        lengths,
+        buffer,
+        deltas,
+        positions,
+        places,
+        other,
+        a,
+    );
+    search_pair(
+        setup,
+        flags,
+        service,
+        ready,
+        due,
+        penalty,
+        distances,
+        times,
+        demand,
+        visits,
+        lengths,
+        buffer,
+        deltas,
+        positions,
+        places,
+        b,
+        other,
+    );
+    search_pair(
+        setup,
+        flags,
+        service,
+        ready,
+        due,
+        penalty,
+        distances,
+        times,
+        demand,
+        visits,
+        lengths,
+        buffer,
+        deltas,
+        positions,
+        places,
+        other,
+        b,
+    );
+}
+
+// Searches again every pair with list a or b in it: the lists that a move changed.
+fn search_again(
+    setup: Setup,
+    flags: &[u8],
+    service: &[f64],
+    ready: &[f64],
+    due: &[f64],
+    penalty: &[f64],
+    distances: &[f64],
+    times: &[f64],
+    demand: &[i32],
+    visits: &[u16],
+    lengths: &[u16],
+    buffer: &mut [u16],
+    deltas: &mut [f64],
+    positions: &mut [u16],
+    places: &mut [u16],
+    a: usize,
+    b: usize,
+)
+    requires { ⌜ Prepared setup (columnsAt (setup .l) flags service ready due penalty distances times) ⌝ }
+    requires { ⌜ Boxed (setup .l) (now demand) × Held (setup .l) (now visits) (now lengths) ⌝ }
+    requires { ⌜ 64 ≤ length (now buffer) ⌝ }
+    requires { ⌜ RightOf (columnsAt (setup .l) flags service ready due penalty distances times) (now demand) setup (now visits) (now lengths) (Renewed a b 0) (tableAt deltas positions places) ⌝ }
+    requires { ⌜ (a < length (now lengths)) × (b < length (now lengths)) ⌝ }
+    ensures { λ _.
+        ⌜ AllRight (columnsAt (setup .l) (flags .entry) (service .entry) (ready .entry) (due .entry) (penalty .entry) (distances .entry) (times .entry))
+        (now (demand .entry)) setup (now (visits .entry)) (now (lengths .entry)) (tableAt (deltas .exit) (positions .exit) (places .exit)) ⌝ }
+{
+    let mut other = 0;
+    while other < lengths.len() {
+        search_with(
+            setup,
+            flags,
+            service,
+            ready,
+            due,
+            penalty,
+            distances,
+            times,
+            demand,
+            visits,
+            lengths,
+            buffer,
+            deltas,
+            positions,
+            places,
+            a,
+            b,
+            other,
+        );
+        other += 1;
+    }
 }

@@ -7,7 +7,8 @@ use Rattle.edits.specs.Total.{total}
 use Rattle.evaluation.specs.Route.{effectiveCost}
 use Rattle.descent.proofs.Members.{and-parts}
 use Rattle.soft_relocate.proofs.Boxes.{list-visits}
-use Rattle.soft_relocate.proofs.Choosing.{one-list, no-price}
+use Rattle.pairs.proofs.Taken.{best-same-list}
+use Rattle.soft_relocate.proofs.Choosing.{no-price}
 use Rattle.soft_relocate.proofs.best_between.Statement.{statement}
 use Rattle.soft_relocate.proofs.best_between.Tie as tie
 
@@ -17,8 +18,7 @@ nothing-below-requires c κs = search needs
 returns : tie.Need-returns
 returns c =
     let at-if1 = c .before .before in
-    let start = at-if1 .before .before .before .before .before .before .before .before .before .before .before in
-    rw (c .nothing-below .ensures) (one-list _ _ (start .args .setup) _ _ _ _ (at-if1 .if1 .taken))
+    rw (c .nothing-below .ensures) (best-same-list _ _ _ _ _ _ (at-if1 .if1 .taken))
 
 list-of-requires : tie.Need-list-of-requires
 list-of-requires c κs =
