@@ -16,7 +16,7 @@ use Rattle.lists.specs.Table.{Laid, lists, listOf}
 use Rattle.evaluation.specs.Columns.{Columns, Formed}
 use Rattle.evaluation.specs.Route.{effectiveCost}
 use Rattle.descent.specs.Order.{range}
-use Rattle.descent.specs.Search.{Search, Judge}
+use Rattle.descent.specs.Search.{Search, Judge, Sweep, Outcome, next, run}
 use Rattle.descent.specs.Across.{at, Relocation}
 use Rattle.pairs.specs.Scan.{onward, figure, Counted}
 use Rattle.pairs.specs.Pairs.{moveOf, Table, IsBest, Stored, RightWhere}
@@ -59,6 +59,10 @@ judgeOf c s = soft-relocate-judge (priceOf c s) (s .fixed) (s .floor)
 -- minus the floor
 abbrev pub bound : Setup → Float
 bound s = neg (s .floor)
+
+-- the run from some lists on
+unfoldable pub runFrom : Columns → List ℤ → Setup → ℕ → List (List ℕ) → Outcome (Sweep (List (List ℕ)) Unit)
+runFrom c demand s limit ls = run (next (searchOf c demand s) (judgeOf c s)) limit (record { now = ls; ahead = [] })
 
 -- ---- candidates
 

@@ -34,13 +34,12 @@ ghost use Rattle.lists.specs.Table.{lists};
 ghost use Rattle.lists.specs.Edits.{Edited};
 ghost use Rattle.evaluation.specs.Columns.{columnsAt, Formed, Visits};
 ghost use Rattle.descent.specs.Order.{range};
-ghost use Rattle.descent.specs.Search.{next, run};
 ghost use Rattle.deltas.specs.Changes.{fixedIf};
 ghost use Rattle.engine.specs.Engine.{endedAs};
 ghost use Rattle.pairs.specs.Pairs.{nothing, tableAt, Sized, Before, Renewed};
 ghost use Rattle.soft_relocate.specs.SoftRelocate.{boxesOf, without, inserted, givingDelta, soft-relocate-run};
 ghost use Rattle.soft_relocate.specs.Offers.{Boxed, Held, Prepared, priceOf, intoList, better, bestAmong, Known, Best, Scanned};
-ghost use Rattle.soft_relocate.specs.Offers.{searchOf, judgeOf, BestOf, StoredOf, RightOf, AllRight};
+ghost use Rattle.soft_relocate.specs.Offers.{runFrom, BestOf, StoredOf, RightOf, AllRight};
 
 // What is worked out once before the first move.
 pub struct Setup {
@@ -879,4 +878,153 @@ fn search_again(
         );
         other += 1;
     }
+}
+
+// ---- the run
+
+// Makes move after move, the least of the table, until none is left or the limit is used up.
+fn descend(
+    setup: Setup,
+    flags: &[u8],
+    service: &[f64],
+    ready: &[f64],
+    due: &[f64],
+    penalty: &[f64],
+    distances: &[f64],
+    times: &[f64],
+    demand: &[i32],
+    visits: &mut [u16],
+    lengths: &mut [u16],
+    buffer: &mut [u16],
+    deltas: &mut [f64],
+    positions: &mut [u16],
+    places: &mut [u16],
+    limit: u32,
+) -> Ended
+    requires { ⌜ Prepared setup (columnsAt (setup .l) flags service ready due penalty distances times) ⌝ }
+    requires { ⌜ Boxed (setup .l) (now demand) × Held (setup .l) (now visits) (now lengths) ⌝ }
+    requires { ⌜ (64 ≤ length (now buffer)) × Sized (tableAt deltas positions places) ⌝ }
+    ensures { λ r.
+        ⌜ (let c = columnsAt (setup .l) (flags .entry) (service .entry) (ready .entry) (due .entry) (penalty .entry) (distances .entry) (times .entry) in
+        let run = runFrom c (now (demand .entry)) setup limit (lists (now (visits .entry)) (now (lengths .entry)))
+        in Edited (now (visits .entry)) (now (lengths .entry)) (now (visits .exit)) (now (lengths .exit)) (run .last .now)
+        × (r ≡ endedAs (run .word) (run .moves))) ⌝ }
+{
+    search_all(
+        setup,
+        flags,
+        service,
+        ready,
+        due,
+        penalty,
+        distances,
+        times,
+        demand,
+        visits,
+        lengths,
+        buffer,
+        deltas,
+        positions,
+        places,
+    );
+    let mut moves = 0;
+    loop {
+        let best = best_pair(lengths.len(), -setup.floor, deltas, positions, places);
+        if !best.found {
+            return Ended::Settled(moves);
+        }
+        if limit <= moves {
+            return Ended::Stopped(moves);
+        }
+        move_visit(
+            visits,
+            lengths,
+            best.from,
+            best.position,
+            best.to,
+            best.place,
+        );
+        search_again(
+            setup,
+            flags,
+            service,
+            ready,
+            due,
+            penalty,
+            distances,
+            times,
+            demand,
+            visits,
+            lengths,
+            buffer,
+            deltas,
+            positions,
+            places,
+            best.from,
+            best.to,
+        );
+        moves += 1;
+    }
+}
+
+// Relocate of all lists, priced whole, changed in place under their numbers, with at most `limit` moves. `fixed` is the van's fixed cost as a distance.
+pub fn improve(
+    l: usize,
+    flags: &[u8],
+    demand: &[i32],
+    service: &[f64],
+    ready: &[f64],
+    due: &[f64],
+    penalty: &[f64],
+    distances: &[f64],
+    times: &[f64],
+    limits: RouteLimits,
+    capacity: i32,
+    fixed: f64,
+    depot: usize,
+    visits: &mut [u16],
+    lengths: &mut [u16],
+    limit: u32,
+) -> Ended
+    requires { ⌜ Formed (columnsAt l flags service ready due penalty distances times) ⌝ }
+    requires { ⌜ Boxed l (now demand) × (capacityOk capacity ≡ true) ⌝ }
+    requires { ⌜ (depot < l) × Held l (now visits) (now lengths) ⌝ }
+    ensures { λ r.
+        ⌜ (let c = columnsAt l (flags .entry) (service .entry) (ready .entry) (due .entry) (penalty .entry) (distances .entry) (times .entry) in
+        let run = soft-relocate-run c (now (demand .entry)) limits capacity fixed depot (gainFloor (scaleOf (now (distances .entry)))) limit
+        (lists (now (visits .entry)) (now (lengths .entry)))
+        in Edited (now (visits .entry)) (now (lengths .entry)) (now (visits .exit)) (now (lengths .exit)) (run .last .now)
+        × (r ≡ endedAs (run .word) (run .moves))) ⌝ }
+{
+    let floor = gain_floor(scale(distances));
+    let setup = Setup {
+        l,
+        depot,
+        limits,
+        capacity: capacity as usize,
+        fixed,
+        floor,
+    };
+    let mut buffer = [0u16; 64];
+    let mut deltas = [0.0; 256];
+    let mut positions = [0u16; 256];
+    let mut places = [0u16; 256];
+    descend(
+        setup,
+        flags,
+        service,
+        ready,
+        due,
+        penalty,
+        distances,
+        times,
+        demand,
+        visits,
+        lengths,
+        &mut buffer,
+        &mut deltas,
+        &mut positions,
+        &mut places,
+        limit,
+    )
 }
