@@ -13,7 +13,7 @@ use borrow.Author.Tests.{le-leb, leb-true}
 use lib.Dec.{leb, eqb}
 use lib.IntN.{ℤ}
 use lib.ListN.{length, getD}
-use lib.Ieee.{Float, lt, neg}
+use lib.Ieee.{Float, lt}
 use lib.Ieee.Scale.{finite}
 use Rattle.edits.specs.Total.{total}
 use Rattle.lists.specs.Table.{sum, lists, listOf}
@@ -288,4 +288,5 @@ module _ (c : Columns) (demand : List ℤ) (s : Setup) (visits lengths : List �
       offered-as e h paid after is-paid is-after =
           let pays = rw is-receiver at is-paid in
           rw (is-after, is-receiver)
-          (offered pair known position (getD xs position 0) the-visit giving (rw is-giver at is-giving) (omega (arith, the-load)) (sym asked ∙ e) paid pays best b)
+          (offered pair known position (getD xs position 0) the-visit giving (rw is-giver at is-giving) (omega (arith, the-load)) (sym asked ∙ e) paid pays
+          best b)

@@ -3,12 +3,12 @@
 use mathlib.Core.Path.{_≡_, refl, sym, ap, _∙_}
 use mathlib.Core.Bool.{Bool, true, false, not}
 use mathlib.Core.List.{List, [], _∷_, _++_, append-assoc}
-use Prim.Native.Nat.{ℕ, zero, suc, _+_, _-_, _≤_, _<_}
+use Prim.Native.Nat.{ℕ, suc, _+_, _-_, _≤_, _<_}
 use native.Mathlib.Numerals.{add-one}
 use native.Mathlib.Omega.{arith}
 use borrow.Author.Tests.{lt-ltb, ltb-true}
 use lib.Dec.{ltb}
-use lib.ListN.{length, getD, set, take, drop, take-append-drop, length-append}
+use lib.ListN.{length, getD, take, drop, take-append-drop}
 use lib.Seq.{slice, take-suc, drop-cons, take-append-seam, length-take-le}
 use Rattle.edits.specs.Total.{total, bit, total-append, total-none, total-one, part-le}
 use Rattle.edits.specs.Edits.{swapped}

@@ -1,7 +1,7 @@
 -- An offer at one place more, and at all places of a list. Assumes nothing.
 use mathlib.Core.Path.{_≡_}
 use mathlib.Core.Bool.{true, false, cond}
-use mathlib.Core.List.{List, []}
+use mathlib.Core.List.{List}
 use Prim.Native.Nat.{ℕ, suc, _+_, _≤_, _<_}
 use native.Mathlib.Numerals.{add-one}
 use native.Mathlib.Omega.{arith}
@@ -16,7 +16,6 @@ use Rattle.soft_relocate.specs.SoftRelocate.{without, inserted, givingDe
 use Rattle.soft_relocate.specs.Offers.{taken-at, offerDelta, better, bestAmong}
 use Rattle.soft_relocate.specs.declared.Offer.{Offer}
 use Rattle.pairs.specs.declared.Choice.{Choice}
-use Rattle.soft_relocate.proofs.Laid.{length-without}
 
 -- what the giver's change is made of
 pub giving-is : (price : List ℕ → Float) (fixed : Float) (list : List ℕ) (position end : ℕ) (new old saved : Float) → position < length list

@@ -22,8 +22,7 @@ use Rattle.engine.specs.declared.Ended.{Ended}
 use Rattle.engine.specs.declared.Ended.the-variants.{Settled, Stopped}
 use Rattle.pairs.specs.Pairs.{moveOf, Table, leastEntry, Renewed, Agree}
 use Rattle.pairs.specs.declared.Choice.{Choice}
-use Rattle.pairs.proofs.Kept.{right-kept}
-use Rattle.pairs.proofs.Taken.{edited-other, agree-local, relocates, Relocating, table-taken, taken-there}
+use Rattle.pairs.proofs.Taken.{edited-other, agree-local, relocates, Relocating, table-taken, taken-there, right-moved}
 use Rattle.pairs.proofs.Going as going
 use Rattle.soft_relocate.specs.SoftRelocate.{measureOf, inserted, softDelta, priced}
 use Rattle.soft_relocate.specs.Offers.{Held, priceOf, searchOf, judgeOf, bound, runFrom, RightOf, AllRight}
@@ -59,8 +58,8 @@ module _ (c : Columns) (demand : List ℤ) (s : Setup) where
   }
 
   -- the least entry is the next move, which can be made
-  pub least-taken : (visits lengths : List ℕ) (t : Table) (best : Choice) → AllRight c demand s visits lengths t → best ≡ leastEntry (length lengths) (bound s) t
-      → moveOf best ≡ taken (searchOf c demand s) (judgeOf c s) (lists visits lengths) tt
+  pub least-taken : (visits lengths : List ℕ) (t : Table) (best : Choice) → AllRight c demand s visits lengths t
+      → best ≡ leastEntry (length lengths) (bound s) t → moveOf best ≡ taken (searchOf c demand s) (judgeOf c s) (lists visits lengths) tt
   least-taken visits lengths t best right is =
       ap moveOf is ∙ table-taken (searchOf c demand s) (judgeOf c s) (bound s) relocating (lists visits lengths) (length lengths) t
       (rw (length-lists visits lengths)) right
@@ -77,16 +76,16 @@ module _ (c : Columns) (demand : List ℤ) (s : Setup) where
   unfolding searchOf judgeOf
   agrees ls ls′ a b same =
       agree-local (λ X Y m. softDelta (priceOf c s) (s .fixed) X Y (m .position) (m .place))
-      (λ X Y m. room (measureOf demand (s .capacity) ∷ []) (inserted Y (getD X (m .position) 0) (m .place)) && priced (priceOf c s) (s .fixed) X Y (m .position))
+      (λ X Y m. room (measureOf demand (s .capacity) ∷ []) (inserted Y (getD X (m .position) 0) (m .place))
+      && priced (priceOf c s) (s .fixed) X Y (m .position))
       ls ls′ a b same
 
   pub after-move : (visits lengths visits′ lengths′ : List ℕ) (from position to place : ℕ) (t : Table)
       → Edited visits lengths visits′ lengths′ (relocated (lists visits lengths) from position to place) → AllRight c demand s visits lengths t
       → RightOf c demand s visits′ lengths′ (Renewed from to 0) t
   after-move visits lengths visits′ lengths′ from position to place t e right =
-      rw (e .number) (right-kept _ _ _ _ (bound s) (lists visits lengths) (lists visits′ lengths′) from to
-      (agrees (lists visits lengths) (lists visits′ lengths′) from to (edited-other visits lengths visits′ lengths′ from position to place e))
-      (length lengths) t right)
+      right-moved _ _ _ _ (bound s) visits lengths visits′ lengths′ t from position to place
+      (agrees (lists visits lengths) (lists visits′ lengths′) from to (edited-other visits lengths visits′ lengths′ from position to place e)) e right
 
   module _ (limit : ℕ) (first : List (List ℕ)) (moves : ℕ) where
     -- the run is at some lists

@@ -19,7 +19,7 @@ use Rattle.descent.specs.Order.{range}
 use Rattle.descent.specs.Search.{Search, Judge, Sweep, Outcome, next, run}
 use Rattle.descent.specs.Across.{at, Relocation}
 use Rattle.pairs.specs.Scan.{onward, figure, Counted}
-use Rattle.pairs.specs.Pairs.{moveOf, Table, IsBest, Stored, RightWhere}
+use Rattle.pairs.specs.Pairs.{moveOf, Table, IsBest, Stored, StoredBoth, RightWhere}
 use Rattle.pairs.specs.declared.Choice.{Choice}
 use Rattle.soft_relocate.specs.SoftRelocate.{boxesOf, measureOf, inserted, soft-relocate-search, soft-relocate-judge}
 use Rattle.soft_relocate.specs.declared.Setup.{Setup}
@@ -123,6 +123,10 @@ module _ (c : Columns) (demand : List ℤ) (s : Setup) (visits lengths : List �
   -- a table of pairs in which it was put
   abbrev pub StoredOf : ℕ → ℕ → Table → Table → Type 0
   StoredOf = Stored (judgeOf c s .delta (lists visits lengths)) (searchOf c demand s .passes (lists visits lengths)) (bound s) (lists visits lengths)
+
+  -- both ways
+  abbrev pub StoredBothOf : ℕ → ℕ → Table → Table → Type 0
+  StoredBothOf = StoredBoth (judgeOf c s .delta (lists visits lengths)) (searchOf c demand s .passes (lists visits lengths)) (bound s) (lists visits lengths)
 
   -- a table of pairs that is right for those that are done
   abbrev pub RightOf : (ℕ → ℕ → Type 0) → Table → Type 0

@@ -20,8 +20,7 @@ use pairs::put_pair;
 use tests::both;
 ghost use mathlib.Core.Path.{_≡_};
 ghost use mathlib.Core.Logic.{_≢_};
-ghost use mathlib.Core.Bool.{true, false};
-ghost use mathlib.Core.List.{[], _∷_};
+ghost use mathlib.Core.Bool.{true};
 ghost use Prim.Native.Nat.{suc, _+_, _-_, _<_, _≤_};
 ghost use lib.IntN.{pos};
 ghost use lib.ListN.{length, take, getD};
@@ -39,7 +38,7 @@ ghost use Rattle.engine.specs.Engine.{endedAs};
 ghost use Rattle.pairs.specs.Pairs.{nothing, tableAt, Sized, Before, Renewed};
 ghost use Rattle.soft_relocate.specs.SoftRelocate.{boxesOf, without, inserted, givingDelta, soft-relocate-run};
 ghost use Rattle.soft_relocate.specs.Offers.{Boxed, Held, Prepared, priceOf, intoList, better, bestAmong, Known, Best, Scanned};
-ghost use Rattle.soft_relocate.specs.Offers.{runFrom, BestOf, StoredOf, RightOf, AllRight};
+ghost use Rattle.soft_relocate.specs.Offers.{runFrom, BestOf, StoredOf, StoredBothOf, RightOf, AllRight};
 
 // What is worked out once before the first move.
 pub struct Setup {
@@ -593,7 +592,8 @@ fn search_pair(
     requires { ⌜ Sized (tableAt deltas positions places) × (from < length (now lengths)) × (to < length (now lengths)) ⌝ }
     ensures { λ _.
         ⌜ StoredOf (columnsAt (setup .l) (flags .entry) (service .entry) (ready .entry) (due .entry) (penalty .entry) (distances .entry) (times .entry))
-        (now (demand .entry)) setup (now (visits .entry)) (now (lengths .entry)) from to (tableAt (deltas .entry) (positions .entry) (places .entry)) (tableAt (deltas .exit) (positions .exit) (places .exit)) ⌝ }
+        (now (demand .entry)) setup (now (visits .entry)) (now (lengths .entry)) from to
+        (tableAt (deltas .entry) (positions .entry) (places .entry)) (tableAt (deltas .exit) (positions .exit) (places .exit)) ⌝ }
 {
     let best = best_between(
         setup,
@@ -636,11 +636,13 @@ fn search_row(
     requires { ⌜ Prepared setup (columnsAt (setup .l) flags service ready due penalty distances times) ⌝ }
     requires { ⌜ Boxed (setup .l) (now demand) × Held (setup .l) (now visits) (now lengths) ⌝ }
     requires { ⌜ 64 ≤ length (now buffer) ⌝ }
-    requires { ⌜ RightOf (columnsAt (setup .l) flags service ready due penalty distances times) (now demand) setup (now visits) (now lengths) (Before from 0) (tableAt deltas positions places)
+    requires { ⌜ RightOf (columnsAt (setup .l) flags service ready due penalty distances times) (now demand) setup (now visits) (now lengths) (Before from 0)
+        (tableAt deltas positions places)
         × (from < length (now lengths)) ⌝ }
     ensures { λ _.
         ⌜ RightOf (columnsAt (setup .l) (flags .entry) (service .entry) (ready .entry) (due .entry) (penalty .entry) (distances .entry) (times .entry))
-        (now (demand .entry)) setup (now (visits .entry)) (now (lengths .entry)) (Before (from + 1) 0) (tableAt (deltas .exit) (positions .exit) (places .exit)) ⌝ }
+        (now (demand .entry)) setup (now (visits .entry)) (now (lengths .entry)) (Before (from + 1) 0)
+        (tableAt (deltas .exit) (positions .exit) (places .exit)) ⌝ }
 {
     let mut to = 0;
     while to < lengths.len() {
@@ -717,8 +719,8 @@ fn search_all(
     }
 }
 
-// Searches again, after a move out of list a into list b, the pairs of one list with both.
-fn search_with(
+// Searches the pairs of two lists both ways.
+fn search_both(
     setup: Setup,
     flags: &[u8],
     service: &[f64],
@@ -734,18 +736,17 @@ fn search_with(
     deltas: &mut [f64],
     positions: &mut [u16],
     places: &mut [u16],
-    a: usize,
-    b: usize,
+    r: usize,
     other: usize,
 )
     requires { ⌜ Prepared setup (columnsAt (setup .l) flags service ready due penalty distances times) ⌝ }
     requires { ⌜ Boxed (setup .l) (now demand) × Held (setup .l) (now visits) (now lengths) ⌝ }
     requires { ⌜ 64 ≤ length (now buffer) ⌝ }
-    requires { ⌜ RightOf (columnsAt (setup .l) flags service ready due penalty distances times) (now demand) setup (now visits) (now lengths) (Renewed a b other) (tableAt deltas positions places) ⌝ }
-    requires { ⌜ (a < length (now lengths)) × (b < length (now lengths)) × (other < length (now lengths)) ⌝ }
+    requires { ⌜ Sized (tableAt deltas positions places) × (r < length (now lengths)) × (other < length (now lengths)) ⌝ }
     ensures { λ _.
-        ⌜ RightOf (columnsAt (setup .l) (flags .entry) (service .entry) (ready .entry) (due .entry) (penalty .entry) (distances .entry) (times .entry))
-        (now (demand .entry)) setup (now (visits .entry)) (now (lengths .entry)) (Renewed a b (other + 1)) (tableAt (deltas .exit) (positions .exit) (places .exit)) ⌝ }
+        ⌜ StoredBothOf (columnsAt (setup .l) (flags .entry) (service .entry) (ready .entry) (due .entry) (penalty .entry) (distances .entry) (times .entry))
+        (now (demand .entry)) setup (now (visits .entry)) (now (lengths .entry)) r other
+        (tableAt (deltas .entry) (positions .entry) (places .entry)) (tableAt (deltas .exit) (positions .exit) (places .exit)) ⌝ }
 {
     search_pair(
         setup,
@@ -763,7 +764,7 @@ fn search_with(
         deltas,
         positions,
         places,
-        a,
+        r,
         other,
     );
     search_pair(
@@ -783,45 +784,7 @@ fn search_with(
         positions,
         places,
         other,
-        a,
-    );
-    search_pair(
-        setup,
-        flags,
-        service,
-        ready,
-        due,
-        penalty,
-        distances,
-        times,
-        demand,
-        visits,
-        lengths,
-        buffer,
-        deltas,
-        positions,
-        places,
-        b,
-        other,
-    );
-    search_pair(
-        setup,
-        flags,
-        service,
-        ready,
-        due,
-        penalty,
-        distances,
-        times,
-        demand,
-        visits,
-        lengths,
-        buffer,
-        deltas,
-        positions,
-        places,
-        other,
-        b,
+        r,
     );
 }
 
@@ -848,7 +811,8 @@ fn search_again(
     requires { ⌜ Prepared setup (columnsAt (setup .l) flags service ready due penalty distances times) ⌝ }
     requires { ⌜ Boxed (setup .l) (now demand) × Held (setup .l) (now visits) (now lengths) ⌝ }
     requires { ⌜ 64 ≤ length (now buffer) ⌝ }
-    requires { ⌜ RightOf (columnsAt (setup .l) flags service ready due penalty distances times) (now demand) setup (now visits) (now lengths) (Renewed a b 0) (tableAt deltas positions places) ⌝ }
+    requires { ⌜ RightOf (columnsAt (setup .l) flags service ready due penalty distances times) (now demand) setup (now visits) (now lengths)
+        (Renewed a b 0) (tableAt deltas positions places) ⌝ }
     requires { ⌜ (a < length (now lengths)) × (b < length (now lengths)) ⌝ }
     ensures { λ _.
         ⌜ AllRight (columnsAt (setup .l) (flags .entry) (service .entry) (ready .entry) (due .entry) (penalty .entry) (distances .entry) (times .entry))
@@ -856,7 +820,7 @@ fn search_again(
 {
     let mut other = 0;
     while other < lengths.len() {
-        search_with(
+        search_both(
             setup,
             flags,
             service,
@@ -873,6 +837,24 @@ fn search_again(
             positions,
             places,
             a,
+            other,
+        );
+        search_both(
+            setup,
+            flags,
+            service,
+            ready,
+            due,
+            penalty,
+            distances,
+            times,
+            demand,
+            visits,
+            lengths,
+            buffer,
+            deltas,
+            positions,
+            places,
             b,
             other,
         );

@@ -66,8 +66,11 @@ returns-2 c =
     let at-list-of = at-list-of2 .before in
     let at-if1 = at-list-of .before in
     let start = at-if1 .before .before .before .before .before .before .before .before .before .before .before in
-    rw (c .nothing-below2 .ensures) (no-price _ _ (start .args .setup) _ _ _ _ _ _ (at-price-of .price-of .ensures ∙ ap (effectiveCost _ _ _) (at-list-of .list-of .ensures))
-    (at-price-of2 .price-of2 .ensures ∙ ap (effectiveCost _ _ _) (at-list-of2 .list-of2 .ensures)) (sym (at-both .both .ensures ∙ ap₂ _&&_ (at-is-finite .is-finite .ensures) (at-is-finite2 .is-finite2 .ensures)) ∙ not-true _ (at-if2 .if2 .taken)) (at-if1 .if1 .left))
+    rw (c .nothing-below2 .ensures) (no-price _ _ (start .args .setup) _ _ _ _ _ _
+    (at-price-of .price-of .ensures ∙ ap (effectiveCost _ _ _) (at-list-of .list-of .ensures))
+    (at-price-of2 .price-of2 .ensures ∙ ap (effectiveCost _ _ _) (at-list-of2 .list-of2 .ensures))
+    (sym (at-both .both .ensures ∙ ap₂ _&&_ (at-is-finite .is-finite .ensures) (at-is-finite2 .is-finite2 .ensures)) ∙ not-true _ (at-if2 .if2 .taken))
+    (at-if1 .if1 .left))
 
 load-of-requires : tie.Need-load-of-requires
 load-of-requires c κs =

@@ -34,8 +34,10 @@ nothing-below-requires c κs = search needs
 loop-holds : tie.Need-loop-holds Inv-loop μ-loop
 loop-holds c =
     let at-length-of = c .before .before in
-    let start = at-length-of .before .before .before .before .before .before .before .before .before .before .before in
-    (rw (c .nothing-below .ensures) (pair-start _ _ (start .args .setup) _ _ (start .pre .1 .0 .1 .laid .add-up) _ _ _ (at-length-of .length-of .ensures .0)), refl)
+    let start = at-length-of .before .before .before .before .before .before .before .before .before .before .before in (
+      rw (c .nothing-below .ensures) (pair-start _ _ (start .args .setup) _ _ (start .pre .1 .0 .1 .laid .add-up) _ _ _ (at-length-of .length-of .ensures .0)),
+      refl,
+    )
 
 offer-visit-requires : tie.Need-offer-visit-requires Inv-loop μ-loop
 offer-visit-requires c κs =
@@ -52,7 +54,12 @@ offer-visit-requires c κs =
             at-loop .loop .inv .0 .still,
             (
               start .pre .1 .1 .1 .0,
-              (start .pre .1 .1 .1 .1 .0, omega (arith, at-loop-test .loop-test .taken, at-length-of .length-of .ensures .0), start .pre .1 .1 .1 .1 .1, start .pre .1 .1 .1 .1 .2),
+              (
+                start .pre .1 .1 .1 .1 .0,
+                omega (arith, at-loop-test .loop-test .taken, at-length-of .length-of .ensures .0),
+                start .pre .1 .1 .1 .1 .1,
+                start .pre .1 .1 .1 .1 .2,
+              ),
             ),
           ),
         ),

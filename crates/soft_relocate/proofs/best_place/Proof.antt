@@ -6,7 +6,6 @@ use Prim.Native.Nat.{suc, _+_, _-_, _≤_}
 use native.Mathlib.Omega.{arith}
 use lib.ListN.{length, take}
 use Rattle.evaluation.specs.Columns.{columns}
-use Rattle.evaluation.specs.Route.{effectiveCost}
 use Rattle.descent.specs.Order.{range}
 use Rattle.soft_relocate.specs.SoftRelocate.{inserted}
 use Rattle.soft_relocate.specs.Offers.{priceOf, bestAmong}
@@ -60,13 +59,16 @@ step-on-requires c κs =
     let at-loop-test = c .before in
     let at-loop = at-loop-test .before in
     let at-inserted-first = at-loop .before .before .before .before .before .before in
-    let start = at-inserted-first .before .before .before .before .before .before .before .before .before .before .before in
-    (omega (arith, at-loop-test .loop-test .taken, at-loop .loop .inv .3, at-inserted-first .inserted-first .kept .0, start .pre .1 .0, start .pre .1 .1 .1), omega (arith, at-loop-test .loop-test .taken, start .pre .1 .1 .1))
+    let start = at-inserted-first .before .before .before .before .before .before .before .before .before .before .before in (
+      omega (arith, at-loop-test .loop-test .taken, at-loop .loop .inv .3, at-inserted-first .inserted-first .kept .0, start .pre .1 .0, start .pre .1 .1 .1),
+      omega (arith, at-loop-test .loop-test .taken, start .pre .1 .1 .1),
+    )
 
 add-place : tie.Need-add-place Inv-loop μ-loop
 add-place c =
     let at-loop-test = c .before .before .before .before in
-    let start = at-loop-test .before .before .before .before .before .before .before .before .before .before .before .before .before .before .before .before .before .before in
+    let further = at-loop-test .before .before .before .before .before .before .before .before .before .before in
+    let start = further .before .before .before .before .before .before .before .before in
     omega (arith, at-loop-test .loop-test .taken, start .pre .1 .1 .1)
 
 sub-better-of-2 : tie.Need-sub-better-of-2 Inv-loop μ-loop
@@ -81,7 +83,15 @@ part-better-of-end-2 c =
     let at-loop = at-step-on .before .before .before in
     let at-inserted-first = at-loop .before .before .before .before .before .before in
     let start = at-inserted-first .before .before .before .before .before .before .before .before .before .before .before in
-    omega (arith, at-step-on .step-on .kept .0, at-loop .loop .inv .3, at-inserted-first .inserted-first .ensures .0, at-inserted-first .inserted-first .kept .0, start .pre .1 .0, start .pre .1 .1 .1)
+    omega (
+      arith,
+      at-step-on .step-on .kept .0,
+      at-loop .loop .inv .3,
+      at-inserted-first .inserted-first .ensures .0,
+      at-inserted-first .inserted-first .kept .0,
+      start .pre .1 .0,
+      start .pre .1 .1 .1,
+    )
 
 better-of-requires-2 : tie.Need-better-of-requires-2 Inv-loop μ-loop
 better-of-requires-2 c κs =
@@ -90,12 +100,14 @@ better-of-requires-2 c κs =
     let at-loop = at-loop-test .before in
     let at-inserted-first = at-loop .before .before .before .before .before .before in
     let start = at-inserted-first .before .before .before .before .before .before .before .before .before .before .before in
-    let on = stepped (start .args .list .now) (start .args .offer .visit) (at-loop .loop .place) (at-inserted-first .inserted-first .result) (at-loop .loop .buffer) (at-loop-test .loop-test .taken)
+    let on = stepped (start .args .list .now) (start .args .offer .visit) (at-loop .loop .place) (at-inserted-first .inserted-first .result)
+    (at-loop .loop .buffer) (omega (arith, at-loop-test .loop-test .taken))
     (omega (arith, at-inserted-first .inserted-first .ensures .0)) (at-loop .loop .inv .1) in
     let laid = ap (take (at-inserted-first .inserted-first .result)) (at-step-on .step-on .ensures) ∙ on in (
       start .pre .0,
       rw (front (at-inserted-first .inserted-first .result) (at-step-on .step-on .last .0) _ laid)
-          (visits-inserted _ (start .args .list .now) (start .args .offer .visit) (at-loop .loop .place + 1) (start .pre .1 .1 .0) (start .pre .1 .1 .1) (start .pre .1 .1 .2)),
+          (visits-inserted _ (start .args .list .now) (start .args .offer .visit) (at-loop .loop .place + 1) (start .pre .1 .1 .0) (start .pre .1 .1 .1)
+          (start .pre .1 .1 .2)),
     )
 
 loop-less : tie.Need-loop-less Inv-loop μ-loop
@@ -110,11 +122,13 @@ loop-again c =
     let at-loop = at-loop-test .before in
     let at-inserted-first = at-loop .before .before .before .before .before .before in
     let start = at-inserted-first .before .before .before .before .before .before .before .before .before .before .before in
-    let on = stepped (start .args .list .now) (start .args .offer .visit) (at-loop .loop .place) (at-inserted-first .inserted-first .result) (at-loop .loop .buffer) (at-loop-test .loop-test .taken)
+    let on = stepped (start .args .list .now) (start .args .offer .visit) (at-loop .loop .place) (at-inserted-first .inserted-first .result)
+    (at-loop .loop .buffer) (omega (arith, at-loop-test .loop-test .taken))
     (omega (arith, at-inserted-first .inserted-first .ensures .0)) (at-loop .loop .inv .1) in
     let laid = ap (take (at-inserted-first .inserted-first .result)) (at-step-on .step-on .ensures) ∙ on in (
       rw (c .better-of2 .ensures, front (at-inserted-first .inserted-first .result) (at-step-on .step-on .last .0) _ laid)
-          (among-turn _ (start .args .list .now) (start .args .offer) (at-loop .loop .after) (at-loop .loop .place + 1) (omega (arith, at-loop-test .loop-test .taken)) ∙ at-loop .loop .inv .0),
+          (among-turn _ (start .args .list .now) (start .args .offer) (at-loop .loop .after) (at-loop .loop .place + 1)
+          (omega (arith, at-loop-test .loop-test .taken)) ∙ at-loop .loop .inv .0),
       laid,
       omega (arith, at-loop-test .loop-test .taken),
       at-step-on .step-on .kept .0 ∙ at-loop .loop .inv .3,
@@ -132,8 +146,13 @@ returns c =
     let at-better-of = at-loop .before in
     let at-inserted-first = at-better-of .before .before .before .before .before in
     let start = at-inserted-first .before .before .before .before .before .before .before .before .before .before .before in
-    let all = sym (among-end _ (start .args .list .now) (start .args .offer) (at-loop .loop .after) (at-loop .loop .place + 1) (omega (arith, c .loop-test .left))) ∙ at-loop .loop .inv .0 in
-    all ∙ rw (at-better-of .better-of .ensures, front (at-inserted-first .inserted-first .result) (at-inserted-first .inserted-first .last .0) _ (at-inserted-first .inserted-first .ensures .1)) (among-turn _ (start .args .list .now) (start .args .offer) (start .args .best) 0 (omega arith))
+    let all = sym (among-end _ (start .args .list .now) (start .args .offer) (at-loop .loop .after) (at-loop .loop .place + 1)
+    (omega (arith, c .loop-test .left))) ∙ at-loop .loop .inv .0 in
+    all ∙ rw (
+      at-better-of .better-of .ensures,
+      front (at-inserted-first .inserted-first .result) (at-inserted-first .inserted-first .last .0) _ (at-inserted-first .inserted-first .ensures .1),
+    )
+    (among-turn _ (start .args .list .now) (start .args .offer) (start .args .best) 0 (omega arith))
 
 pub best-place-spec : {M : Type 1} → statement M
 best-place-spec =

@@ -1,5 +1,4 @@
 -- `descend`: the moves made and the run that is left are the whole run, and the table is right for the lists as they stand.
-use borrow.Author.Needs.{needs}
 use borrow.Author.Tests.{not-true, not-false}
 use mathlib.Core.Path.{_≡_, refl, _∙_}
 use Prim.Native.Nat.{_-_}
@@ -16,7 +15,8 @@ use Rattle.soft_relocate.proofs.descend.Statement.{statement}
 use Rattle.soft_relocate.proofs.descend.Tie as tie
 
 abbrev Inv-loop : tie.InvT-loop
-Inv-loop setup flags service ready due penalty distances times demand visits₀ lengths₀ buffer₀ deltas₀ positions₀ places₀ limit moves₀ visits lengths buffer deltas positions places moves =
+Inv-loop setup flags service ready due penalty distances times demand visits₀ lengths₀ buffer₀ deltas₀ positions₀ places₀ limit moves₀ visits lengths buffer
+    deltas positions places moves =
     Running (columns (setup .l) flags service ready due penalty distances times) demand setup limit (lists visits₀ lengths₀) moves (lists visits lengths)
     × Edited visits₀ lengths₀ visits lengths (lists visits lengths) × Held (setup .l) visits lengths
     × AllRight (columns (setup .l) flags service ready due penalty distances times) demand setup visits lengths (table deltas positions places)
@@ -24,18 +24,21 @@ Inv-loop setup flags service ready due penalty distances times demand visits₀ 
     × (length positions ≡ length positions₀) × (length places ≡ length places₀)
 
 abbrev μ-loop : tie.MeasureT-loop
-μ-loop setup flags service ready due penalty distances times demand visits₀ lengths₀ buffer₀ deltas₀ positions₀ places₀ limit moves₀ visits lengths buffer deltas positions places moves =
+μ-loop setup flags service ready due penalty distances times demand visits₀ lengths₀ buffer₀ deltas₀ positions₀ places₀ limit moves₀ visits lengths buffer
+    deltas positions places moves =
     limit - moves
 
 search-all-requires : tie.Need-search-all-requires Inv-loop μ-loop
 search-all-requires c κs =
-    let start = c .before .before .before .before .before .before .before .before .before .before .before .before .before .before .before .before .before .before .before in
+    let further = c .before .before .before .before .before .before .before .before .before .before in
+    let start = further .before .before .before .before .before .before .before .before .before in
     (start .pre .0, (start .pre .1 .0, (start .pre .1 .1 .0, start .pre .1 .1 .1)))
 
 loop-holds : tie.Need-loop-holds Inv-loop μ-loop
 loop-holds c =
     let at-search-all = c .before .before .before .before .before .before .before .before in
-    let start = at-search-all .before .before .before .before .before .before .before .before .before .before .before .before .before .before .before .before .before .before .before .before in
+    let further = at-search-all .before .before .before .before .before .before .before .before .before .before in
+    let start = further .before .before .before .before .before .before .before .before .before .before in
     (going-start _ _ _, unedited _ _ (start .pre .1 .0 .1 .laid), start .pre .1 .0 .1, at-search-all .search-all .ensures, refl, refl, refl, refl, refl, refl)
 
 best-pair-requires : tie.Need-best-pair-requires Inv-loop μ-loop
@@ -81,8 +84,12 @@ returns : tie.Need-returns Inv-loop μ-loop
 returns c =
     let at-best-pair = c .before .before in
     let at-loop = at-best-pair .before .before .before .before .before in
-    let start = at-loop .before .before .before .before .before .before .before .before .before .before .before .before .before .before .before .before .before .before .before .before .before .before .before .before .before .before .before .before .before in
-    answers-settled _ _ (start .args .setup) _ _ _ _ (at-loop .loop .inv .0) _ (least-taken _ _ (start .args .setup) _ _ _ _ (at-loop .loop .inv .3) (at-best-pair .best-pair .ensures)) _ _ _ _ (at-loop .loop .inv .1) (not-true _ (c .if1 .taken))
+    let further = at-loop .before .before .before .before .before .before .before .before .before .before in
+    let further = further .before .before .before .before .before .before .before .before .before .before in
+    let start = further .before .before .before .before .before .before .before .before .before in
+    answers-settled _ _ (start .args .setup) _ _ _ _ (at-loop .loop .inv .0) _
+    (least-taken _ _ (start .args .setup) _ _ _ _ (at-loop .loop .inv .3) (at-best-pair .best-pair .ensures)) _ _ _ _ (at-loop .loop .inv .1)
+    (not-true _ (c .if1 .taken))
 
 same-length-7 : tie.Need-same-length-7 Inv-loop μ-loop
 same-length-7 c =
@@ -123,16 +130,23 @@ returns-2 c =
     let at-if1 = c .before in
     let at-best-pair = at-if1 .before .before in
     let at-loop = at-best-pair .before .before .before .before .before in
-    let start = at-loop .before .before .before .before .before .before .before .before .before .before .before .before .before .before .before .before .before .before .before .before .before .before .before .before .before .before .before .before .before in
-    answers-stopped _ _ (start .args .setup) _ _ _ _ (at-loop .loop .inv .0) _ (least-taken _ _ (start .args .setup) _ _ _ _ (at-loop .loop .inv .3) (at-best-pair .best-pair .ensures)) _ _ _ _ (at-loop .loop .inv .1) (not-false _ (at-if1 .if1 .left)) (c .if2 .taken)
+    let further = at-loop .before .before .before .before .before .before .before .before .before .before in
+    let further = further .before .before .before .before .before .before .before .before .before .before in
+    let start = further .before .before .before .before .before .before .before .before .before in
+    answers-stopped _ _ (start .args .setup) _ _ _ _ (at-loop .loop .inv .0) _
+    (least-taken _ _ (start .args .setup) _ _ _ _ (at-loop .loop .inv .3) (at-best-pair .best-pair .ensures)) _ _ _ _ (at-loop .loop .inv .1)
+    (not-false _ (at-if1 .if1 .left)) (c .if2 .taken)
 
 move-visit-requires : tie.Need-move-visit-requires Inv-loop μ-loop
 move-visit-requires c κs =
     let at-if1 = c .before .before .before in
     let at-best-pair = at-if1 .before .before in
     let at-loop = at-best-pair .before .before .before .before .before in
-    let start = at-loop .before .before .before .before .before .before .before .before .before .before .before .before .before .before .before .before .before .before .before .before .before .before .before .before .before .before .before .before .before in
-    least-there _ _ (start .args .setup) _ _ (at-loop .loop .inv .2 .laid) _ (least-taken _ _ (start .args .setup) _ _ _ _ (at-loop .loop .inv .3) (at-best-pair .best-pair .ensures)) (not-false _ (at-if1 .if1 .left))
+    let further = at-loop .before .before .before .before .before .before .before .before .before .before in
+    let further = further .before .before .before .before .before .before .before .before .before .before in
+    let start = further .before .before .before .before .before .before .before .before .before in
+    least-there _ _ (start .args .setup) _ _ (at-loop .loop .inv .2 .laid) _
+    (least-taken _ _ (start .args .setup) _ _ _ _ (at-loop .loop .inv .3) (at-best-pair .best-pair .ensures)) (not-false _ (at-if1 .if1 .left))
 
 search-again-requires : tie.Need-search-again-requires Inv-loop μ-loop
 search-again-requires c κs =
@@ -141,8 +155,10 @@ search-again-requires c κs =
     let at-best-pair = at-if1 .before .before in
     let at-loop = at-best-pair .before .before .before .before .before in
     let at-search-all = at-loop .before .before .before .before .before .before .before .before .before in
-    let start = at-search-all .before .before .before .before .before .before .before .before .before .before .before .before .before .before .before .before .before .before .before .before in
-    let there = least-there _ _ (start .args .setup) _ _ (at-loop .loop .inv .2 .laid) _ (least-taken _ _ (start .args .setup) _ _ _ _ (at-loop .loop .inv .3) (at-best-pair .best-pair .ensures)) (not-false _ (at-if1 .if1 .left)) in (
+    let further = at-search-all .before .before .before .before .before .before .before .before .before .before in
+    let start = further .before .before .before .before .before .before .before .before .before .before in
+    let there = least-there _ _ (start .args .setup) _ _ (at-loop .loop .inv .2 .laid) _
+    (least-taken _ _ (start .args .setup) _ _ _ _ (at-loop .loop .inv .3) (at-best-pair .best-pair .ensures)) (not-false _ (at-if1 .if1 .left)) in (
       start .pre .0,
       (
         (start .pre .1 .0 .0, still-held _ _ _ _ _ _ (at-move-visit .move-visit .ensures) (at-loop .loop .inv .2)),
@@ -158,13 +174,18 @@ search-again-requires c κs =
 
 add-moves : tie.Need-add-moves Inv-loop μ-loop
 add-moves c =
-    let at-if2 = c .before .before .before .before .before .before .before .before .before .before .before .before .before .before .before .before .before .before .before .before .before .before in
-    let start = at-if2 .before .before .before .before .before .before .before .before .before .before .before .before .before .before .before .before .before .before .before .before .before .before .before .before .before .before .before .before .before .before .before .before .before .before .before .before .before in
+    let further = c .before .before .before .before .before .before .before .before .before .before in
+    let at-if2 = further .before .before .before .before .before .before .before .before .before .before .before .before in
+    let further = at-if2 .before .before .before .before .before .before .before .before .before .before in
+    let further = further .before .before .before .before .before .before .before .before .before .before in
+    let further = further .before .before .before .before .before .before .before .before .before .before in
+    let start = further .before .before .before .before .before .before .before in
     omega (arith, start .fits .limit, at-if2 .if2 .left)
 
 loop-less : tie.Need-loop-less Inv-loop μ-loop
 loop-less c =
-    let at-if2 = c .before .before .before .before .before .before .before .before .before .before .before .before .before .before .before .before .before .before .before .before .before .before in
+    let further = c .before .before .before .before .before .before .before .before .before .before in
+    let at-if2 = further .before .before .before .before .before .before .before .before .before .before .before .before in
     omega (arith, at-if2 .if2 .left)
 
 loop-again : tie.Need-loop-again Inv-loop μ-loop
@@ -175,8 +196,11 @@ loop-again c =
     let at-if1 = at-if2 .before in
     let at-best-pair = at-if1 .before .before in
     let at-loop = at-best-pair .before .before .before .before .before in
-    let start = at-loop .before .before .before .before .before .before .before .before .before .before .before .before .before .before .before .before .before .before .before .before .before .before .before .before .before .before .before .before .before in (
-      goes-on _ _ (start .args .setup) _ _ _ _ (at-loop .loop .inv .0) _ (least-taken _ _ (start .args .setup) _ _ _ _ (at-loop .loop .inv .3) (at-best-pair .best-pair .ensures)) (not-false _ (at-if1 .if1 .left)) (at-if2 .if2 .left) _ (at-move-visit .move-visit .ensures .holds),
+    let further = at-loop .before .before .before .before .before .before .before .before .before .before .before .before .before .before .before in
+    let start = further .before .before .before .before .before .before .before .before .before .before .before .before .before .before in (
+      goes-on _ _ (start .args .setup) _ _ _ _ (at-loop .loop .inv .0) _
+          (least-taken _ _ (start .args .setup) _ _ _ _ (at-loop .loop .inv .3) (at-best-pair .best-pair .ensures)) (not-false _ (at-if1 .if1 .left))
+          (at-if2 .if2 .left) _ (at-move-visit .move-visit .ensures .holds),
       edited-again _ _ _ _ _ _ _ (at-loop .loop .inv .1) (at-move-visit .move-visit .ensures),
       still-held _ _ _ _ _ _ (at-move-visit .move-visit .ensures) (at-loop .loop .inv .2),
       at-search-again .search-again .ensures,

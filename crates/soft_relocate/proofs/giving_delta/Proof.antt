@@ -42,7 +42,8 @@ returns c =
     let there = start .pre .1 .0 .2 in
     giving-is _ _ (start .args .list .now) (start .args .position) (at-removed-into .removed-into .result) _ _ _ there
     (at-removed-into .removed-into .ensures .0 ∙ sym (length-without (start .args .list .now) (start .args .position) there))
-    (at-price-of .price-of .ensures ∙ ap (effectiveCost _ _ _) (front (at-removed-into .removed-into .result) (at-removed-into .removed-into .last .0) _ (at-removed-into .removed-into .ensures .1)))
+    (at-price-of .price-of .ensures ∙ ap (effectiveCost _ _ _)
+    (front (at-removed-into .removed-into .result) (at-removed-into .removed-into .last .0) _ (at-removed-into .removed-into .ensures .1)))
     (start .pre .1 .1) (c .fixed-if .ensures)
 
 pub giving-delta-spec : {M : Type 1} → statement M

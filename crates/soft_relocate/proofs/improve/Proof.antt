@@ -39,8 +39,10 @@ slice-aggregate-descend-4 c = search needs
 
 descend-requires : tie.Need-descend-requires
 descend-requires c κs =
-    let start = c .before .before .before .before .before .before .before .before .before .before .before .before .before .before .before .before .before in
-    (record { formed = start .pre .0; depot-there = start .pre .1 .1 .0 }, ((start .pre .1 .0 .0, start .pre .1 .1 .1), (omega arith, record { deltas-size = refl; positions-size = refl; places-size = refl })))
+    let start = c .before .before .before .before .before .before .before .before .before .before .before .before .before .before .before .before .before in (
+      record { formed = start .pre .0; depot-there = start .pre .1 .1 .0 },
+      ((start .pre .1 .0 .0, start .pre .1 .1 .1), (omega arith, record { deltas-size = refl; positions-size = refl; places-size = refl })),
+    )
 
 same-length : tie.Need-same-length
 same-length c = search needs

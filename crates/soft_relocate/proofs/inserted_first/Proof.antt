@@ -20,8 +20,11 @@ returns : tie.Need-returns
 returns c =
     let at-append = c .before .before in
     let at-append-one = at-append .before .before .before .before in
-    let start = at-append-one .before .before .before .before in
-    (omega (arith, at-append-one .append-one .ensures .ends, at-append .append .ensures .ends), at-append .append .ensures .filled ∙ ap (λ (head : List ℕ). head ++ start .args .list .now) (at-append-one .append-one .ensures .filled))
+    let start = at-append-one .before .before .before .before in (
+      omega (arith, at-append-one .append-one .ensures .ends, at-append .append .ensures .ends),
+      at-append .append .ensures .filled
+          ∙ ap (λ (head : List ℕ). head ++ start .args .list .now) (at-append-one .append-one .ensures .filled),
+    )
 
 pub inserted-first-spec : {M : Type 1} → statement M
 inserted-first-spec = tie.close (tie.spec append-one-requires append-requires same-length returns)

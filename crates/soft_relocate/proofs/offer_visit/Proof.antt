@@ -25,7 +25,13 @@ list-of-requires-2 c κs =
 mul-visit : tie.Need-mul-visit
 mul-visit c =
     let start = c .before .before .before .before .before .before .before .before .before .before .before .before in
-    omega (arith, start .pre .1 .1 .1 .1 .1 .1, start-within (start .args .lengths .now) (start .args .pair .from), (start .pre .1 .0 .1) .laid .add-up, (start .pre .1 .0 .1) .few)
+    omega (
+      arith,
+      start .pre .1 .1 .1 .1 .1 .1,
+      start-within (start .args .lengths .now) (start .args .pair .from),
+      (start .pre .1 .0 .1) .laid .add-up,
+      (start .pre .1 .0 .1) .few,
+    )
 
 shared-slice-read-visit : tie.Need-shared-slice-read-visit
 shared-slice-read-visit c =
@@ -58,7 +64,8 @@ returns c =
     let at-list-of2 = at-wide .before .before in
     let at-list-of = at-list-of2 .before in
     let start = at-list-of .before .before .before .before .before .before .before .before .before .before .before in
-    refused-as _ _ (start .args .setup) _ _ (start .args .pair) (start .pre .1 .1 .1 .1 .0) _ _ _ (at-list-of .list-of .ensures) (at-list-of2 .list-of2 .ensures) _ _ (at-wide .wide .ensures) (at-boxes-of .boxes-of .ensures .0) _ (start .pre .1 .1 .1 .0) (c .if1 .taken)
+    refused-as _ _ (start .args .setup) _ _ (start .args .pair) (start .pre .1 .1 .1 .1 .0) _ _ _ (at-list-of .list-of .ensures)
+    (at-list-of2 .list-of2 .ensures) _ _ (at-wide .wide .ensures) (at-boxes-of .boxes-of .ensures .0) _ (start .pre .1 .1 .1 .0) (c .if1 .taken)
 
 giving-delta-requires : tie.Need-giving-delta-requires
 giving-delta-requires c κs =
@@ -67,7 +74,11 @@ giving-delta-requires c κs =
     let long = ap length (at-list-of .list-of .ensures) ∙ length-list _ _ ((start .pre .1 .0 .1) .laid .add-up) (start .args .pair .from) in (
       start .pre .0,
       (
-        (start .pre .1 .1 .0, rw (at-list-of .list-of .ensures) (list-visits _ _ _ (start .pre .1 .0 .1) (start .args .pair .from)), omega (arith, start .pre .1 .1 .1 .1 .1 .1, long)),
+        (
+          start .pre .1 .1 .0,
+          rw (at-list-of .list-of .ensures) (list-visits _ _ _ (start .pre .1 .0 .1) (start .args .pair .from)),
+          omega (arith, start .pre .1 .1 .1 .1 .1 .1, long),
+        ),
         rw (at-list-of .list-of .ensures) (start .pre .1 .1 .1 .1 .0 .price-from),
       ),
     )
@@ -87,7 +98,9 @@ returns-2 c =
     let at-list-of2 = at-wide .before .before in
     let at-list-of = at-list-of2 .before in
     let start = at-list-of .before .before .before .before .before .before .before .before .before .before .before in
-    fails-as _ _ (start .args .setup) _ _ (start .args .pair) (start .pre .1 .1 .1 .1 .0) _ _ _ (at-list-of .list-of .ensures) (at-list-of2 .list-of2 .ensures) _ _ (at-wide .wide .ensures) (at-boxes-of .boxes-of .ensures .0) _ (start .pre .1 .1 .1 .0) _ (at-giving-delta .giving-delta .ensures) _ (at-is-finite .is-finite .ensures) (not-true _ (c .if2 .taken))
+    fails-as _ _ (start .args .setup) _ _ (start .args .pair) (start .pre .1 .1 .1 .1 .0) _ _ _ (at-list-of .list-of .ensures)
+    (at-list-of2 .list-of2 .ensures) _ _ (at-wide .wide .ensures) (at-boxes-of .boxes-of .ensures .0) _ (start .pre .1 .1 .1 .0) _
+    (at-giving-delta .giving-delta .ensures) _ (at-is-finite .is-finite .ensures) (not-true _ (c .if2 .taken))
 
 fixed-if-requires : tie.Need-fixed-if-requires
 fixed-if-requires c κs = search needs
@@ -128,7 +141,9 @@ returns-3 c =
     let at-list-of2 = at-wide .before .before in
     let at-list-of = at-list-of2 .before in
     let start = at-list-of .before .before .before .before .before .before .before .before .before .before .before in
-    offered-as _ _ (start .args .setup) _ _ (start .args .pair) (start .pre .1 .1 .1 .1 .0) _ _ _ (at-list-of .list-of .ensures) (at-list-of2 .list-of2 .ensures) _ _ (at-wide .wide .ensures) (at-boxes-of .boxes-of .ensures .0) _ (start .pre .1 .1 .1 .0) _ (at-giving-delta .giving-delta .ensures) _ (at-is-finite .is-finite .ensures) (not-false _ (at-if2 .if2 .left))
+    offered-as _ _ (start .args .setup) _ _ (start .args .pair) (start .pre .1 .1 .1 .1 .0) _ _ _ (at-list-of .list-of .ensures)
+    (at-list-of2 .list-of2 .ensures) _ _ (at-wide .wide .ensures) (at-boxes-of .boxes-of .ensures .0) _ (start .pre .1 .1 .1 .0) _
+    (at-giving-delta .giving-delta .ensures) _ (at-is-finite .is-finite .ensures) (not-false _ (at-if2 .if2 .left))
     (at-if1 .if1 .left) _ _ (at-fixed-if .fixed-if .ensures) (at-best-place .best-place .ensures)
 
 pub offer-visit-spec : {M : Type 1} → statement M

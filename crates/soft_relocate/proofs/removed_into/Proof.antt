@@ -23,7 +23,8 @@ returns c =
     let at-append-stretch = at-append-stretch2 .before .before .before .before in
     let start = at-append-stretch .before .before .before .before in (
       omega (arith, start .pre .0, at-append-stretch .append-stretch .ensures .0, at-append-stretch2 .append-stretch2 .ensures .0),
-      removed (start .args .list .now) (start .args .position) (at-append-stretch .append-stretch .ensures .1 .filled) (at-append-stretch2 .append-stretch2 .ensures .1 .filled),
+      removed (start .args .list .now) (start .args .position) (at-append-stretch .append-stretch .ensures .1 .filled)
+          (at-append-stretch2 .append-stretch2 .ensures .1 .filled),
     )
 
 pub removed-into-spec : {M : Type 1} → statement M

@@ -1,23 +1,25 @@
 -- `search_again`: before each list, the pairs of the lists before it with a and b are right again, and so are those without a and b.
-use borrow.Author.Needs.{needs}
 use mathlib.Core.Path.{_≡_, refl, _∙_}
 use Prim.Native.Nat.{_-_}
 use native.Mathlib.Omega.{arith}
 use lib.ListN.{length}
 use Rattle.evaluation.specs.Columns.{columns}
 use Rattle.pairs.specs.Pairs.{table, Renewed}
-use Rattle.pairs.proofs.Kept.{renew-end}
+use Rattle.pairs.proofs.Kept.{both-sized, renew-both, renew-end}
+use Rattle.pairs.proofs.Taken.{short-lists}
 use Rattle.soft_relocate.specs.Offers.{RightOf}
 use Rattle.soft_relocate.proofs.search_again.Statement.{statement}
 use Rattle.soft_relocate.proofs.search_again.Tie as tie
 
 abbrev Inv-loop : tie.InvT-loop
-Inv-loop setup flags service ready due penalty distances times demand visits lengths buffer₀ deltas₀ positions₀ places₀ a b other₀ buffer deltas positions places other =
+Inv-loop setup flags service ready due penalty distances times demand visits lengths buffer₀ deltas₀ positions₀ places₀ a b other₀ buffer deltas positions
+    places other =
     RightOf (columns (setup .l) flags service ready due penalty distances times) demand setup visits lengths (Renewed a b other) (table deltas positions places)
     × (length buffer ≡ length buffer₀) × (length deltas ≡ length deltas₀) × (length positions ≡ length positions₀) × (length places ≡ length places₀)
 
 abbrev μ-loop : tie.MeasureT-loop
-μ-loop setup flags service ready due penalty distances times demand visits lengths buffer₀ deltas₀ positions₀ places₀ a b other₀ buffer deltas positions places other =
+μ-loop setup flags service ready due penalty distances times demand visits lengths buffer₀ deltas₀ positions₀ places₀ a b other₀ buffer deltas positions
+    places other =
     length lengths - other
 
 loop-holds : tie.Need-loop-holds Inv-loop μ-loop
@@ -25,33 +27,75 @@ loop-holds c =
     let start = c .before .before .before .before .before .before .before .before .before .before .before .before .before in
     (start .pre .1 .1 .1 .0, refl, refl, refl, refl)
 
-search-with-requires : tie.Need-search-with-requires Inv-loop μ-loop
-search-with-requires c κs =
+search-both-requires : tie.Need-search-both-requires Inv-loop μ-loop
+search-both-requires c κs =
     let at-loop-test = c .before .before .before .before in
     let at-loop = at-loop-test .before in
-    let start = at-loop .before .before .before .before .before .before .before .before .before .before .before .before .before .before in
-    (start .pre .0, (start .pre .1 .0, (omega (arith, at-loop .loop .inv .1, start .pre .1 .1 .0), (at-loop .loop .inv .0, (start .pre .1 .1 .1 .1 .0, start .pre .1 .1 .1 .1 .1, at-loop-test .loop-test .taken)))))
+    let start = at-loop .before .before .before .before .before .before .before .before .before .before .before .before .before .before in (
+      start .pre .0,
+      (
+        start .pre .1 .0,
+        (
+          omega (arith, at-loop .loop .inv .1, start .pre .1 .1 .0),
+          (at-loop .loop .inv .0 .sized, start .pre .1 .1 .1 .1 .0, at-loop-test .loop-test .taken),
+        ),
+      ),
+    )
+
+search-both-requires-2 : tie.Need-search-both-requires-2 Inv-loop μ-loop
+search-both-requires-2 c κs =
+    let at-search-both = c .before .before .before .before .before .before .before .before .before .before .before .before in
+    let at-loop-test = at-search-both .before .before .before .before .before in
+    let at-loop = at-loop-test .before in
+    let start = at-loop .before .before .before .before .before .before .before .before .before .before .before .before .before .before in (
+      start .pre .0,
+      (
+        start .pre .1 .0,
+        (
+          omega
+              (arith, at-search-both .search-both .kept .1 .1 .1 .1 .1 .1 .1 .1 .1 .1 .1 .0, at-loop .loop .inv .1, start .pre .1 .1 .0),
+          (
+            both-sized _ _ _ _ _ _ _ _ (at-loop .loop .inv .0 .sized) (at-search-both .search-both .ensures),
+            start .pre .1 .1 .1 .1 .1,
+            at-loop-test .loop-test .taken,
+          ),
+        ),
+      ),
+    )
 
 add-other : tie.Need-add-other Inv-loop μ-loop
 add-other c =
-    let at-loop-test = c .before .before .before .before .before .before .before .before .before .before .before .before .before in
+    let further = c .before .before .before .before .before .before .before .before .before .before in
+    let further = further .before .before .before .before .before .before .before .before .before .before in
+    let at-loop-test = further .before .before .before .before .before .before in
     let start = at-loop-test .before .before .before .before .before .before .before .before .before .before .before .before .before .before .before in
     omega (arith, at-loop-test .loop-test .taken, (start .pre .1 .0 .1 .laid .few))
 
 loop-less : tie.Need-loop-less Inv-loop μ-loop
 loop-less c =
-    let at-loop-test = c .before .before .before .before .before .before .before .before .before .before .before .before .before in
+    let further = c .before .before .before .before .before .before .before .before .before .before in
+    let further = further .before .before .before .before .before .before .before .before .before .before in
+    let at-loop-test = further .before .before .before .before .before .before in
     omega (arith, at-loop-test .loop-test .taken)
 
 loop-again : tie.Need-loop-again Inv-loop μ-loop
 loop-again c =
-    let at-search-with = c .before .before .before .before .before .before .before .before in
-    let at-loop = at-search-with .before .before .before .before .before .before in (
-      at-search-with .search-with .ensures,
-      at-search-with .search-with .kept .1 .1 .1 .1 .1 .1 .1 .1 .1 .1 .1 .0 ∙ at-loop .loop .inv .1,
-      at-search-with .search-with .kept .1 .1 .1 .1 .1 .1 .1 .1 .1 .1 .1 .1 .0 ∙ at-loop .loop .inv .2,
-      at-search-with .search-with .kept .1 .1 .1 .1 .1 .1 .1 .1 .1 .1 .1 .1 .1 .0 ∙ at-loop .loop .inv .3,
-      at-search-with .search-with .kept .1 .1 .1 .1 .1 .1 .1 .1 .1 .1 .1 .1 .1 .1 .0 ∙ at-loop .loop .inv .4,
+    let at-search-both2 = c .before .before .before .before .before .before .before .before in
+    let at-search-both = at-search-both2 .before .before .before .before .before .before .before .before .before .before .before .before .before in
+    let at-loop-test = at-search-both .before .before .before .before .before in
+    let at-loop = at-loop-test .before in
+    let start = at-loop .before .before .before .before .before .before .before .before .before .before .before .before .before .before in (
+      renew-both _ _ _ _ (short-lists _ _ (start .pre .1 .0 .1 .laid)) _ _ _ _ _ _ _ (start .pre .1 .0 .1 .laid .few) (start .pre .1 .1 .1 .1 .0)
+          (start .pre .1 .1 .1 .1 .1) (at-loop-test .loop-test .taken) (at-loop .loop .inv .0) (at-search-both .search-both .ensures)
+          (at-search-both2 .search-both2 .ensures),
+      at-search-both2 .search-both2 .kept .1 .1 .1 .1 .1 .1 .1 .1 .1 .1 .1 .0 ∙ at-search-both .search-both .kept .1 .1 .1 .1 .1 .1 .1 .1 .1 .1 .1 .0
+          ∙ at-loop .loop .inv .1,
+      at-search-both2 .search-both2 .kept .1 .1 .1 .1 .1 .1 .1 .1 .1 .1 .1 .1 .0
+          ∙ at-search-both .search-both .kept .1 .1 .1 .1 .1 .1 .1 .1 .1 .1 .1 .1 .0 ∙ at-loop .loop .inv .2,
+      at-search-both2 .search-both2 .kept .1 .1 .1 .1 .1 .1 .1 .1 .1 .1 .1 .1 .1 .0
+          ∙ at-search-both .search-both .kept .1 .1 .1 .1 .1 .1 .1 .1 .1 .1 .1 .1 .1 .0 ∙ at-loop .loop .inv .3,
+      at-search-both2 .search-both2 .kept .1 .1 .1 .1 .1 .1 .1 .1 .1 .1 .1 .1 .1 .1 .0
+          ∙ at-search-both .search-both .kept .1 .1 .1 .1 .1 .1 .1 .1 .1 .1 .1 .1 .1 .1 .0 ∙ at-loop .loop .inv .4,
     )
 
 same-length : tie.Need-same-length Inv-loop μ-loop
@@ -86,7 +130,8 @@ search-again-spec =
     Inv-loop
     μ-loop
     loop-holds
-    search-with-requires
+    search-both-requires
+    search-both-requires-2
     add-other
     loop-less
     loop-again

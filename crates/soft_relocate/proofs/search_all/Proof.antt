@@ -1,5 +1,4 @@
 -- `search_all`: before each list, the rows before it are right.
-use borrow.Author.Needs.{needs}
 use mathlib.Core.Path.{_≡_, refl, _∙_}
 use Prim.Native.Nat.{_-_}
 use native.Mathlib.Omega.{arith}
@@ -12,12 +11,14 @@ use Rattle.soft_relocate.proofs.search_all.Statement.{statement}
 use Rattle.soft_relocate.proofs.search_all.Tie as tie
 
 abbrev Inv-loop : tie.InvT-loop
-Inv-loop setup flags service ready due penalty distances times demand visits lengths buffer₀ deltas₀ positions₀ places₀ from₀ buffer deltas positions places from =
+Inv-loop setup flags service ready due penalty distances times demand visits lengths buffer₀ deltas₀ positions₀ places₀ from₀ buffer deltas positions places
+    from =
     RightOf (columns (setup .l) flags service ready due penalty distances times) demand setup visits lengths (Before from 0) (table deltas positions places)
     × (length buffer ≡ length buffer₀) × (length deltas ≡ length deltas₀) × (length positions ≡ length positions₀) × (length places ≡ length places₀)
 
 abbrev μ-loop : tie.MeasureT-loop
-μ-loop setup flags service ready due penalty distances times demand visits lengths buffer₀ deltas₀ positions₀ places₀ from₀ buffer deltas positions places from =
+μ-loop setup flags service ready due penalty distances times demand visits lengths buffer₀ deltas₀ positions₀ places₀ from₀ buffer deltas positions places
+    from =
     length lengths - from
 
 loop-holds : tie.Need-loop-holds Inv-loop μ-loop

@@ -11,7 +11,8 @@ best-between-requires c κs =
 
 put-pair-requires : tie.Need-put-pair-requires
 put-pair-requires c κs =
-    let start = c .before .before .before .before .before .before .before .before .before .before .before .before .before .before .before .before .before .before .before .before in
+    let further = c .before .before .before .before .before .before .before .before .before .before in
+    let start = further .before .before .before .before .before .before .before .before .before .before in
     let few = start .pre .1 .0 .1 .laid .few in
     (start .pre .1 .1 .1 .0, (omega (arith, few, start .pre .1 .1 .1 .1), omega (arith, few, start .pre .1 .1 .1 .2)))
 
