@@ -50,9 +50,11 @@ pub record Prepared (s : Setup) (c : Columns) : Type 0 where
 abbrev pub priceOf : Columns → Setup → List ℕ → Float
 priceOf c s = effectiveCost c (s .limits) (s .depot)
 
+-- the search of the definition, with the van's numbers
 unfoldable pub searchOf : Columns → List ℤ → Setup → Search (List (List ℕ)) Unit Relocation
 searchOf c demand s = soft-relocate-search (priceOf c s) (s .fixed) (measureOf demand (s .capacity) ∷ [])
 
+-- and its judging
 unfoldable pub judgeOf : Columns → Setup → Judge (List (List ℕ)) Relocation Float
 judgeOf c s = soft-relocate-judge (priceOf c s) (s .fixed) (s .floor)
 

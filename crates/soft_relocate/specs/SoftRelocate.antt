@@ -55,7 +55,7 @@ module _ (price : List ℕ → Float) (fixed : Float) where
   unfoldable pub softDelta : List ℕ → List ℕ → ℕ → ℕ → Float
   softDelta from to position place = givingDelta from position ⊕ receivingDelta to (getD from position 0) place
 
-  -- 'A route already outside its limits is not moved into or out of', and the giver passes too: neither price nor `from_delta` is infinite or a NaN
+  -- `is_finite`: 'A route already outside its limits is not moved into or out of', an empty one included, and the giver has a price without the visit
   unfoldable pub priced : List ℕ → List ℕ → ℕ → Bool
   priced from to position = finite (price from) && finite (price to) && finite (givingDelta from position)
 

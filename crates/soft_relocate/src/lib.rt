@@ -2,6 +2,9 @@
 // another list, the least delta first, until none gains. What a visit taken out and put in changes can't be told from its neighbours there, for one put in
 // front of a late one makes it later, so that every move is priced whole, on both lists, with the fixed cost saved or paid. A list that has no price isn't
 // moved into or out of.
+//
+// The best move of each ordered pair of lists is kept in a table (crate `pairs`), of which the least entry is the next move: the one that a scan in the order
+// (from list, position, to list, place) takes. After a move only the pairs with one of its two lists are searched again.
 use day::matrix::scale;
 use day::vehicle::RouteLimits;
 use edits::append;
