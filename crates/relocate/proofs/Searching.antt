@@ -42,7 +42,7 @@ module _ (c : Columns) (demand : List ℤ) (s : Setup) (visits lengths : List �
   row-turn row column old new there here right put = right-turn _ _ _ _ short (length lengths) row column old new (held .laid .few) there here right put
 
   pub row-end : (row column : ℕ) (t : Table) → column ≡ length lengths → Of (Before row column) t → Of (Before (row + 1) 0) t
-  row-end row column t e right = right-row _ _ _ _ (length lengths) row t (rw e at right)
+  row-end row column t e right = right-row _ _ _ _ (length lengths) row column t (omega (arith, e)) right
 
   pub rows-end : (row : ℕ) (t : Table) → length lengths ≤ row → Of (Before row 0) t → Of Every t
   rows-end row t h right = right-end _ _ _ _ (length lengths) row t h right
