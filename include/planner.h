@@ -113,8 +113,11 @@ uint8_t planner_three_opt_improve(PLANNER_DAY, struct planner_van van, PLANNER_C
     uint16_t *visits, size_t visits_count,      \
     uint16_t *lengths, size_t lengths_count
 
-/* Tail exchange between all lists, by at most limit moves; settled and moves as above. With two lists or more the empty ones
- * are dropped at the end: the others keep their order, remaining says how many they are, and behind them lengths has 0. */
+/* Relocate and tail exchange between all lists, by at most limit moves; settled and moves as above. With two lists or more
+ * the empty ones are dropped at the end: the others keep their order, remaining says how many they are, and behind them
+ * lengths has 0. pruning, 1 as in the Rust or 0, changes how long relocate takes and nothing else. */
+uint8_t planner_relocate_improve(PLANNER_DAY, struct planner_van van, PLANNER_ALL_LISTS, uint32_t limit, uint8_t pruning,
+                                 uint8_t *settled, uint32_t *moves, size_t *remaining);
 uint8_t planner_exchange_improve(PLANNER_DAY, struct planner_van van, PLANNER_ALL_LISTS, uint32_t limit,
                                  uint8_t *settled, uint32_t *moves, size_t *remaining);
 

@@ -157,6 +157,8 @@ fn answer(call: &Call) -> String {
         "two_opt" => within!(planner_two_opt_improve, call),
         "or_opt" => within!(planner_or_opt_improve, call),
         "three_opt" => within!(planner_three_opt_improve, call),
+        "relocate" => across!(planner_relocate_improve, call, 1),
+        "relocate_np" => across!(planner_relocate_improve, call, 0),
         "exchange" => across!(planner_exchange_improve, call),
         _ => "unknown".to_string(),
     }

@@ -89,6 +89,8 @@ exports! {
 }
 
 exports! {
+    planner_relocate_improve(visits: *mut u16, visits_count: usize, lengths: *mut u16, lengths_count: usize, limit: u32,
+        pruning: u8, settled: *mut u8, moves: *mut u32, remaining: *mut usize);
     planner_exchange_improve(visits: *mut u16, visits_count: usize, lengths: *mut u16, lengths_count: usize, limit: u32,
         settled: *mut u8, moves: *mut u32, remaining: *mut usize);
 }

@@ -2,8 +2,8 @@
 -- leaves the visits where they are, since an empty list has none. Assumes nothing.
 use Prim.Native.Nat.{ℕ, zero, suc, _+_, _-_, _≤_, _<_}
 use mathlib.Core.Path.{_≡_, refl, sym, ap, subst, _∙_}
-use mathlib.Core.Bool.{true}
-use mathlib.Core.Option.{some}
+use mathlib.Core.Bool.{true, false}
+use mathlib.Core.Option.{Option, some}
 use mathlib.Core.List.{List, [], _∷_, _++_}
 use native.Mathlib.Omega.{arith}
 use borrow.Author.Tests.{le-ltb}
@@ -20,7 +20,7 @@ use Rattle.lists.specs.Edits.{Edited, nonzero, packed}
 use Rattle.lists.proofs.Tables.{flat-lists, lengths-lists, lists-flat, length-lengths}
 use Rattle.lists.proofs.Packing.{lists-append}
 use Rattle.evaluation.specs.Columns.{Formed, columnsOf, formed}
-use Rattle.descent.specs.Permitted.{tail-exchange}
+use Rattle.descent.specs.Permitted.{Engine, State, tail-exchange, relocate}
 use Rattle.descent.specs.Search.{Word, settled, stopped}
 use Rattle.descent.specs.Claim.{Claim, filled, dropped}
 use Rattle.deltas.specs.Judged.{WholeMap, Lent, roadsOf}
@@ -31,13 +31,13 @@ use Rattle.exchange.specs.Boxes.{Loaded}
 use Rattle.exchange.specs.Exchange.{Held}
 use Rattle.exchange.proofs.Loads.{loaded-of}
 use Rattle.exchange.proofs.Tables.{held-of, lent-of}
-use Rattle.across.specs.Across.{Ran, Setting, hardExchange, exchangeRan}
-use Rattle.across.proofs.Hard.{exchange-hard}
+use Rattle.across.specs.Across.{Ran, hardExchange, exchangeRan, hardRelocate, relocateRan}
+use Rattle.across.proofs.Hard.{exchange-hard, relocate-hard}
 use Rattle.planner.specs.Refusal.{refusalOfLists, FineLists, fine-lists}
 use Rattle.planner.specs.Answer.{refused-by, answered}
 use Rattle.planner.specs.Rearrange.{Over, settingOf, runOver, rearrangedAs, rearrangedOf, overAnswer, padded}
 use Rattle.planner.specs.Rearrange.{rearrangeAnswer, rearrangeVisits, rearrangeLengths, lengthsLeft, numberLeft}
-use Rattle.planner.specs.Demand3.{WholeDay, mapFor, checksFor, Claimed, reportedOver, remainingIn}
+use Rattle.planner.specs.Demand3.{WholeDay, mapFor, checksFor, Report, Claimed, reportedOver, remainingIn}
 use Rattle.planner.specs.declared.rearrange.Rearranged.{Rearranged}
 use Rattle.planner.specs.declared.rearrange.Rearranged.the-variants as rearranged
 
@@ -143,9 +143,13 @@ module _ (d : Day) (van : Van) (visits lengths : List ℕ) (f : FineLists d van 
   pub held : Held (d .l) visits lengths
   held = held-of _ (d .l) visits lengths (omega (arith, f .van-fine .depot, f .day .shaped .few)) (f .table)
 
+  pub capacity-fine : capacityOk (van .capacity) ≡ true
+  unfolding vanOk
+  capacity-fine = and-first (capacityOk (van .capacity)) _ (f .van-fine .van)
+
   pub capacity-there : leZ (pos 0) (van .capacity) ≡ true
-  unfolding capacityOk vanOk
-  capacity-there = and-first (leZ (pos 0) (van .capacity)) _ (and-first (capacityOk (van .capacity)) _ (f .van-fine .van))
+  unfolding capacityOk
+  capacity-there = and-first (leZ (pos 0) (van .capacity)) _ capacity-fine
 
   pub over-map : WholeDay d van → WholeMap (mapFor d van)
   over-map whole = record {
@@ -159,46 +163,70 @@ module _ (d : Day) (van : Van) (visits lengths : List ℕ) (f : FineLists d van 
 -- ---- demand 3
 
 module _ (d : Day) (van : Van) (visits lengths : List ℕ) (limit : ℕ) (f : FineLists d van visits lengths) where
-  pub exchange-claim : WholeDay d van → let ran = runOver exchangeRan d van visits lengths limit in
-      Claim tail-exchange (roadsOf (mapFor d van)) (checksFor d van) limit (lists visits lengths) (ran .lists) (dropped (ran .lists)) (ran .moves) (ran .word)
+  abbrev ClaimOf : (e : Engine) → State e → State e → State e → ℕ → Word → Type 0
+  ClaimOf e = Claim e (roadsOf (mapFor d van)) (checksFor d van) limit
+
+  there : Lent (d .l) (lists visits lengths)
+  there = lent-of (d .l) visits lengths (held d van visits lengths f)
+
+  exchange-claim : WholeDay d van → let ran = runOver exchangeRan d van visits lengths limit in
+      ClaimOf tail-exchange (lists visits lengths) (ran .lists) (dropped (ran .lists)) (ran .moves) (ran .word)
   unfolding runOver hardExchange
   exchange-claim whole =
-      subst (λ (ran : Ran). Claim tail-exchange (roadsOf (mapFor d van)) (checksFor d van) limit (lists visits lengths) (ran .lists) (dropped (ran .lists))
-      (ran .moves) (ran .word))
+      subst (λ (ran : Ran). ClaimOf tail-exchange (lists visits lengths) (ran .lists) (dropped (ran .lists)) (ran .moves) (ran .word))
       (sym (exchange-hard (settingOf d van) limit (lists visits lengths) (whole .hard)))
-      (float-demand-3 (mapFor d van) (over-map d van visits lengths f whole) tail-exchange (checksFor d van) limit (lists visits lengths) tt
-      (lent-of (d .l) visits lengths (held d van visits lengths f)))
+      (float-demand-3 (mapFor d van) (over-map d van visits lengths f whole) tail-exchange (checksFor d van) limit (lists visits lengths) tt there)
 
--- the claim of what a call answers, from the claim of its run
-pub claimed-over : (d : Day) (van : Van) (visits lengths visits′ lengths′ : List ℕ) (limit : ℕ) (r : Rearranged) (ran : Ran)
-    → r ≡ overAnswer ran → visits′ ≡ flat (dropped (ran .lists)) → lengths′ ≡ padded (length lengths) (dropped (ran .lists))
-    → (WholeDay d van → Claim tail-exchange (roadsOf (mapFor d van)) (checksFor d van) limit (lists visits lengths) (ran .lists) (dropped (ran .lists))
-    (ran .moves) (ran .word))
-    → Claimed tail-exchange d van limit (lists visits lengths) (take (remainingIn r) (lists visits′ lengths′)) (reportedOver r)
-unfolding overAnswer
-claimed-over d van visits lengths visits′ lengths′ limit r ran answer table sizes claim =
-    let told = reports-over (ran .word) (ran .moves) (length (dropped (ran .lists))) in
-    rw (answer, table, sizes, told .0, told .1, lists-back (length lengths) (dropped (ran .lists))) (λ whole. (ran .lists, claim whole))
+  relocate-claim : WholeDay d van → let ran = runOver relocateRan d van visits lengths limit in
+      ClaimOf (relocate false) (lists visits lengths) (ran .lists) (dropped (ran .lists)) (ran .moves) (ran .word)
+  unfolding runOver hardRelocate
+  relocate-claim whole =
+      subst (λ (ran : Ran). ClaimOf (relocate false) (lists visits lengths) (ran .lists) (dropped (ran .lists)) (ran .moves) (ran .word))
+      (sym (relocate-hard (settingOf d van) limit (lists visits lengths) (whole .hard)))
+      (float-demand-3 (mapFor d van) (over-map d van visits lengths f whole) (relocate false) (checksFor d van) limit (lists visits lengths) tt there)
 
-module _ (engine : Over) (d : Day) (van : Van) (visits lengths : List ℕ) (limit : ℕ) where
+module _ (engine : Over) (d : Day) (van : Van) (visits lengths : List ℕ) (limit : ℕ) (none : refusalOfLists d van visits lengths ≡ 0) where
   -- where nothing is refused, the definitions are the run's
-  is-answered : refusalOfLists d van visits lengths ≡ 0 → let ran = runOver engine d van visits lengths limit in
+  is-answered : let ran = runOver engine d van visits lengths limit in
       (rearrangeAnswer engine d van visits lengths limit ≡ overAnswer ran)
       × (rearrangeVisits engine d van visits lengths limit ≡ flat (dropped (ran .lists)))
       × (rearrangeLengths engine d van visits lengths limit ≡ padded (length lengths) (dropped (ran .lists)))
   unfolding rearrangeAnswer rearrangeVisits rearrangeLengths
-  is-answered none = (
+  is-answered = (
     sym (answered rearranged.Refused _ 0 _ _ refl (sym none) refl),
     sym (answered (λ m. visits) _ 0 _ _ refl (sym none) refl),
     sym (answered (λ m. lengths) _ 0 _ _ refl (sym none) refl),
   )
 
--- DEMAND 3 of `exchange_improve`
-pub exchange-claimed : (d : Day) (van : Van) (visits lengths : List ℕ) (limit : ℕ) → refusalOfLists d van visits lengths ≡ 0
-    → (visits′ lengths′ : List ℕ) (r : Rearranged) → r ≡ rearrangeAnswer exchangeRan d van visits lengths limit
-    → visits′ ≡ rearrangeVisits exchangeRan d van visits lengths limit → lengths′ ≡ rearrangeLengths exchangeRan d van visits lengths limit
-    → Claimed tail-exchange d van limit (lists visits lengths) (take (remainingIn r) (lists visits′ lengths′)) (reportedOver r)
-exchange-claimed d van visits lengths limit none visits′ lengths′ r answer table sizes =
-    let is = is-answered exchangeRan d van visits lengths limit none in
-    claimed-over d van visits lengths visits′ lengths′ limit r (runOver exchangeRan d van visits lengths limit) (answer ∙ is .0) (table ∙ is .1) (sizes ∙ is .2)
-    (exchange-claim d van visits lengths limit (fine-lists d van visits lengths none))
+  -- whatever holds of the lists that the run handed back and its report holds of those read off the tables and the answer
+  read-off : (C : List (List ℕ) → Option Report → Type 0)
+      → (let ran = runOver engine d van visits lengths limit in C (dropped (ran .lists)) (some (record { word = ran .word; moves = ran .moves })))
+      → (visits′ lengths′ : List ℕ) (r : Rearranged) → r ≡ rearrangeAnswer engine d van visits lengths limit
+      → visits′ ≡ rearrangeVisits engine d van visits lengths limit → lengths′ ≡ rearrangeLengths engine d van visits lengths limit
+      → C (take (remainingIn r) (lists visits′ lengths′)) (reportedOver r)
+  unfolding overAnswer
+  read-off C holds visits′ lengths′ r answer table sizes =
+      let ran = runOver engine d van visits lengths limit in
+      let is = is-answered in
+      let told = reports-over (ran .word) (ran .moves) (length (dropped (ran .lists))) in
+      rw (answer ∙ is .0, table ∙ is .1, sizes ∙ is .2, told .0, told .1, lists-back (length lengths) (dropped (ran .lists))) holds
+
+module _ (d : Day) (van : Van) (visits lengths : List ℕ) (limit : ℕ) (none : refusalOfLists d van visits lengths ≡ 0) where
+  f : FineLists d van visits lengths
+  f = fine-lists d van visits lengths none
+
+  -- DEMAND 3 of `exchange_improve`
+  pub exchange-claimed : (visits′ lengths′ : List ℕ) (r : Rearranged) → r ≡ rearrangeAnswer exchangeRan d van visits lengths limit
+      → visits′ ≡ rearrangeVisits exchangeRan d van visits lengths limit → lengths′ ≡ rearrangeLengths exchangeRan d van visits lengths limit
+      → Claimed tail-exchange d van limit (lists visits lengths) (take (remainingIn r) (lists visits′ lengths′)) (reportedOver r)
+  exchange-claimed =
+      read-off exchangeRan d van visits lengths limit none (λ back r. Claimed tail-exchange d van limit (lists visits lengths) back r)
+      (λ whole. (runOver exchangeRan d van visits lengths limit .lists, exchange-claim d van visits lengths limit f whole))
+
+  -- DEMAND 3 of `relocate_improve`
+  pub relocate-claimed : (visits′ lengths′ : List ℕ) (r : Rearranged) → r ≡ rearrangeAnswer relocateRan d van visits lengths limit
+      → visits′ ≡ rearrangeVisits relocateRan d van visits lengths limit → lengths′ ≡ rearrangeLengths relocateRan d van visits lengths limit
+      → Claimed (relocate false) d van limit (lists visits lengths) (take (remainingIn r) (lists visits′ lengths′)) (reportedOver r)
+  relocate-claimed =
+      read-off relocateRan d van visits lengths limit none (λ back r. Claimed (relocate false) d van limit (lists visits lengths) back r)
+      (λ whole. (runOver relocateRan d van visits lengths limit .lists, relocate-claim d van visits lengths limit f whole))
