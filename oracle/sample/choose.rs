@@ -96,7 +96,7 @@ fn moves(line: &str) -> i64 {
     line.split(' ').nth(2).and_then(|word| word.parse().ok()).unwrap_or(0)
 }
 
-/// The day without the runs that had more moves left than the run before them: their answers are those of the largest limit.
+/// The day without the runs whose limit is above the moves that the largest limit leads to: their answers are that run's.
 fn without_repeats((mut day, lines): Answered) -> Answered {
     let asked = std::mem::take(&mut day.runs);
     let mut kept = Vec::new();
