@@ -94,7 +94,7 @@ fn engines_named(names: &str) -> Vec<(&str, Engine)> {
 }
 
 fn made(options: &Options, trial: &mut Trial) {
-    let (seed, batch) = (options.number("seed", 1), options.number("batch", 1000).max(1));
+    let (seed, batch) = (options.number("seed", 1), options.number("batch", 5000).max(1));
     let names = options.text("engines", "all");
     let engines = engines_named(&names);
     let day = |number: u64| small::day(seed, number, &engines).unwrap_or_else(|what| fail(&format!("day {number}: {what}")));
