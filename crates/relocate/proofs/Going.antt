@@ -19,7 +19,6 @@ use Rattle.lists.specs.Refused.{TableFine}
 use Rattle.evaluation.specs.Columns.{Columns}
 use Rattle.descent.specs.Permitted.{relocate}
 use Rattle.descent.specs.Search.{Sweep, Outcome, settled, stopped, taken, next, run}
-use Rattle.descent.specs.Across.{Relocation}
 use Rattle.descent.specs.Engines.{run-of}
 use Rattle.descent.proofs.Loops.{run-settles, run-stops, run-moves}
 use Rattle.deltas.specs.Judged.{float-judge}

@@ -4,16 +4,16 @@
 use mathlib.Core.Path.{_≡_, refl, sym, ap, _∙_}
 use mathlib.Core.Bool.{Bool, true, false, cond, _||_, false≢true}
 use mathlib.Core.Logic.{_≢_, _⊎_, inl, inr}
-use Prim.Native.Nat.{ℕ, zero, suc, _+_, _-_, _≤_, _<_}
+use Prim.Native.Nat.{ℕ, zero, suc, _+_, _-_, _<_}
 use native.Mathlib.Omega.{arith}
 use native.Mathlib.Decide.{ℕ-discrete, decLt}
 use native.Mathlib.Numerals.{add-one}
 use borrow.Author.Tests.{ltb-true, ltb-false, eqb-false}
 use lib.Dec.{T, ltb, eqb}
-use lib.Ieee.{Float, nan, inf, lt, le}
+use lib.Ieee.{Float, inf, lt, le}
 use lib.Ieee.Scale.{finite}
 use Rattle.numbers.proofs.Total as Total
-use Rattle.descent.proofs.Members.{T-true, true-T}
+use Rattle.descent.proofs.Members.{true-T}
 use Rattle.relocate.specs.Cache.{lesser, leastBelow, LeastAt, forgotten, wins, firstOf, vanished, movedDown, movedUp, leastLeft, leastCame}
 use Rattle.relocate.specs.declared.cache.Least.{Least}
 

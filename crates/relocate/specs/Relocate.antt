@@ -1,8 +1,9 @@
--- Relocate as the code goes about it: the boxes as a measure, what a run keeps at hand, the candidates by list, visit and receiver, and the best so far.
--- For the contracts of src/; the engine's own definition is `relocate false` of descent. Assumes nothing.
+-- Relocate as the code goes about it: the boxes as a measure, what a run asks, the candidates of one visit and one list and the best of them, what is tried
+-- of a visit of which something is known, and the table of pairs. For the contracts of src/; the engine's own definition is `relocate false` of descent.
+-- Assumes nothing.
 use mathlib.Core.Path.{_≡_}
 use mathlib.Core.Bool.{Bool, true, false, cond, _&&_}
-use mathlib.Core.Option.{Option, none, some}
+use mathlib.Core.Option.{Option}
 use mathlib.Core.List.{List, [], _∷_, _++_, map}
 use Prim.Native.Nat.{ℕ, suc, _+_, _≤_, _<_}
 use lib.Dec.{ltb}

@@ -70,7 +70,8 @@ fn search_pair(
 )
     requires { ⌜ Prepared setup (columnsAt (setup .l) flags service ready due penalty distances times) ⌝ }
     requires { ⌜ Boxed (setup .l) (now demand) × Held (setup .l) (now visits) (now lengths) × (64 ≤ length (now buffer)) ⌝ }
-    requires { ⌜ Cached (columnsAt (setup .l) flags service ready due penalty distances times) setup (lists (now visits) (now lengths)) (now figures) (now places) ⌝ }
+    requires { ⌜ Cached (columnsAt (setup .l) flags service ready due penalty distances times) setup (lists (now visits) (now lengths))
+        (now figures) (now places) ⌝ }
     requires { ⌜ Sized (tableAt deltas positions «to_places») × (from < length (now lengths)) × (to < length (now lengths)) ⌝ }
     ensures { λ _.
         ⌜ (let c = columnsAt (setup .l) (flags .entry) (service .entry) (ready .entry) (due .entry) (penalty .entry) (distances .entry) (times .entry) in
@@ -125,9 +126,10 @@ fn search_row(
 )
     requires { ⌜ Prepared setup (columnsAt (setup .l) flags service ready due penalty distances times) ⌝ }
     requires { ⌜ Boxed (setup .l) (now demand) × Held (setup .l) (now visits) (now lengths) × (64 ≤ length (now buffer)) ⌝ }
-    requires { ⌜ Cached (columnsAt (setup .l) flags service ready due penalty distances times) setup (lists (now visits) (now lengths)) (now figures) (now places) ⌝ }
-    requires { ⌜ PairsRight (columnsAt (setup .l) flags service ready due penalty distances times) (now demand) setup (lists (now visits) (now lengths)) (length (now lengths))
-        (Before from 0) (tableAt deltas positions «to_places») ⌝ }
+    requires { ⌜ Cached (columnsAt (setup .l) flags service ready due penalty distances times) setup (lists (now visits) (now lengths))
+        (now figures) (now places) ⌝ }
+    requires { ⌜ PairsRight (columnsAt (setup .l) flags service ready due penalty distances times) (now demand) setup
+        (lists (now visits) (now lengths)) (length (now lengths)) (Before from 0) (tableAt deltas positions «to_places») ⌝ }
     requires { ⌜ from < length (now lengths) ⌝ }
     ensures { λ _.
         ⌜ (let c = columnsAt (setup .l) (flags .entry) (service .entry) (ready .entry) (due .entry) (penalty .entry) (distances .entry) (times .entry) in
@@ -187,7 +189,8 @@ fn search_all(
 )
     requires { ⌜ Prepared setup (columnsAt (setup .l) flags service ready due penalty distances times) ⌝ }
     requires { ⌜ Boxed (setup .l) (now demand) × Held (setup .l) (now visits) (now lengths) × (64 ≤ length (now buffer)) ⌝ }
-    requires { ⌜ Cached (columnsAt (setup .l) flags service ready due penalty distances times) setup (lists (now visits) (now lengths)) (now figures) (now places) ⌝ }
+    requires { ⌜ Cached (columnsAt (setup .l) flags service ready due penalty distances times) setup (lists (now visits) (now lengths))
+        (now figures) (now places) ⌝ }
     requires { ⌜ Sized (tableAt deltas positions «to_places») ⌝ }
     ensures { λ _.
         ⌜ (let c = columnsAt (setup .l) (flags .entry) (service .entry) (ready .entry) (due .entry) (penalty .entry) (distances .entry) (times .entry) in
@@ -249,9 +252,10 @@ fn search_again(
 )
     requires { ⌜ Prepared setup (columnsAt (setup .l) flags service ready due penalty distances times) ⌝ }
     requires { ⌜ Boxed (setup .l) (now demand) × Held (setup .l) (now visits) (now lengths) × (64 ≤ length (now buffer)) ⌝ }
-    requires { ⌜ Cached (columnsAt (setup .l) flags service ready due penalty distances times) setup (lists (now visits) (now lengths)) (now figures) (now places) ⌝ }
-    requires { ⌜ PairsRight (columnsAt (setup .l) flags service ready due penalty distances times) (now demand) setup (lists (now visits) (now lengths)) (length (now lengths))
-        (Renewed a b other) (tableAt deltas positions «to_places») ⌝ }
+    requires { ⌜ Cached (columnsAt (setup .l) flags service ready due penalty distances times) setup (lists (now visits) (now lengths))
+        (now figures) (now places) ⌝ }
+    requires { ⌜ PairsRight (columnsAt (setup .l) flags service ready due penalty distances times) (now demand) setup
+        (lists (now visits) (now lengths)) (length (now lengths)) (Renewed a b other) (tableAt deltas positions «to_places») ⌝ }
     requires { ⌜ (a < length (now lengths)) × (b < length (now lengths)) × (other < length (now lengths)) ⌝ }
     ensures { λ _.
         ⌜ (let c = columnsAt (setup .l) (flags .entry) (service .entry) (ready .entry) (due .entry) (penalty .entry) (distances .entry) (times .entry) in
@@ -375,9 +379,10 @@ fn search_changed(
 )
     requires { ⌜ Prepared setup (columnsAt (setup .l) flags service ready due penalty distances times) ⌝ }
     requires { ⌜ Boxed (setup .l) (now demand) × Held (setup .l) (now visits) (now lengths) × (64 ≤ length (now buffer)) ⌝ }
-    requires { ⌜ Cached (columnsAt (setup .l) flags service ready due penalty distances times) setup (lists (now visits) (now lengths)) (now figures) (now places) ⌝ }
-    requires { ⌜ PairsRight (columnsAt (setup .l) flags service ready due penalty distances times) (now demand) setup (lists (now visits) (now lengths)) (length (now lengths))
-        (Renewed a b 0) (tableAt deltas positions «to_places») ⌝ }
+    requires { ⌜ Cached (columnsAt (setup .l) flags service ready due penalty distances times) setup (lists (now visits) (now lengths))
+        (now figures) (now places) ⌝ }
+    requires { ⌜ PairsRight (columnsAt (setup .l) flags service ready due penalty distances times) (now demand) setup
+        (lists (now visits) (now lengths)) (length (now lengths)) (Renewed a b 0) (tableAt deltas positions «to_places») ⌝ }
     requires { ⌜ (a < length (now lengths)) × (b < length (now lengths)) ⌝ }
     ensures { λ _.
         ⌜ (let c = columnsAt (setup .l) (flags .entry) (service .entry) (ready .entry) (due .entry) (penalty .entry) (distances .entry) (times .entry) in
@@ -525,7 +530,8 @@ fn descend(
 ) -> Ended
     requires { ⌜ Prepared setup (columnsAt (setup .l) flags service ready due penalty distances times) ⌝ }
     requires { ⌜ Boxed (setup .l) (now demand) × Held (setup .l) (now visits) (now lengths) × (64 ≤ length (now buffer)) ⌝ }
-    requires { ⌜ Cached (columnsAt (setup .l) flags service ready due penalty distances times) setup (lists (now visits) (now lengths)) (now figures) (now places) ⌝ }
+    requires { ⌜ Cached (columnsAt (setup .l) flags service ready due penalty distances times) setup (lists (now visits) (now lengths))
+        (now figures) (now places) ⌝ }
     requires { ⌜ Sized (tableAt deltas positions «to_places») ⌝ }
     ensures { λ r.
         ⌜ (let c = columnsAt (setup .l) (flags .entry) (service .entry) (ready .entry) (due .entry) (penalty .entry) (distances .entry) (times .entry) in
