@@ -18,7 +18,7 @@ use Rattle.descent.specs.Across.{Relocation}
 use Rattle.descent.proofs.Members.{true-T}
 use Rattle.pairs.specs.Scan.{may, onward, figure}
 use Rattle.pairs.specs.Pairs.{between, Short, asMove, moveOf, Table, Sized, slot, entry, narrowed, put}
-use Rattle.pairs.specs.Pairs.{pairBest, IsBest, Stored, RightWhere, Right}
+use Rattle.pairs.specs.Pairs.{pairBest, IsBest, Stored, StoredBoth, RightWhere, Right}
 use Rattle.pairs.specs.Pairs.{Before, Untouched, Renewed, Agree}
 use Rattle.pairs.specs.declared.Choice.{Choice}
 use Rattle.pairs.proofs.Order.{fails, better, same-move}
@@ -80,6 +80,13 @@ entry-other bound t a b from to c h k differ =
     apart e = differ (omega arith, omega arith)
 
 module _ (delta : Relocation → Float) (pass : Relocation → Bool) (bound : Float) (ls : List (List ℕ)) where
+  pub stored-sized : (from to : ℕ) (old new : Table) → Sized old → Stored delta pass bound ls from to old new → Sized new
+  stored-sized from to old new s r = rw (r .is-put) (put-sized old from to (r .choice) s)
+
+  pub both-sized : (r other : ℕ) (old new : Table) → Sized old → StoredBoth delta pass bound ls r other old new → Sized new
+  both-sized r other old new s b =
+      stored-sized other r (b .middle) new (stored-sized r other old (b .middle) s (b .out-of)) (b .into)
+
   -- a pair's best that is found is a move of the pair
   pub pair-there : (from to : ℕ) (c : Choice) → IsBest delta pass bound ls from to c → c .found ≡ true → Of ls from to (asMove c)
   pair-there from to c b e =
@@ -185,14 +192,15 @@ module _ (delta : Relocation → Float) (pass : Relocation → Bool) (bound : Fl
           last (yes e) = inr (p .0, e)
           last (no e) = let l = p .1 in inl (inr (p .0, omega arith))
 
-  pub right-row : (n row : ℕ) (t : Table) → RightWhere delta pass bound ls n (Before row n) t → RightWhere delta pass bound ls n (Before (row + 1) 0) t
-  right-row n row t r = right-fewer n (Before row n) (Before (row + 1) 0) t (λ from to h k b. go from to k b) r
+  pub right-row : (n row column : ℕ) (t : Table) → n ≤ column → RightWhere delta pass bound ls n (Before row column) t
+      → RightWhere delta pass bound ls n (Before (row + 1) 0) t
+  right-row n row column t all r = right-fewer n (Before row column) (Before (row + 1) 0) t (λ from to h k b. go from to k b) r
     where
-      go : (from to : ℕ) → to < n → Before (row + 1) 0 from to → Before row n from to
+      go : (from to : ℕ) → to < n → Before (row + 1) 0 from to → Before row column from to
       go from to k (inl h) = last (ℕ-discrete from row)
         where
-          last : Dec (from ≡ row) → Before row n from to
-          last (yes e) = inr (e, k)
+          last : Dec (from ≡ row) → Before row column from to
+          last (yes e) = inr (e, omega arith)
           last (no e) = inl (omega arith)
       go from to k (inr p) = let l = p .1 in absurd (omega arith)
 
@@ -230,6 +238,12 @@ module _ (delta : Relocation → Float) (pass : Relocation → Bool) (bound : Fl
           into (yes e) (inl f) = inl (inl (inr (e, f)))
           into (yes e) (inr f) = inr (e, f)
           into (no e) f = let l = p .1 in before-it from to (inr (inr (f, omega arith)))
+
+  pub renew-both : Short ls → (n a b other : ℕ) (t t₁ t₂ : Table) → n ≤ 16 → a < n → b < n → other < n
+      → RightWhere delta pass bound ls n (Renewed a b other) t → StoredBoth delta pass bound ls a other t t₁ → StoredBoth delta pass bound ls b other t₁ t₂
+      → RightWhere delta pass bound ls n (Renewed a b (other + 1)) t₂
+  renew-both short n a b other t t₁ t₂ few ha hb ho r s₁ s₂ =
+      renew-turn short n a b other t (s₁ .middle) t₁ (s₂ .middle) t₂ few ha hb ho r (s₁ .out-of) (s₁ .into) (s₂ .out-of) (s₂ .into)
 
   pub renew-end : (n a b other : ℕ) (t : Table) → n ≤ other → RightWhere delta pass bound ls n (Renewed a b other) t → Right delta pass bound ls n t
   renew-end n a b other t h r = right-fewer n (Renewed a b other) (λ from to. Unit {0}) t

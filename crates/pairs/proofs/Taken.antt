@@ -19,12 +19,13 @@ use Rattle.descent.specs.Search.{begins-again, Search, Judge, ok, taken, firstM
 use Rattle.descent.specs.Across.{at, Relocation, relocations, relocate-search}
 use Rattle.descent.proofs.Loops.{place-passed, place-moved, next-sweep}
 use Rattle.pairs.specs.Scan.{onward, figure}
-use Rattle.pairs.specs.Pairs.{across, Moves, Short, asMove, moveOf, nothing, Table, leastEntry, pairBest, IsBest, Right, Agree}
+use Rattle.pairs.specs.Pairs.{across, Moves, Short, asMove, moveOf, nothing, Table, leastEntry, pairBest, IsBest, RightWhere, Right, Renewed, Agree}
 use Rattle.pairs.specs.declared.Choice.{Choice}
 use Rattle.pairs.proofs.Scanning.{onward-end, onward-none}
 use Rattle.pairs.proofs.Best.{Best, best-sorted}
 use Rattle.pairs.proofs.Listed.{between-same, between-apart, relocations-sorted, relocation-there}
 use Rattle.pairs.proofs.Least.{found-move, no-move, least-entry-taken}
+use Rattle.pairs.proofs.Kept.{right-kept}
 
 -- ---- the lists
 
@@ -104,6 +105,26 @@ module _ (delta : Relocation → Float) (pass : Relocation → Bool) (bound : Fl
       subst (λ (o : Option Relocation). Best delta pass bound (λ m. m ∈ relocations ls) o) (sym e ∙ found-move c f)
       (best-sorted delta pass bound (relocations ls) (relocations-sorted ls)) in
       relocation-there ls (asMove c) (b .0)
+
+-- in the tables of the lists, so that it can be made
+pub least-relocates : (delta : Relocation → Float) (pass : Relocation → Bool) (bound : Float) (visits lengths : List ℕ) (t : Table) (c : Choice)
+    → Laid visits lengths → Right delta pass bound (lists visits lengths) (length lengths) t → c ≡ leastEntry (length lengths) bound t → c .found ≡ true
+    → Relocates visits lengths (c .from) (c .position) (c .to) (c .place)
+least-relocates delta pass bound visits lengths t c laid r e f =
+    let r′ : Right delta pass bound (lists visits lengths) (length (lists visits lengths)) t = rw (length-lists visits lengths) r in
+    let is : moveOf c ≡ onward delta pass bound none (relocations (lists visits lengths)) =
+    ap moveOf e ∙ ap (λ (n : ℕ). moveOf (leastEntry n bound t)) (sym (length-lists visits lengths))
+    ∙ least-entry-taken delta pass bound (lists visits lengths) t r′ in
+    relocates visits lengths laid (c .from) (c .position) (c .to) (c .place) (choice-there delta pass bound (lists visits lengths) c is f)
+
+-- after it the entries of the pairs without its lists are right still
+pub right-moved : (delta delta′ : Relocation → Float) (pass pass′ : Relocation → Bool) (bound : Float) (visits lengths visits′ lengths′ : List ℕ) (t : Table)
+    (from position to place : ℕ) → Agree delta delta′ pass pass′ (lists visits lengths) (lists visits′ lengths′) from to
+    → Edited visits lengths visits′ lengths′ (relocated (lists visits lengths) from position to place)
+    → Right delta pass bound (lists visits lengths) (length lengths) t
+    → RightWhere delta′ pass′ bound (lists visits′ lengths′) (length lengths′) (Renewed from to 0) t
+right-moved delta delta′ pass pass′ bound visits lengths visits′ lengths′ t from position to place agree e r =
+    rw (e .number) (right-kept delta delta′ pass pass′ bound (lists visits lengths) (lists visits′ lengths′) from to agree (length lengths) t r)
 
 -- ---- an engine's search
 

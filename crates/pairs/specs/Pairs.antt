@@ -159,6 +159,12 @@ module _ (delta : Relocation → Float) (pass : Relocation → Bool) (bound : Fl
     pub is-best : IsBest from to choice
     pub is-put : new ≡ put old from to choice
 
+  -- `out_of` and `into`: two lists were searched both ways
+  pub record StoredBoth (r other : ℕ) (old new : Table) : Type 0 where
+    pub middle : Table
+    pub out-of : Stored r other old middle
+    pub into : Stored other r middle new
+
   -- the entries of the pairs that are done are right
   pub record RightWhere (n : ℕ) (done : ℕ → ℕ → Type 0) (t : Table) : Type 0 where
     pub sized : Sized t
