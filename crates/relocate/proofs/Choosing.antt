@@ -108,6 +108,9 @@ module _ (l : ℕ) (visits lengths : List ℕ) (held : Held l visits lengths) wh
             rw (list-at visits lengths add-up r k there) (held .below _ (omega arith));
       }
 
+  pub lent-visits : (r : ℕ) (xs : List ℕ) → xs ≡ listOf visits lengths r → Visits l xs
+  lent-visits r xs e = rw e (list-visits r)
+
   -- and one that another list can give a visit has room for it
   pub one-more : (from to : ℕ) → from ≢ to → 0 < getD lengths from 0 → getD lengths to 0 < 63
   one-more from to apart some-there = by-order (ltb from to) refl

@@ -12,8 +12,9 @@ use Rattle.pairs.specs.Pairs.{table}
 use Rattle.pairs.proofs.Taken.{relocates}
 use Rattle.relocate.specs.Relocate.{Held, Cached, PairsRight, Every}
 use Rattle.relocate.proofs.Searching.{moved-right}
-use Rattle.relocate.proofs.Going.{Running, going-start, table-choice, choice-there, answers-settled, answers-stopped, goes-on}
-use Rattle.relocate.proofs.Going.{unedited, edited-again, still-held}
+use Rattle.pairs.proofs.Going.{going-start, unedited, edited-again}
+use Rattle.relocate.proofs.Going.{Running, table-choice, choice-there, answers-settled, answers-stopped, goes-on}
+use Rattle.relocate.proofs.Going.{still-held}
 use Rattle.relocate.proofs.descend.Statement.{statement}
 use Rattle.relocate.proofs.descend.Tie as tie
 

@@ -1,11 +1,12 @@
 -- `best_between`: before each visit, the scan over what is left comes to the pair's best, and the cache is right.
+use borrow.Author.Needs.{needs}
 use mathlib.Core.Path.{_≡_, refl, ap, _∙_}
 use Prim.Native.Nat.{_-_}
 use native.Mathlib.Omega.{arith}
 use lib.ListN.{length}
 use Rattle.lists.proofs.Tables.{length-list}
 use Rattle.evaluation.specs.Columns.{columns}
-use Rattle.relocate.proofs.Choosing.{list-visits, one-more}
+use Rattle.relocate.proofs.Choosing.{list-visits, lent-visits, one-more}
 use Rattle.relocate.proofs.Trying.{Pairing, pairing-start, pairing-turn, pairing-end, pair-none}
 use Rattle.relocate.proofs.pair.best_between.Statement.{statement}
 use Rattle.relocate.proofs.pair.best_between.Tie as tie
@@ -23,7 +24,8 @@ abbrev μ-loop : tie.MeasureT-loop
 
 returns : tie.Need-returns Inv-loop μ-loop
 returns c =
-    let further = c .before .before .before .before .before .before .before .before .before .before in
+    let at-before = c .before .before .before .before .before .before .before .before .before in
+    let further = at-before .before in
     let start = further .before .before .before .before in
     (pair-none _ _ (start .args .setup) _ _ _ _ (start .pre .0) (start .pre .1 .0 .1) _ _ refl refl _ refl (c .if1 .taken), start .pre .1 .1 .1)
 
@@ -41,9 +43,12 @@ list-of-requires-2 c κs =
 
 load-of-requires : tie.Need-load-of-requires Inv-loop μ-loop
 load-of-requires c κs =
-    let further = c .before .before .before .before .before .before .before .before .before .before in
-    let start = further .before .before .before .before .before .before in
-    (start .pre .1 .0 .0, rw (c .list-of2 .ensures) (list-visits _ _ _ (start .pre .1 .0 .1) (start .args .to)))
+    let at-list-of = c .before in
+    let further = at-list-of .before .before .before .before .before .before .before .before .before .before in
+    let start = further .before .before .before .before .before in
+    let giving = lent-visits _ _ _ (start .pre .1 .0 .1) _ _ (at-list-of .list-of .ensures) in
+    let receiving = lent-visits _ _ _ (start .pre .1 .0 .1) _ _ (c .list-of2 .ensures) in
+    (start .pre .1 .0 .0, search needs)
 
 loop-holds : tie.Need-loop-holds Inv-loop μ-loop
 loop-holds c =
@@ -60,7 +65,8 @@ loop-holds c =
 
 offer-visit-requires : tie.Need-offer-visit-requires Inv-loop μ-loop
 offer-visit-requires c κs =
-    let at-loop-test = c .before .before .before in
+    let at-before = c .before .before in
+    let at-loop-test = at-before .before in
     let at-loop = at-loop-test .before in
     let at-load-of = at-loop .before in
     let at-list-of2 = at-load-of .before in
