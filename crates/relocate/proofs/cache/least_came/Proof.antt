@@ -6,7 +6,10 @@ use borrow.Author.Tests.{eq-eqb, ne-eqb}
 use Rattle.tests.specs.Pick.{picked, other}
 use Rattle.tests.specs.Pick.{no, yes}
 use Rattle.descent.proofs.Members.{true-T}
+use Rattle.day.specs.Matrix.{leg}
+use Rattle.deltas.specs.Deltas.{insertionDelta}
 use Rattle.relocate.specs.Cache.{leastCame}
+use Rattle.relocate.proofs.Reached.{came-tried}
 use Rattle.relocate.proofs.cache.least_came.Statement.{statement}
 use Rattle.relocate.proofs.cache.least_came.Tie as tie
 
@@ -73,15 +76,13 @@ returns-3 c =
     let at-if2 = at-wide .before in
     let at-if1 = at-if2 .before .before in
     let at-is-finite = at-if1 .before in
+    let start = at-is-finite .before .before .before in
     picked _ _ _ _ (yes _ _ (at-is-finite .is-finite .ensures) (at-if1 .if1 .left))
-    (other _ _ _ _ (ne-eqb _ _ (at-if2 .if2 .left)) (rw (
-      c .first-of2 .ensures,
-      at-first-of .first-of .ensures,
-      at-moved-up .moved-up .ensures,
-      at-insertion-delta2 .insertion-delta2 .ensures,
-      at-insertion-delta .insertion-delta .ensures,
-      at-wide .wide .ensures,
-    )))
+    (other _ _ _ _ (ne-eqb _ _ (at-if2 .if2 .left))
+    (came-tried (start .args .known) (start .args .position) _ (at-wide .wide .ensures) _
+    (insertionDelta (leg (start .args .l) (start .args .distances .now)) (start .args .depot) (start .args .fixed)
+    (start .args .list .now) (start .args .visit)) _ _ _ _ (at-insertion-delta .insertion-delta .ensures) (at-insertion-delta2 .insertion-delta2 .ensures)
+    (at-moved-up .moved-up .ensures) (at-first-of .first-of .ensures) (c .first-of2 .ensures)))
 
 pub least-came-spec : {M : Type 1} → statement M
 least-came-spec =

@@ -4,7 +4,10 @@ use mathlib.Core.Path.{refl, sym, _∙_}
 use native.Mathlib.Omega.{arith}
 use Rattle.tests.specs.Pick.{picked, other}
 use Rattle.tests.specs.Pick.{no, yes}
+use Rattle.day.specs.Matrix.{leg}
+use Rattle.deltas.specs.Deltas.{insertionDelta}
 use Rattle.relocate.specs.Cache.{leastLeft}
+use Rattle.relocate.proofs.Reached.{left-tried}
 use Rattle.relocate.proofs.cache.least_left.Statement.{statement}
 use Rattle.relocate.proofs.cache.least_left.Tie as tie
 
@@ -55,9 +58,13 @@ returns-3 c =
     let at-is-vanished = at-if2 .before in
     let at-if1 = at-is-vanished .before in
     let at-is-finite = at-if1 .before in
+    let start = at-is-finite .before .before .before in
     picked _ _ _ _ (yes _ _ (at-is-finite .is-finite .ensures) (at-if1 .if1 .left))
     (other _ _ _ _ (sym (at-is-vanished .is-vanished .ensures) ∙ at-if2 .if2 .left)
-    (rw (c .first-of .ensures, at-moved-down .moved-down .ensures, at-insertion-delta .insertion-delta .ensures, at-wide .wide .ensures)))
+    (left-tried (start .args .known) (start .args .position) _ (at-wide .wide .ensures) _
+    (insertionDelta (leg (start .args .l) (start .args .distances .now)) (start .args .depot) (start .args .fixed)
+    (start .args .list .now) (start .args .visit)) _ _ (at-insertion-delta .insertion-delta .ensures) (at-moved-down .moved-down .ensures)
+    (c .first-of .ensures)))
 
 pub least-left-spec : {M : Type 1} → statement M
 least-left-spec =
