@@ -1,9 +1,9 @@
 -- The cache's tables: one column or one cell is changed, the rest stays; so what is known of the other lists stays right, and what is known of a list that
 -- lost or got a visit is right again after its column was brought up to date. Assumes nothing.
-use mathlib.Core.Path.{_≡_, refl, sym, ap, _∙_}
+use mathlib.Core.Path.{_≡_, refl, ap, _∙_}
 use mathlib.Core.Logic.{_≢_}
 use mathlib.Core.List.{List, []}
-use Prim.Native.Nat.{ℕ, zero, suc, _+_, _*_, _≤_, _<_}
+use Prim.Native.Nat.{ℕ, zero, suc, _+_, _≤_, _<_}
 use native.Mathlib.Omega.{arith}
 use native.Mathlib.Decide.{ℕ-discrete, decLt}
 use native.Mathlib.Numerals.{add-one}
@@ -14,7 +14,7 @@ use lib.Ieee.{Float, nan}
 use lib.Ieee.Scale.{finite}
 use Rattle.deltas.specs.Deltas.{insertionDelta}
 use Rattle.relocate.specs.Relocate.{inserted}
-use Rattle.relocate.specs.Cache.{LeastAt, leastLeft, leastCame, without, cell, knownAt, column, leftAt, cameAt, Known}
+use Rattle.relocate.specs.Cache.{LeastAt, without, cell, knownAt, column, leftAt, cameAt, Known}
 use Rattle.relocate.specs.declared.cache.Least.{Least}
 use Rattle.relocate.proofs.Reached.{left-right, came-right}
 use Rattle.relocate.proofs.Shifted.{without-length, with-length, joined, split}

@@ -1,7 +1,7 @@
 -- One visit offered to one list at all its places comes to the definition's scan over these candidates, or changes nothing where the list has no room;
--- and the loops over lists and visits put such scans one after another. Assumes nothing.
+-- and a loop puts such scans one after another. Assumes nothing.
 use mathlib.Core.Path.{_≡_, refl, sym, ap, _∙_}
-use mathlib.Core.Logic.{_⊎_, inl, inr, _≢_}
+use mathlib.Core.Logic.{_≢_}
 use mathlib.Core.Bool.{Bool, true, false, cond, not, _&&_, false≢true}
 use mathlib.Core.Option.{Option, none, some}
 use mathlib.Core.List.{List, [], _∷_, _++_, map, append-assoc}
@@ -22,18 +22,17 @@ use Rattle.tests.specs.All.{and-second}
 use Rattle.day.specs.Refusal.{demandOk, capacityOk}
 use Rattle.edits.specs.Total.{total, bit, total-append, total-none, total-one, part-le}
 use Rattle.edits.proofs.Cuts.{to-end, lent}
-use Rattle.lists.specs.Table.{sum, lists, listOf}
-use Rattle.lists.proofs.Tables.{at-lists, length-lists, length-list, list-at, start-later, start-within}
+use Rattle.lists.specs.Table.{lists, listOf}
+use Rattle.lists.proofs.Tables.{at-lists, length-list, list-at, start-later, start-within}
 use Rattle.evaluation.specs.Columns.{Columns, Visits}
 use Rattle.descent.specs.Order.{from-on, range, each}
-use Rattle.descent.specs.Search.{ok, taken}
 use Rattle.descent.specs.Across.{at, Relocation}
 use Rattle.descent.proofs.Members.{map-in}
 use Rattle.descent.proofs.Loops.{range-step, range-done}
 use Rattle.deltas.specs.Deltas.{stopAt, removalDelta, insertionDelta, relocateDelta}
 use Rattle.deltas.proofs.Stops.{getD-any}
 use Rattle.engine.specs.Engine.{passing}
-use Rattle.pairs.specs.Scan.{onward, figure, Counted}
+use Rattle.pairs.specs.Scan.{figure, Counted}
 use Rattle.relocate.specs.Relocate.{boxesOf, Held, Prepared, searchOf, judgeOf, bound, intoList, inserted}
 use Rattle.relocate.specs.Relocate.{taken-at, offerDelta, better, bestAmong, scan, Best, Scanned}
 use Rattle.relocate.specs.declared.pair.Setup.{Setup}
@@ -108,6 +107,9 @@ module _ (l : ℕ) (visits lengths : List ℕ) (held : Held l visits lengths) wh
             let there : k < getD lengths r 0 = rw (length-list visits lengths add-up r) at h in
             rw (list-at visits lengths add-up r k there) (held .below _ (omega arith));
       }
+
+  pub lent-visits : (r : ℕ) (xs : List ℕ) → xs ≡ listOf visits lengths r → Visits l xs
+  lent-visits r xs e = rw e (list-visits r)
 
   -- and one that another list can give a visit has room for it
   pub one-more : (from to : ℕ) → from ≢ to → 0 < getD lengths from 0 → getD lengths to 0 < 63

@@ -1,9 +1,8 @@
 -- The cache through a move: the two figures of the visit itself are forgotten, then the giver's column and the receiver's are brought up to date, and what
 -- is known is right of the lists as they stand then. Assumes nothing.
-use mathlib.Core.Path.{_≡_, refl, sym, ap, _∙_}
-use mathlib.Core.Logic.{_≢_}
+use mathlib.Core.Path.{_≡_, sym, ap, _∙_}
 use mathlib.Core.List.{List, []}
-use Prim.Native.Nat.{ℕ, suc, _+_, _≤_, _<_}
+use Prim.Native.Nat.{ℕ, _≤_, _<_}
 use native.Mathlib.Omega.{arith}
 use lib.Dec.{T}
 use lib.ListN.{length, getD, set, length-set}
@@ -125,7 +124,8 @@ module _ (l : ℕ) (visits lengths visits′ lengths′ : List ℕ) (from positi
         let same : ys ≡ inserted Y moved place = is-receiver ∙ receiver-then in
         let whole = known-came d depot fixed l (set (lists visits lengths) from (without X position)) f₃ p₃ known-between to to-low (rw length-set takes) moved
         place in
-        let last : place ≤ length Y → Known (insertionDelta d depot fixed) l (set (set (lists visits lengths) from (without X position)) to (inserted Y moved place))
+        let last : place ≤ length Y
+        → Known (insertionDelta d depot fixed) l (set (set (lists visits lengths) from (without X position)) to (inserted Y moved place))
         (column (λ u. cameAt (insertionDelta d depot fixed) to place (inserted Y moved place) f₃ p₃ u .figure) to l f₃)
         (column (λ u. cameAt (insertionDelta d depot fixed) to place (inserted Y moved place) f₃ p₃ u .place) to l p₃)
         = rw same-receiver at whole in

@@ -4,16 +4,16 @@
 use mathlib.Core.Path.{_≡_, refl, sym, ap, _∙_}
 use mathlib.Core.Bool.{Bool, true, false, cond, _||_, false≢true}
 use mathlib.Core.Logic.{_≢_, _⊎_, inl, inr}
-use Prim.Native.Nat.{ℕ, zero, suc, _+_, _-_, _≤_, _<_}
+use Prim.Native.Nat.{ℕ, zero, suc, _+_, _-_, _<_}
 use native.Mathlib.Omega.{arith}
 use native.Mathlib.Decide.{ℕ-discrete, decLt}
 use native.Mathlib.Numerals.{add-one}
 use borrow.Author.Tests.{ltb-true, ltb-false, eqb-false}
 use lib.Dec.{T, ltb, eqb}
-use lib.Ieee.{Float, nan, inf, lt, le}
+use lib.Ieee.{Float, inf, lt, le}
 use lib.Ieee.Scale.{finite}
 use Rattle.numbers.proofs.Total as Total
-use Rattle.descent.proofs.Members.{T-true, true-T}
+use Rattle.descent.proofs.Members.{true-T}
 use Rattle.relocate.specs.Cache.{lesser, leastBelow, LeastAt, forgotten, wins, firstOf, vanished, movedDown, movedUp, leastLeft, leastCame}
 use Rattle.relocate.specs.declared.cache.Least.{Least}
 
@@ -360,3 +360,19 @@ module _ (old new : ℕ → Float) (m pos : ℕ) (j : Split old new m pos) where
       go false e t g f = absurd (not-both (finite (known .figure)) f e)
       go true e true g f = absurd f
       go true e false g f = splits (known .figure) (known .place) (h (true-T (finite (known .figure)) e)) (eqb-false (known .place) pos g)
+
+-- ---- as the code tries the new legs
+
+module _ (known : Least) (position at : ℕ) (at-is : at ≡ position) (place : ℕ) (cost : ℕ → Float) where
+  pub left-tried : (x : Float) (r : Least) → x ≡ cost at → place ≡ movedDown (known .place) position
+      → r ≡ firstOf (record { figure = known .figure; place = place }) (record { figure = x; place = position })
+      → r ≡ firstOf (record { figure = known .figure; place = movedDown (known .place) position }) (record { figure = cost position; place = position })
+  left-tried x r e f g = g ∙ rw (e, f, at-is)
+
+  pub came-tried : (x y : Float) (q r : Least) → x ≡ cost at → y ≡ cost (at + 1) → place ≡ movedUp (known .place) position
+      → q ≡ firstOf (record { figure = known .figure; place = place }) (record { figure = x; place = position })
+      → r ≡ firstOf q (record { figure = y; place = position + 1 })
+      → r
+      ≡ firstOf (firstOf (record { figure = known .figure; place = movedUp (known .place) position }) (record { figure = cost position; place = position }))
+      (record { figure = cost (position + 1); place = position + 1 })
+  came-tried x y q r e h f g k = k ∙ rw (g, e, h, f, at-is)

@@ -1,15 +1,14 @@
 -- What it costs to insert a visit into a list from which one went, or into which one came: away from the leg that changed the stops around a place are the
 -- same, and a list that is empty neither before nor after pays no fixed cost. Assumes nothing.
-use mathlib.Core.Path.{_≡_, refl, sym, ap, _∙_}
-use mathlib.Core.Bool.{Bool, true, false}
-use mathlib.Core.List.{List, [], _∷_, _++_}
-use Prim.Native.Nat.{ℕ, zero, suc, _+_, _≤_, _<_}
+use mathlib.Core.Path.{_≡_, refl, ap}
+use mathlib.Core.Bool.{false}
+use mathlib.Core.List.{List, [], _∷_}
+use Prim.Native.Nat.{ℕ, zero, suc, _≤_, _<_}
 use native.Mathlib.Omega.{arith}
 use borrow.Author.Tests.{ne-eqb}
 use lib.Dec.{eqb}
-use lib.ListN.{length, take, drop, getD}
+use lib.ListN.{length, getD}
 use lib.Ieee.{Float}
-use Rattle.deltas.specs.Changes.{fixedIf}
 use Rattle.deltas.specs.Deltas.{stopAt, stopBefore, around, insertionCost, insertionDelta}
 use Rattle.relocate.specs.Relocate.{inserted}
 use Rattle.relocate.specs.Cache.{without}

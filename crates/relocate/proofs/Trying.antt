@@ -33,9 +33,9 @@ use Rattle.pairs.specs.Pairs.{moveOf, nothing, IsBest}
 use Rattle.pairs.specs.declared.Choice.{Choice}
 use Rattle.pairs.proofs.Scanning.{onward-stays, onward-end}
 use Rattle.pairs.proofs.Taken.{best-same-list, best-across}
-use Rattle.relocate.specs.Cache.{LeastAt, cell, knownAt, leastBelow, Known}
-use Rattle.relocate.specs.Relocate.{boxesOf, Held, Prepared, searchOf, judgeOf, bound, intoList, inserted}
-use Rattle.relocate.specs.Relocate.{costOf, Cached, ruledOut, offerOf, offerDelta, bestAmong, tried, scan, Best, Scanned}
+use Rattle.relocate.specs.Cache.{LeastAt, cell, knownAt, leastBelow}
+use Rattle.relocate.specs.Relocate.{boxesOf, Held, Prepared, searchOf, judgeOf, bound, intoList}
+use Rattle.relocate.specs.Relocate.{costOf, Cached, ruledOut, offerOf, bestAmong, tried, Best, Scanned}
 use Rattle.relocate.specs.declared.pair.Setup.{Setup}
 use Rattle.relocate.specs.declared.pair.Tried.{Tried}
 use Rattle.relocate.specs.declared.cache.Least.{Least}
@@ -45,10 +45,6 @@ use Rattle.relocate.proofs.Choosing.{visit-below, refused-as, offered-a
 use Rattle.relocate.proofs.Choosing.{Scanning, scanning-start, scanning-turn, scanning-end}
 
 -- ---- candidates that don't count
-
-not-true : (b : Bool) → (b ≡ true → ⊥) → b ≡ false
-not-true true h = absurd (h refl)
-not-true false h = refl
 
 module _ {C : Type 0} (delta : C → Float) (pass : C → Bool) (limit : Float) where
   dull-one : (o : Option C) (c : C) → Counted delta pass limit o → lt (delta c) limit ≡ false → (lt (delta c) (figure delta pass limit o) && pass c) ≡ false
@@ -137,7 +133,8 @@ module _ (c : Columns) (demand : List ℤ) (s : Setup) (visits lengths : List �
           let whole = and-parts pruning (finite (known .figure) && le (neg (s .floor)) (removal ⊕ known .figure)) e in
           and-parts (finite (known .figure)) (le (neg (s .floor)) (removal ⊕ known .figure)) (whole .1)
 
-      dull : (m : Relocation) → m ∈ map move (range 0 (suc (length (at (lists visits lengths) to)))) → lt (judgeOf c s .delta (lists visits lengths) m) (bound c) ≡ false
+      dull : (m : Relocation) → m ∈ map move (range 0 (suc (length (at (lists visits lengths) to))))
+          → lt (judgeOf c s .delta (lists visits lengths) m) (bound c) ≡ false
       dull m i =
           let p = map-in move (range 0 (suc (length (at (lists visits lengths) to)))) m i in
           let f = true-T (finite (known .figure)) (parts .0) in
@@ -158,7 +155,10 @@ module _ (c : Columns) (demand : List ℤ) (s : Setup) (visits lengths : List �
       go : (u : Bool) → ltb (s .capacity) (load + boxesOf demand visit) ≡ u
           → (q w : Bool) → ruledOut q (s .floor) removal (known .figure) ≡ w
           → Tries (cond u (record { best = best; least = known }) (cond w (record { best = best; least = known })
-          (record { best = bestAmong c s Y (offerOf c s X from position to) (range 0 (suc (length Y))) best; least = leastBelow (costOf c s Y visit) (suc (length Y)) })))
+          (record {
+            best = bestAmong c s Y (offerOf c s X from position to) (range 0 (suc (length Y))) best;
+            least = leastBelow (costOf c s Y visit) (suc (length Y));
+          })))
       go true e q w g = record {
         scanned = refused-as c demand s visits lengths from position to prepared held visit-there X Y is-giver is-receiver visit load
             (boxesOf demand visit) refl is-load refl best b (ltb-true (s .capacity) (load + boxesOf demand visit) e);

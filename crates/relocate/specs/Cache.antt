@@ -1,7 +1,7 @@
 -- The insertion cache (relocate.rs, `least_insertion` and `argmin`): for a visit and a list the least insertion delta and the first place that reaches it,
 -- not a number while it isn't known; what it becomes when the list changes; and what makes it right. For the contracts of src/. Assumes nothing.
 use mathlib.Core.Path.{_≡_}
-use mathlib.Core.Bool.{Bool, true, false, cond, _||_}
+use mathlib.Core.Bool.{Bool, false, cond, _||_}
 use mathlib.Core.List.{List, [], _++_}
 use Prim.Native.Nat.{ℕ, zero, suc, _+_, _-_, _*_, _≤_, _<_}
 use lib.Dec.{T, ltb, eqb}

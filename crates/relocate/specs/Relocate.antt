@@ -1,8 +1,9 @@
--- Relocate as the code goes about it: the boxes as a measure, what a run keeps at hand, the candidates by list, visit and receiver, and the best so far.
--- For the contracts of src/; the engine's own definition is `relocate false` of descent. Assumes nothing.
+-- Relocate as the code goes about it: the boxes as a measure, what a run asks, the candidates of one visit and one list and the best of them, what is tried
+-- of a visit of which something is known, and the table of pairs. For the contracts of src/; the engine's own definition is `relocate false` of descent.
+-- Assumes nothing.
 use mathlib.Core.Path.{_≡_}
 use mathlib.Core.Bool.{Bool, true, false, cond, _&&_}
-use mathlib.Core.Option.{Option, none, some}
+use mathlib.Core.Option.{Option}
 use mathlib.Core.List.{List, [], _∷_, _++_, map}
 use Prim.Native.Nat.{ℕ, suc, _+_, _≤_, _<_}
 use lib.Dec.{ltb}
@@ -26,7 +27,7 @@ use Rattle.deltas.specs.Deltas.{removalDelta, insertionDelta}
 use Rattle.deltas.specs.Judged.{float-judge}
 use Rattle.engine.specs.Engine.{passing, checksOf, mapOf}
 use Rattle.pairs.specs.Scan.{onward, figure, Counted}
-use Rattle.pairs.specs.Pairs.{moveOf, Table, Stored, RightWhere}
+use Rattle.pairs.specs.Pairs.{moveOf, Table, Stored, StoredBoth, RightWhere}
 use Rattle.pairs.specs.declared.Choice.{Choice}
 use Rattle.relocate.specs.declared.pair.Setup.{Setup}
 use Rattle.relocate.specs.declared.pair.Offer.{Offer}
@@ -155,6 +156,10 @@ tried c demand s pruning X Y load from position to best known =
 -- a pair was searched, and its best put into the table
 abbrev pub Searched : Columns → List ℤ → Setup → List (List ℕ) → ℕ → ℕ → Table → Table → Type 0
 Searched c demand s ls = Stored (judgeOf c s .delta ls) (searchOf c demand s .passes ls) (bound c) ls
+
+-- two lists were, both ways
+abbrev pub SearchedBoth : Columns → List ℤ → Setup → List (List ℕ) → ℕ → ℕ → Table → Table → Type 0
+SearchedBoth c demand s ls = StoredBoth (judgeOf c s .delta ls) (searchOf c demand s .passes ls) (bound c) ls
 
 -- the table of n lists is right of the pairs that are done
 abbrev pub PairsRight : Columns → List ℤ → Setup → List (List ℕ) → ℕ → (ℕ → ℕ → Type 0) → Table → Type 0

@@ -41,7 +41,8 @@ ghost use Rattle.deltas.specs.Judged.{float-judge};
 ghost use Rattle.engine.specs.Engine.{checksOf, mapOf, endedAs};
 ghost use Rattle.pairs.specs.Pairs.{Sized, Before, Renewed, tableAt};
 ghost use Rattle.relocate.specs.Cache.{cell, Known};
-ghost use Rattle.relocate.specs.Relocate.{boxes, measureOf, Boxed, Held, Prepared, Cached, Searched, PairsRight, Every};
+ghost use Rattle.relocate.specs.Relocate.{boxes, measureOf, Boxed, Held, Prepared, Cached, Searched, SearchedBoth};
+ghost use Rattle.relocate.specs.Relocate.{PairsRight, Every};
 
 // ---- the table of pairs
 
@@ -70,7 +71,8 @@ fn search_pair(
 )
     requires { ⌜ Prepared setup (columnsAt (setup .l) flags service ready due penalty distances times) ⌝ }
     requires { ⌜ Boxed (setup .l) (now demand) × Held (setup .l) (now visits) (now lengths) × (64 ≤ length (now buffer)) ⌝ }
-    requires { ⌜ Cached (columnsAt (setup .l) flags service ready due penalty distances times) setup (lists (now visits) (now lengths)) (now figures) (now places) ⌝ }
+    requires { ⌜ Cached (columnsAt (setup .l) flags service ready due penalty distances times) setup (lists (now visits) (now lengths))
+        (now figures) (now places) ⌝ }
     requires { ⌜ Sized (tableAt deltas positions «to_places») × (from < length (now lengths)) × (to < length (now lengths)) ⌝ }
     ensures { λ _.
         ⌜ (let c = columnsAt (setup .l) (flags .entry) (service .entry) (ready .entry) (due .entry) (penalty .entry) (distances .entry) (times .entry) in
@@ -125,9 +127,10 @@ fn search_row(
 )
     requires { ⌜ Prepared setup (columnsAt (setup .l) flags service ready due penalty distances times) ⌝ }
     requires { ⌜ Boxed (setup .l) (now demand) × Held (setup .l) (now visits) (now lengths) × (64 ≤ length (now buffer)) ⌝ }
-    requires { ⌜ Cached (columnsAt (setup .l) flags service ready due penalty distances times) setup (lists (now visits) (now lengths)) (now figures) (now places) ⌝ }
-    requires { ⌜ PairsRight (columnsAt (setup .l) flags service ready due penalty distances times) (now demand) setup (lists (now visits) (now lengths)) (length (now lengths))
-        (Before from 0) (tableAt deltas positions «to_places») ⌝ }
+    requires { ⌜ Cached (columnsAt (setup .l) flags service ready due penalty distances times) setup (lists (now visits) (now lengths))
+        (now figures) (now places) ⌝ }
+    requires { ⌜ PairsRight (columnsAt (setup .l) flags service ready due penalty distances times) (now demand) setup
+        (lists (now visits) (now lengths)) (length (now lengths)) (Before from 0) (tableAt deltas positions «to_places») ⌝ }
     requires { ⌜ from < length (now lengths) ⌝ }
     ensures { λ _.
         ⌜ (let c = columnsAt (setup .l) (flags .entry) (service .entry) (ready .entry) (due .entry) (penalty .entry) (distances .entry) (times .entry) in
@@ -187,7 +190,8 @@ fn search_all(
 )
     requires { ⌜ Prepared setup (columnsAt (setup .l) flags service ready due penalty distances times) ⌝ }
     requires { ⌜ Boxed (setup .l) (now demand) × Held (setup .l) (now visits) (now lengths) × (64 ≤ length (now buffer)) ⌝ }
-    requires { ⌜ Cached (columnsAt (setup .l) flags service ready due penalty distances times) setup (lists (now visits) (now lengths)) (now figures) (now places) ⌝ }
+    requires { ⌜ Cached (columnsAt (setup .l) flags service ready due penalty distances times) setup (lists (now visits) (now lengths))
+        (now figures) (now places) ⌝ }
     requires { ⌜ Sized (tableAt deltas positions «to_places») ⌝ }
     ensures { λ _.
         ⌜ (let c = columnsAt (setup .l) (flags .entry) (service .entry) (ready .entry) (due .entry) (penalty .entry) (distances .entry) (times .entry) in
@@ -223,8 +227,8 @@ fn search_all(
     }
 }
 
-// Searches the pairs of list `other` with the lists a and b again: out of each and into each.
-fn search_again(
+// Searches the pairs of two lists, out of the first and into it.
+fn search_both(
     setup: Setup,
     flags: &[u8],
     service: &[f64],
@@ -243,20 +247,18 @@ fn search_again(
     positions: &mut [u16],
     to_places: &mut [u16],
     pruning: bool,
-    a: usize,
-    b: usize,
+    r: usize,
     other: usize,
 )
     requires { ⌜ Prepared setup (columnsAt (setup .l) flags service ready due penalty distances times) ⌝ }
     requires { ⌜ Boxed (setup .l) (now demand) × Held (setup .l) (now visits) (now lengths) × (64 ≤ length (now buffer)) ⌝ }
-    requires { ⌜ Cached (columnsAt (setup .l) flags service ready due penalty distances times) setup (lists (now visits) (now lengths)) (now figures) (now places) ⌝ }
-    requires { ⌜ PairsRight (columnsAt (setup .l) flags service ready due penalty distances times) (now demand) setup (lists (now visits) (now lengths)) (length (now lengths))
-        (Renewed a b other) (tableAt deltas positions «to_places») ⌝ }
-    requires { ⌜ (a < length (now lengths)) × (b < length (now lengths)) × (other < length (now lengths)) ⌝ }
+    requires { ⌜ Cached (columnsAt (setup .l) flags service ready due penalty distances times) setup (lists (now visits) (now lengths))
+        (now figures) (now places) ⌝ }
+    requires { ⌜ Sized (tableAt deltas positions «to_places») × (r < length (now lengths)) × (other < length (now lengths)) ⌝ }
     ensures { λ _.
         ⌜ (let c = columnsAt (setup .l) (flags .entry) (service .entry) (ready .entry) (due .entry) (penalty .entry) (distances .entry) (times .entry) in
         let ls = lists (now (visits .entry)) (now (lengths .entry))
-        in PairsRight c (now (demand .entry)) setup ls (length (now (lengths .entry))) (Renewed a b (other + 1))
+        in SearchedBoth c (now (demand .entry)) setup ls r other (tableAt (deltas .entry) (positions .entry) («to_places» .entry))
         (tableAt (deltas .exit) (positions .exit) («to_places» .exit))
         × Cached c setup ls (now (figures .exit)) (now (places .exit))) ⌝ }
 {
@@ -279,7 +281,7 @@ fn search_again(
         positions,
         to_places,
         pruning,
-        a,
+        r,
         other,
     );
     search_pair(
@@ -302,51 +304,7 @@ fn search_again(
         to_places,
         pruning,
         other,
-        a,
-    );
-    search_pair(
-        setup,
-        flags,
-        service,
-        ready,
-        due,
-        penalty,
-        distances,
-        times,
-        demand,
-        visits,
-        lengths,
-        buffer,
-        figures,
-        places,
-        deltas,
-        positions,
-        to_places,
-        pruning,
-        b,
-        other,
-    );
-    search_pair(
-        setup,
-        flags,
-        service,
-        ready,
-        due,
-        penalty,
-        distances,
-        times,
-        demand,
-        visits,
-        lengths,
-        buffer,
-        figures,
-        places,
-        deltas,
-        positions,
-        to_places,
-        pruning,
-        other,
-        b,
+        r,
     );
 }
 
@@ -375,9 +333,10 @@ fn search_changed(
 )
     requires { ⌜ Prepared setup (columnsAt (setup .l) flags service ready due penalty distances times) ⌝ }
     requires { ⌜ Boxed (setup .l) (now demand) × Held (setup .l) (now visits) (now lengths) × (64 ≤ length (now buffer)) ⌝ }
-    requires { ⌜ Cached (columnsAt (setup .l) flags service ready due penalty distances times) setup (lists (now visits) (now lengths)) (now figures) (now places) ⌝ }
-    requires { ⌜ PairsRight (columnsAt (setup .l) flags service ready due penalty distances times) (now demand) setup (lists (now visits) (now lengths)) (length (now lengths))
-        (Renewed a b 0) (tableAt deltas positions «to_places») ⌝ }
+    requires { ⌜ Cached (columnsAt (setup .l) flags service ready due penalty distances times) setup (lists (now visits) (now lengths))
+        (now figures) (now places) ⌝ }
+    requires { ⌜ PairsRight (columnsAt (setup .l) flags service ready due penalty distances times) (now demand) setup
+        (lists (now visits) (now lengths)) (length (now lengths)) (Renewed a b 0) (tableAt deltas positions «to_places») ⌝ }
     requires { ⌜ (a < length (now lengths)) × (b < length (now lengths)) ⌝ }
     ensures { λ _.
         ⌜ (let c = columnsAt (setup .l) (flags .entry) (service .entry) (ready .entry) (due .entry) (penalty .entry) (distances .entry) (times .entry) in
@@ -388,7 +347,7 @@ fn search_changed(
 {
     let mut other = 0;
     while other < lengths.len() {
-        search_again(
+        search_both(
             setup,
             flags,
             service,
@@ -408,6 +367,27 @@ fn search_changed(
             to_places,
             pruning,
             a,
+            other,
+        );
+        search_both(
+            setup,
+            flags,
+            service,
+            ready,
+            due,
+            penalty,
+            distances,
+            times,
+            demand,
+            visits,
+            lengths,
+            buffer,
+            figures,
+            places,
+            deltas,
+            positions,
+            to_places,
+            pruning,
             b,
             other,
         );
@@ -525,7 +505,8 @@ fn descend(
 ) -> Ended
     requires { ⌜ Prepared setup (columnsAt (setup .l) flags service ready due penalty distances times) ⌝ }
     requires { ⌜ Boxed (setup .l) (now demand) × Held (setup .l) (now visits) (now lengths) × (64 ≤ length (now buffer)) ⌝ }
-    requires { ⌜ Cached (columnsAt (setup .l) flags service ready due penalty distances times) setup (lists (now visits) (now lengths)) (now figures) (now places) ⌝ }
+    requires { ⌜ Cached (columnsAt (setup .l) flags service ready due penalty distances times) setup (lists (now visits) (now lengths))
+        (now figures) (now places) ⌝ }
     requires { ⌜ Sized (tableAt deltas positions «to_places») ⌝ }
     ensures { λ r.
         ⌜ (let c = columnsAt (setup .l) (flags .entry) (service .entry) (ready .entry) (due .entry) (penalty .entry) (distances .entry) (times .entry) in

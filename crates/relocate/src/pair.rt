@@ -436,7 +436,8 @@ pub fn best_between(
     requires { ⌜ Prepared setup (columnsAt (setup .l) flags service ready due penalty distances times) ⌝ }
     requires { ⌜ Boxed (setup .l) (now demand) × Held (setup .l) (now visits) (now lengths) ⌝ }
     requires { ⌜ (64 ≤ length (now buffer)) × (from < length (now lengths)) × (to < length (now lengths)) ⌝ }
-    requires { ⌜ Cached (columnsAt (setup .l) flags service ready due penalty distances times) setup (lists (now visits) (now lengths)) (now figures) (now places) ⌝ }
+    requires { ⌜ Cached (columnsAt (setup .l) flags service ready due penalty distances times) setup (lists (now visits) (now lengths))
+        (now figures) (now places) ⌝ }
     ensures { λ r.
         ⌜ (let c = columnsAt (setup .l) (flags .entry) (service .entry) (ready .entry) (due .entry) (penalty .entry) (distances .entry) (times .entry) in
         let ls = lists (now (visits .entry)) (now (lengths .entry))

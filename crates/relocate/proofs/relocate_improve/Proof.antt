@@ -24,8 +24,9 @@ route-checks-needed-requires c κs =
 
 cast-t28 : tie.Need-cast-t28
 cast-t28 c =
-    let e = toZ-ofZ w32 (c .before .before .before .before .before .before .before .before .before .before .before .before .args .capacity) (c .before .before .before .before .before .before .before .before .before .before .before .before .fits .capacity) in
-    let t = capacity-plain (c .before .before .before .before .before .before .before .before .before .before .before .before .args .capacity) (c .before .before .before .before .before .before .before .before .before .before .before .before .pre .1 .0 .1) in
+    let start = c .before .before .before .before .before .before .before .before .before .before .before .before in
+    let e = toZ-ofZ w32 (start .args .capacity) (start .fits .capacity) in
+    let t = capacity-plain (start .args .capacity) (start .pre .1 .0 .1) in
     let h = t .1 in
     rw e (t .0, search needs)
 
@@ -58,21 +59,26 @@ slice-aggregate-descend-6 c =
     search needs
 
 descend-requires : tie.Need-descend-requires
-descend-requires c κs = (
-  record {
-    formed = c .before .before .before .before .before .before .before .before .before .before .before .before .before .before .before .before .before .before .before .before .before .pre .0;
-    depot-there = c .before .before .before .before .before .before .before .before .before .before .before .before .before .before .before .before .before .before .before .before .before .pre .1 .1 .0;
-    floor = c .before .before .before .before .before .before .before .before .before .before .gain-floor .ensures ∙ ap gainFloor (c .before .before .before .before .before .before .before .before .before .before .before .scale .ensures);
-    needed = c .before .before .before .before .before .before .before .before .before .route-checks-needed .ensures;
-  },
-  (
-    (c .before .before .before .before .before .before .before .before .before .before .before .before .before .before .before .before .before .before .before .before .before .pre .1 .0 .0, c .before .before .before .before .before .before .before .before .before .before .before .before .before .before .before .before .before .before .before .before .before .pre .1 .1 .1, omega arith),
-    (
-      nothing-known-yet _ _ _ _ _ _ (c .before .before .before .before .before .before .before .before .unknown .ensures) (c .before .before .before .before .before .before .before .before .before .before .before .before .before .before .before .before .before .before .before .before .before .pre .0 .tables .of-distances .few) refl refl,
-      record { deltas-size = refl; positions-size = refl; places-size = refl },
-    ),
-  ),
-)
+descend-requires c κs =
+    let at-unknown = c .before .before .before .before .before .before .before .before in
+    let at-route-checks-needed = at-unknown .before in
+    let at-gain-floor = at-route-checks-needed .before in
+    let at-scale = at-gain-floor .before in
+    let start = at-scale .before .before .before .before .before .before .before .before .before .before in (
+      record {
+        formed = start .pre .0;
+        depot-there = start .pre .1 .1 .0;
+        floor = at-gain-floor .gain-floor .ensures ∙ ap gainFloor (at-scale .scale .ensures);
+        needed = at-route-checks-needed .route-checks-needed .ensures;
+      },
+      (
+        (start .pre .1 .0 .0, start .pre .1 .1 .1, omega arith),
+        (
+          nothing-known-yet _ _ _ _ _ _ (at-unknown .unknown .ensures) (start .pre .0 .tables .of-distances .few) refl refl,
+          record { deltas-size = refl; positions-size = refl; places-size = refl },
+        ),
+      ),
+    )
 
 same-length : tie.Need-same-length
 same-length c =
@@ -84,7 +90,10 @@ same-length-2 c =
 
 returns : tie.Need-returns
 returns c =
-    rw (toZ-ofZ w32 (c .before .before .before .before .before .before .before .before .before .before .before .before .before .before .before .before .before .before .before .before .before .before .before .before .before .before .before .before .before .before .before .before .args .capacity) (c .before .before .before .before .before .before .before .before .before .before .before .before .before .before .before .before .before .before .before .before .before .before .before .before .before .before .before .before .before .before .before .before .fits .capacity)) at (c .before .before .before .before .before .before .before .before .before .before .descend .ensures)
+    let at-descend = c .before .before .before .before .before .before .before .before .before .before in
+    let further = at-descend .before .before .before .before .before .before .before .before .before .before in
+    let start = further .before .before .before .before .before .before .before .before .before .before .before .before in
+    rw (toZ-ofZ w32 (start .args .capacity) (start .fits .capacity)) at (at-descend .descend .ensures)
 
 pub relocate-improve-spec : {M : Type 1} → statement M
 relocate-improve-spec =

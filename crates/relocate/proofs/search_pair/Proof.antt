@@ -4,22 +4,42 @@ use Rattle.relocate.proofs.search_pair.Statement.{statement}
 use Rattle.relocate.proofs.search_pair.Tie as tie
 
 best-between-requires : tie.Need-best-between-requires
-best-between-requires c κs = (c .before .before .before .before .before .before .before .before .before .before .before .before .before .before .before .before .before .before .pre .0, ((c .before .before .before .before .before .before .before .before .before .before .before .before .before .before .before .before .before .before .pre .1 .0 .0, c .before .before .before .before .before .before .before .before .before .before .before .before .before .before .before .before .before .before .pre .1 .0 .1), ((c .before .before .before .before .before .before .before .before .before .before .before .before .before .before .before .before .before .before .pre .1 .0 .2, c .before .before .before .before .before .before .before .before .before .before .before .before .before .before .before .before .before .before .pre .1 .1 .1 .1, c .before .before .before .before .before .before .before .before .before .before .before .before .before .before .before .before .before .before .pre .1 .1 .1 .2), c .before .before .before .before .before .before .before .before .before .before .before .before .before .before .before .before .before .before .pre .1 .1 .0)))
+best-between-requires c κs =
+    let further = c .before .before .before .before .before .before .before .before .before .before in
+    let start = further .before .before .before .before .before .before .before .before in (
+      start .pre .0,
+      (
+        (start .pre .1 .0 .0, start .pre .1 .0 .1),
+        ((start .pre .1 .0 .2, start .pre .1 .1 .1 .1, start .pre .1 .1 .1 .2), start .pre .1 .1 .0),
+      ),
+    )
 
 put-pair-requires : tie.Need-put-pair-requires
-put-pair-requires c κs = (
-  c .before .before .before .before .before .before .before .before .before .before .before .before .before .before .before .before .before .before .before .before .before .before .before .before .before .before .before .before .pre .1 .1 .1 .0,
-  (omega (arith, c .before .before .before .before .before .before .before .before .before .before .before .before .before .before .before .before .before .before .before .before .before .before .before .before .before .before .before .before .pre .1 .1 .1 .1, c .before .before .before .before .before .before .before .before .before .before .before .before .before .before .before .before .before .before .before .before .before .before .before .before .before .before .before .before .pre .1 .0 .1 .laid .few), omega (arith, c .before .before .before .before .before .before .before .before .before .before .before .before .before .before .before .before .before .before .before .before .before .before .before .before .before .before .before .before .pre .1 .1 .1 .2, c .before .before .before .before .before .before .before .before .before .before .before .before .before .before .before .before .before .before .before .before .before .before .before .before .before .before .before .before .pre .1 .0 .1 .laid .few)),
-)
+put-pair-requires c κs =
+    let further = c .before .before .before .before .before .before .before .before .before .before in
+    let further2 = further .before .before .before .before .before .before .before .before .before .before in
+    let start = further2 .before .before .before .before .before .before .before .before in (
+      start .pre .1 .1 .1 .0,
+      (omega (arith, start .pre .1 .1 .1 .1, start .pre .1 .0 .1 .laid .few), omega (arith, start .pre .1 .1 .1 .2, start .pre .1 .0 .1 .laid .few)),
+    )
 
 same-length : tie.Need-same-length
-same-length c = c .before .before .before .before .before .before .before .before .before .before .before .before .before .before .before .before .best-between .kept .1 .1 .1 .1 .1 .1 .1 .1 .1 .1 .1 .0
+same-length c =
+    let further = c .before .before .before .before .before .before .before .before .before .before in
+    let at-best-between = further .before .before .before .before .before .before in
+    at-best-between .best-between .kept .1 .1 .1 .1 .1 .1 .1 .1 .1 .1 .1 .0
 
 same-length-2 : tie.Need-same-length-2
-same-length-2 c = c .before .before .before .before .before .before .before .before .before .before .before .before .before .before .before .before .best-between .kept .1 .1 .1 .1 .1 .1 .1 .1 .1 .1 .1 .1 .0
+same-length-2 c =
+    let further = c .before .before .before .before .before .before .before .before .before .before in
+    let at-best-between = further .before .before .before .before .before .before in
+    at-best-between .best-between .kept .1 .1 .1 .1 .1 .1 .1 .1 .1 .1 .1 .1 .0
 
 same-length-3 : tie.Need-same-length-3
-same-length-3 c = c .before .before .before .before .before .before .before .before .before .before .before .before .before .before .before .before .best-between .kept .1 .1 .1 .1 .1 .1 .1 .1 .1 .1 .1 .1 .1 .0
+same-length-3 c =
+    let further = c .before .before .before .before .before .before .before .before .before .before in
+    let at-best-between = further .before .before .before .before .before .before in
+    at-best-between .best-between .kept .1 .1 .1 .1 .1 .1 .1 .1 .1 .1 .1 .1 .1 .0
 
 same-length-4 : tie.Need-same-length-4
 same-length-4 c = c .before .before .before .before .before .before .put-pair .kept .0
@@ -31,10 +51,12 @@ same-length-6 : tie.Need-same-length-6
 same-length-6 c = c .before .before .before .before .before .before .put-pair .kept .1 .1 .0
 
 returns : tie.Need-returns
-returns c = (
-  record { choice = _; is-best = c .before .before .before .before .before .before .before .before .before .before .before .before .before .before .before .before .best-between .ensures .0; is-put = c .before .before .before .before .before .before .put-pair .ensures },
-  c .before .before .before .before .before .before .before .before .before .before .before .before .before .before .before .before .best-between .ensures .1,
-)
+returns c =
+    let at-put-pair = c .before .before .before .before .before .before in
+    let at-best-between = at-put-pair .before .before .before .before .before .before .before .before .before .before in (
+      record { choice = _; is-best = at-best-between .best-between .ensures .0; is-put = at-put-pair .put-pair .ensures },
+      at-best-between .best-between .ensures .1,
+    )
 
 pub search-pair-spec : {M : Type 1} → statement M
 search-pair-spec =

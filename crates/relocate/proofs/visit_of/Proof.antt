@@ -13,16 +13,25 @@ list-of-requires : tie.Need-list-of-requires
 list-of-requires c κs = (c .before .before .pre .0, c .before .before .pre .1)
 
 mul-wide : tie.Need-mul-wide
-mul-wide c = omega (arith, c .before .before .before .pre .2, start-within (c .before .before .before .args .lengths .now) (c .before .before .before .args .r), c .before .before .before .pre .0 .add-up, c .before .before .before .pre .0 .size)
+mul-wide c =
+    let start = c .before .before .before in
+    omega (arith, start .pre .2, start-within (start .args .lengths .now) (start .args .r), start .pre .0 .add-up, start .pre .0 .size)
 
 shared-slice-read-wide : tie.Need-shared-slice-read-wide
-shared-slice-read-wide c = let long = ap length (c .before .list-of .ensures) ∙ length-list _ _ (c .before .before .before .before .pre .0 .add-up) (c .before .before .before .before .args .r) in omega (arith, c .before .before .before .before .pre .2, long)
+shared-slice-read-wide c =
+    let at-list-of = c .before in
+    let start = at-list-of .before .before .before in
+    let long = ap length (at-list-of .list-of .ensures) ∙ length-list _ _ (start .pre .0 .add-up) (start .args .r) in omega
+    (arith, start .pre .2, long)
 
 wide-requires : tie.Need-wide-requires
 wide-requires c κs = search needs
 
 returns : tie.Need-returns
-returns c = c .wide .ensures ∙ ap (λ (xs : List ℕ). getD xs (c .before .before .before .before .before .args .position) 0) (c .before .before .list-of .ensures)
+returns c =
+    let at-list-of = c .before .before in
+    let start = at-list-of .before .before .before in
+    c .wide .ensures ∙ ap (λ (xs : List ℕ). getD xs (start .args .position) 0) (at-list-of .list-of .ensures)
 
 pub visit-of-spec : {M : Type 1} → statement M
 visit-of-spec =

@@ -1,7 +1,7 @@
 -- `after_insertion`: down the column, a cell is still the old one when it is read.
 use borrow.Author.Needs.{needs}
 use Prim.Native.Nat.{_-_, _≤_}
-use mathlib.Core.Path.{_≡_, refl, sym, ap, _∙_}
+use mathlib.Core.Path.{_≡_}
 use native.Mathlib.Omega.{arith}
 use lib.ListN.{length, length-set}
 use lib.Ieee.{nan}
@@ -22,7 +22,9 @@ abbrev μ-loop : tie.MeasureT-loop
 μ-loop l distances depot fixed list r position figures₀ places₀ visit₀ figures places visit = l - visit
 
 loop-holds : tie.Need-loop-holds Inv-loop μ-loop
-loop-holds c = (omega arith, column-start _ _ _, column-start _ _ _, c .before .before .before .before .pre .1 .1 .0 .0, c .before .before .before .before .pre .1 .1 .0 .1)
+loop-holds c =
+    let start = c .before .before .before .before in
+    (omega arith, column-start _ _ _, column-start _ _ _, start .pre .1 .1 .0 .0, start .pre .1 .1 .0 .1)
 
 mul-cell : tie.Need-mul-cell Inv-loop μ-loop
 mul-cell c = search needs
@@ -44,10 +46,15 @@ slice-read-t20 c = search needs
 
 least-came-requires : tie.Need-least-came-requires Inv-loop μ-loop
 least-came-requires c κs =
-    let inv = c .before .before .before .loop .inv in
+    let at-loop-test = c .before .before in
+    let at-loop = at-loop-test .before in
+    let start = at-loop .before .before .before .before .before in
+    let inv = at-loop .loop .inv in
     let f = column-read _ _ _ _ _ nan (inv .1) in
-    let p = column-read _ _ _ _ _ 0 (inv .2) in
-    ((c .before .before .before .before .before .before .before .before .pre .0 .0, c .before .before .before .before .before .before .before .before .pre .0 .1, c .before .before .loop-test .taken), (c .before .before .before .before .before .before .before .before .pre .1 .0 .1, c .before .before .before .before .before .before .before .before .pre .1 .0 .2, rw (f, p) (c .before .before .before .before .before .before .before .before .pre .1 .1 .1 _ (c .before .before .loop-test .taken))))
+    let p = column-read _ _ _ _ _ 0 (inv .2) in (
+      (start .pre .0 .0, start .pre .0 .1, at-loop-test .loop-test .taken),
+      (start .pre .1 .0 .1, start .pre .1 .0 .2, rw (f, p) (start .pre .1 .1 .1 _ (at-loop-test .loop-test .taken))),
+    )
 
 mul-figures : tie.Need-mul-figures Inv-loop μ-loop
 mul-figures c = search needs
@@ -88,8 +95,10 @@ same-length-2 c = search needs
 
 returns : tie.Need-returns Inv-loop μ-loop
 returns c =
-    let inv = c .before .loop .inv in
-    let e : c .before .loop .visit ≡ c .before .before .before .before .before .before .args .l = omega (arith, c .loop-test .left, inv .0) in
+    let at-loop = c .before in
+    let start = at-loop .before .before .before .before .before in
+    let inv = at-loop .loop .inv in
+    let e : at-loop .loop .visit ≡ start .args .l = omega (arith, c .loop-test .left, inv .0) in
     (column-end _ _ _ _ _ _ (inv .1) e, column-end _ _ _ _ _ _ (inv .2) e)
 
 pub after-insertion-spec : {M : Type 1} → statement M

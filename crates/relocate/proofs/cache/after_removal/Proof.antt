@@ -1,7 +1,7 @@
 -- `after_removal`: down the column, a cell is still the old one when it is read.
 use borrow.Author.Needs.{needs}
 use Prim.Native.Nat.{_-_, _≤_}
-use mathlib.Core.Path.{_≡_, refl, sym, ap, _∙_}
+use mathlib.Core.Path.{_≡_}
 use native.Mathlib.Omega.{arith}
 use lib.ListN.{length, length-set}
 use lib.Ieee.{nan}
@@ -22,7 +22,9 @@ abbrev μ-loop : tie.MeasureT-loop
 μ-loop l distances depot fixed list r position figures₀ places₀ visit₀ figures places visit = l - visit
 
 loop-holds : tie.Need-loop-holds Inv-loop μ-loop
-loop-holds c = (omega arith, column-start _ _ _, column-start _ _ _, c .before .before .before .before .pre .1 .1 .0, c .before .before .before .before .pre .1 .1 .1)
+loop-holds c =
+    let start = c .before .before .before .before in
+    (omega arith, column-start _ _ _, column-start _ _ _, start .pre .1 .1 .0, start .pre .1 .1 .1)
 
 mul-cell : tie.Need-mul-cell Inv-loop μ-loop
 mul-cell c = search needs
@@ -43,7 +45,10 @@ slice-read-t20 : tie.Need-slice-read-t20 Inv-loop μ-loop
 slice-read-t20 c = search needs
 
 least-left-requires : tie.Need-least-left-requires Inv-loop μ-loop
-least-left-requires c κs = ((c .before .before .before .before .before .before .before .before .pre .0 .0, c .before .before .before .before .before .before .before .before .pre .0 .1, c .before .before .loop-test .taken), (c .before .before .before .before .before .before .before .before .pre .1 .0 .1, c .before .before .before .before .before .before .before .before .pre .1 .0 .2))
+least-left-requires c κs =
+    let at-loop-test = c .before .before in
+    let start = at-loop-test .before .before .before .before .before .before in
+    ((start .pre .0 .0, start .pre .0 .1, at-loop-test .loop-test .taken), (start .pre .1 .0 .1, start .pre .1 .0 .2))
 
 mul-figures : tie.Need-mul-figures Inv-loop μ-loop
 mul-figures c = search needs
@@ -84,8 +89,10 @@ same-length-2 c = search needs
 
 returns : tie.Need-returns Inv-loop μ-loop
 returns c =
-    let inv = c .before .loop .inv in
-    let e : c .before .loop .visit ≡ c .before .before .before .before .before .before .args .l = omega (arith, c .loop-test .left, inv .0) in
+    let at-loop = c .before in
+    let start = at-loop .before .before .before .before .before in
+    let inv = at-loop .loop .inv in
+    let e : at-loop .loop .visit ≡ start .args .l = omega (arith, c .loop-test .left, inv .0) in
     (column-end _ _ _ _ _ _ (inv .1) e, column-end _ _ _ _ _ _ (inv .2) e)
 
 pub after-removal-spec : {M : Type 1} → statement M

@@ -1,10 +1,13 @@
 -- `least_left`: each arm is the definition's case.
 use borrow.Author.Needs.{needs}
-use mathlib.Core.Path.{refl, sym, ap, _∙_}
+use mathlib.Core.Path.{refl, sym, _∙_}
 use native.Mathlib.Omega.{arith}
 use Rattle.tests.specs.Pick.{picked, other}
 use Rattle.tests.specs.Pick.{no, yes}
+use Rattle.day.specs.Matrix.{leg}
+use Rattle.deltas.specs.Deltas.{insertionDelta}
 use Rattle.relocate.specs.Cache.{leastLeft}
+use Rattle.relocate.proofs.Reached.{left-tried}
 use Rattle.relocate.proofs.cache.least_left.Statement.{statement}
 use Rattle.relocate.proofs.cache.least_left.Tie as tie
 
@@ -23,13 +26,21 @@ forget-requires c κs = search needs
 
 returns-2 : tie.Need-returns-2
 unfolding leastLeft
-returns-2 c = picked _ _ _ _ (yes _ _ (c .before .before .before .before .is-finite .ensures) (c .before .before .before .if1 .left)) (picked _ _ _ _ (sym (c .before .before .is-vanished .ensures) ∙ c .before .if2 .taken) (c .forget .ensures))
+returns-2 c =
+    let at-if2 = c .before in
+    let at-is-vanished = at-if2 .before in
+    let at-if1 = at-is-vanished .before in
+    let at-is-finite = at-if1 .before in
+    picked _ _ _ _ (yes _ _ (at-is-finite .is-finite .ensures) (at-if1 .if1 .left))
+    (picked _ _ _ _ (sym (at-is-vanished .is-vanished .ensures) ∙ at-if2 .if2 .taken) (c .forget .ensures))
 
 wide-requires : tie.Need-wide-requires
 wide-requires c κs = search needs
 
 insertion-delta-requires : tie.Need-insertion-delta-requires
-insertion-delta-requires c κs = (c .before .before .before .before .before .before .before .pre .0 .0, c .before .before .before .before .before .before .before .pre .0 .1, c .before .before .before .before .before .before .before .pre .0 .2, omega (arith, c .wide .ensures, c .before .before .before .before .before .before .before .pre .1 .0))
+insertion-delta-requires c κs =
+    let start = c .before .before .before .before .before .before .before in
+    (start .pre .0 .0, start .pre .0 .1, start .pre .0 .2, omega (arith, c .wide .ensures, start .pre .1 .0))
 
 moved-down-requires : tie.Need-moved-down-requires
 moved-down-requires c κs = search needs
@@ -39,7 +50,21 @@ first-of-requires c κs = search needs
 
 returns-3 : tie.Need-returns-3
 unfolding leastLeft
-returns-3 c = picked _ _ _ _ (yes _ _ (c .before .before .before .before .before .before .before .is-finite .ensures) (c .before .before .before .before .before .before .if1 .left)) (other _ _ _ _ (sym (c .before .before .before .before .before .is-vanished .ensures) ∙ c .before .before .before .before .if2 .left) (rw (c .first-of .ensures, c .before .moved-down .ensures, c .before .before .insertion-delta .ensures, c .before .before .before .wide .ensures)))
+returns-3 c =
+    let at-moved-down = c .before in
+    let at-insertion-delta = at-moved-down .before in
+    let at-wide = at-insertion-delta .before in
+    let at-if2 = at-wide .before in
+    let at-is-vanished = at-if2 .before in
+    let at-if1 = at-is-vanished .before in
+    let at-is-finite = at-if1 .before in
+    let start = at-is-finite .before .before .before in
+    picked _ _ _ _ (yes _ _ (at-is-finite .is-finite .ensures) (at-if1 .if1 .left))
+    (other _ _ _ _ (sym (at-is-vanished .is-vanished .ensures) ∙ at-if2 .if2 .left)
+    (left-tried (start .args .known) (start .args .position) _ (at-wide .wide .ensures) _
+    (insertionDelta (leg (start .args .l) (start .args .distances .now)) (start .args .depot) (start .args .fixed)
+    (start .args .list .now) (start .args .visit)) _ _ (at-insertion-delta .insertion-delta .ensures) (at-moved-down .moved-down .ensures)
+    (c .first-of .ensures)))
 
 pub least-left-spec : {M : Type 1} → statement M
 least-left-spec =

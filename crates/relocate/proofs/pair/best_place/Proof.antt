@@ -1,6 +1,6 @@
 -- `best_place`: before each place, the best among the places from here on is the best among all, and the least so far is the least of those passed.
 use borrow.Author.Needs.{needs}
-use mathlib.Core.Path.{_≡_, refl, sym, ap, _∙_}
+use mathlib.Core.Path.{_≡_, refl, sym, _∙_}
 use Prim.Native.Nat.{ℕ, suc, _-_, _≤_}
 use native.Mathlib.Omega.{arith}
 use lib.ListN.{length}
@@ -23,7 +23,8 @@ Inv-loop setup flags service ready due penalty distances times list buffer₀ of
     × (least ≡ leastBelow cost place) × (place ≤ suc (length list)) × (length buffer ≡ length buffer₀)
 
 abbrev μ-loop : tie.MeasureT-loop
-μ-loop setup flags service ready due penalty distances times list buffer₀ offer visit paid after₀ least₀ place₀ buffer after least place = suc (length list) - place
+μ-loop setup flags service ready due penalty distances times list buffer₀ offer visit paid after₀ least₀ place₀ buffer after least place =
+    suc (length list) - place
 
 wide-requires : tie.Need-wide-requires Inv-loop μ-loop
 wide-requires c κs = search needs
@@ -41,50 +42,90 @@ wide-requires-3 : tie.Need-wide-requires-3 Inv-loop μ-loop
 wide-requires-3 c κs = search needs
 
 insertion-delta-requires : tie.Need-insertion-delta-requires Inv-loop μ-loop
-insertion-delta-requires c κs = (
-  c .before .before .before .before .before .before .before .before .before .before .before .before .before .before .before .pre .0 .formed .tables .of-distances,
-  record { depot-there = c .before .before .before .before .before .before .before .before .before .before .before .before .before .before .before .pre .0 .depot-there; visits = c .before .before .before .before .before .before .before .before .before .before .before .before .before .before .before .pre .1 .1 .0 .below },
-  rw (c .before .before .before .before .before .wide .ensures) (c .before .before .before .before .before .before .before .before .before .before .before .before .before .before .before .pre .1 .1 .2),
-  omega (arith, c .before .if1 .taken, c .before .before .wide2 .ensures, c .wide3 .ensures),
-)
+insertion-delta-requires c κs =
+    let at-if1 = c .before in
+    let at-wide2 = at-if1 .before in
+    let at-wide = at-wide2 .before .before .before in
+    let start = at-wide .before .before .before .before .before .before .before .before .before .before in (
+      start .pre .0 .formed .tables .of-distances,
+      record { depot-there = start .pre .0 .depot-there; visits = start .pre .1 .1 .0 .below },
+      rw (at-wide .wide .ensures) (start .pre .1 .1 .2),
+      omega (arith, at-if1 .if1 .taken, at-wide2 .wide2 .ensures, c .wide3 .ensures),
+    )
 
 lesser-of-requires : tie.Need-lesser-of-requires Inv-loop μ-loop
 lesser-of-requires c κs = search needs
 
 better-of-requires : tie.Need-better-of-requires Inv-loop μ-loop
-better-of-requires c κs = (
-  c .before .before .before .before .before .before .before .before .before .before .before .before .before .before .before .before .before .before .pre .0,
-  (
-    omega (arith, c .before .before .before .before .before .before .loop .inv .3, c .before .before .before .before .before .before .before .before .before .before .before .before .before .before .before .before .before .before .pre .1 .0),
-    (
-      (c .before .before .before .before .before .before .before .before .before .before .before .before .before .before .before .before .before .before .pre .1 .1 .0, c .before .before .before .before .before .before .before .before .before .before .before .before .before .before .before .before .before .before .pre .1 .1 .1, c .before .before .before .before .before .before .before .before .before .before .before .before .before .before .before .before .before .before .pre .1 .1 .2, omega (arith, c .before .before .before .before .if1 .taken, c .before .before .before .before .before .wide2 .ensures, c .before .before .before .wide3 .ensures)),
-      c .before .before .insertion-delta .ensures ∙ rw (c .before .before .before .before .before .before .before .before .wide .ensures),
-    ),
-  ),
-)
+better-of-requires c κs =
+    let at-insertion-delta = c .before .before in
+    let at-wide3 = at-insertion-delta .before in
+    let at-if1 = at-wide3 .before in
+    let at-wide2 = at-if1 .before in
+    let at-loop = at-wide2 .before in
+    let at-wide = at-loop .before .before in
+    let start = at-wide .before .before .before .before .before .before .before .before .before .before in (
+      start .pre .0,
+      (
+        omega (arith, at-loop .loop .inv .3, start .pre .1 .0),
+        (
+          (
+            start .pre .1 .1 .0,
+            start .pre .1 .1 .1,
+            start .pre .1 .1 .2,
+            omega
+                (arith, at-if1 .if1 .taken, at-wide2 .wide2 .ensures, at-wide3 .wide3 .ensures),
+          ),
+          at-insertion-delta .insertion-delta .ensures ∙ rw (at-wide .wide .ensures),
+        ),
+      ),
+    )
 
 add-place : tie.Need-add-place Inv-loop μ-loop
-add-place c = omega (arith, c .before .before .before .before .before .before .before .if1 .taken, c .before .before .before .before .before .before .before .before .wide2 .ensures, c .before .before .before .before .before .before .before .before .before .before .before .before .before .before .before .before .before .before .before .before .before .pre .1 .1 .1)
+add-place c =
+    let at-if1 = c .before .before .before .before .before .before .before in
+    let at-wide2 = at-if1 .before in
+    let further = at-wide2 .before .before .before .before .before .before .before .before .before .before in
+    let start = further .before .before .before in
+    omega (arith, at-if1 .if1 .taken, at-wide2 .wide2 .ensures, start .pre .1 .1 .1)
 
 loop-less : tie.Need-loop-less Inv-loop μ-loop
-loop-less c = omega (arith, c .before .before .before .before .before .before .before .if1 .taken, c .before .before .before .before .before .before .before .before .wide2 .ensures)
+loop-less c =
+    let at-if1 = c .before .before .before .before .before .before .before in
+    let at-wide2 = at-if1 .before in
+    omega (arith, at-if1 .if1 .taken, at-wide2 .wide2 .ensures)
 
 loop-again : tie.Need-loop-again Inv-loop μ-loop
-loop-again c = (
-  rw (c .before .before .better-of .ensures, c .before .before .before .before .before .before .wide3 .ensures) (among-turn _ (c .before .before .before .before .before .before .before .before .before .before .before .before .before .before .before .before .before .before .before .before .before .args .setup) _ _ _ _ (omega (arith, c .before .before .before .before .before .before .before .if1 .taken, c .before .before .before .before .before .before .before .before .wide2 .ensures)) ∙ c .before .before .before .before .before .before .before .before .before .loop .inv .0),
-  least-turn _ _ _ _ _ (c .before .before .before .before .before .before .before .before .before .loop .inv .1) (c .before .before .before .before .before .insertion-delta .ensures ∙ rw (c .before .before .before .before .before .before .before .before .before .before .before .wide .ensures, c .before .before .before .before .before .before .wide3 .ensures)) (c .before .before .before .before .lesser-of .ensures),
-  omega (arith, c .before .before .before .before .before .before .before .if1 .taken, c .before .before .before .before .before .before .before .before .wide2 .ensures),
-  c .before .before .better-of .kept .1 .1 .1 .1 .1 .1 .1 .1 .1 .0 ∙ c .before .before .before .before .before .before .before .before .before .loop .inv .3,
-)
+loop-again c =
+    let at-better-of = c .before .before in
+    let at-lesser-of = at-better-of .before .before in
+    let at-insertion-delta = at-lesser-of .before in
+    let at-wide3 = at-insertion-delta .before in
+    let at-if1 = at-wide3 .before in
+    let at-wide2 = at-if1 .before in
+    let at-loop = at-wide2 .before in
+    let at-wide = at-loop .before .before in
+    let start = at-wide .before .before .before .before .before .before .before .before .before .before in (
+      rw (at-better-of .better-of .ensures, at-wide3 .wide3 .ensures)
+          (among-turn _ (start .args .setup) _ _ _ _ (omega (arith, at-if1 .if1 .taken, at-wide2 .wide2 .ensures)) ∙ at-loop .loop .inv .0),
+      least-turn _ _ _ _ _ (at-loop .loop .inv .1) (at-insertion-delta .insertion-delta .ensures ∙ rw (at-wide .wide .ensures, at-wide3 .wide3 .ensures))
+          (at-lesser-of .lesser-of .ensures),
+      omega (arith, at-if1 .if1 .taken, at-wide2 .wide2 .ensures),
+      at-better-of .better-of .kept .1 .1 .1 .1 .1 .1 .1 .1 .1 .0 ∙ at-loop .loop .inv .3,
+    )
 
 same-length : tie.Need-same-length Inv-loop μ-loop
 same-length c = c .before .before .loop .inv .3
 
 returns : tie.Need-returns Inv-loop μ-loop
 returns c =
-    let past : suc (length (c .before .before .before .before .before .before .before .before .before .before .before .before .before .before .args .list .now)) ≡ c .before .before .loop .place = omega (arith, c .if1 .left, c .before .wide2 .ensures, c .before .before .loop .inv .2) in (
-      sym (among-end _ (c .before .before .before .before .before .before .before .before .before .before .before .before .before .before .args .setup) _ _ _ _ (omega (arith, past))) ∙ c .before .before .loop .inv .0,
-      least-end _ _ _ _ (c .before .before .loop .inv .1) (sym past),
+    let at-wide2 = c .before in
+    let at-loop = at-wide2 .before in
+    let start = at-loop .before .before .before .before .before .before .before .before .before .before .before .before in
+    let past : suc (length (start .args .list .now)) ≡ at-loop .loop .place = omega
+    (arith, c .if1 .left, at-wide2 .wide2 .ensures, at-loop .loop .inv .2) in (
+      sym (among-end _ (start .args .setup) _ _ _ _ (omega (arith, past))) ∙ at-loop .loop .inv .0,
+      least-end _ _ _ _ (at-loop .loop .inv .1) (sym past),
     )
 
 pub best-place-spec : {M : Type 1} → statement M

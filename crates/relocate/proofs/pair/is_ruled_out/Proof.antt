@@ -16,11 +16,19 @@ is-finite-requires c κs = search needs
 
 returns-2 : tie.Need-returns-2
 unfolding ruledOut
-returns-2 c = rw (not-false (c .before .before .before .args .pruning) (c .before .before .if1 .left), no _ (finite (c .before .before .before .args .known)) (c .before .is-finite .ensures) (c .if2 .taken))
+returns-2 c =
+    let at-is-finite = c .before in
+    let at-if1 = at-is-finite .before in
+    let start = at-if1 .before in
+    rw (not-false (start .args .pruning) (at-if1 .if1 .left), no _ (finite (start .args .known)) (at-is-finite .is-finite .ensures) (c .if2 .taken))
 
 returns-3 : tie.Need-returns-3
 unfolding ruledOut
-returns-3 c = rw (not-false (c .before .before .before .args .pruning) (c .before .before .if1 .left), yes _ (finite (c .before .before .before .args .known)) (c .before .is-finite .ensures) (c .if2 .left))
+returns-3 c =
+    let at-is-finite = c .before in
+    let at-if1 = at-is-finite .before in
+    let start = at-if1 .before in
+    rw (not-false (start .args .pruning) (at-if1 .if1 .left), yes _ (finite (start .args .known)) (at-is-finite .is-finite .ensures) (c .if2 .left))
 
 pub is-ruled-out-spec : {M : Type 1} → statement M
 is-ruled-out-spec = tie.close (tie.spec returns is-finite-requires returns-2 returns-3)
