@@ -91,6 +91,36 @@ uint8_t planner_schedule(PLANNER_DAY, struct planner_van van, PLANNER_LIST, uint
                          double *duration, double *lateness, double *lateness_cost, uint8_t *taken, size_t *position,
                          double *start);
 
+/* The lists, of which the one asked for is changed in place; every other list and the lengths stay as they were. */
+#define PLANNER_CHANGED_LIST                    \
+    uint16_t *visits, size_t visits_count,      \
+    const uint16_t *lengths, size_t lengths_count, \
+    size_t list
+
+/* 2-opt, Or-opt and 3-opt of the list asked for, by at most limit moves. settled is 1 where no permitted move gains any
+ * more, and 0 where the limit was used up and another move would gain; moves says how many were made, and distance is that
+ * of the list handed back. With a soft window anywhere on the day the same moves are searched over distance plus lateness
+ * cost. */
+uint8_t planner_two_opt_improve(PLANNER_DAY, struct planner_van van, PLANNER_CHANGED_LIST, uint32_t limit,
+                                uint8_t *settled, uint32_t *moves, double *distance);
+uint8_t planner_or_opt_improve(PLANNER_DAY, struct planner_van van, PLANNER_CHANGED_LIST, uint32_t limit,
+                               uint8_t *settled, uint32_t *moves, double *distance);
+uint8_t planner_three_opt_improve(PLANNER_DAY, struct planner_van van, PLANNER_CHANGED_LIST, uint32_t limit,
+                                  uint8_t *settled, uint32_t *moves, double *distance);
+
+/* All lists, changed in place with their lengths. */
+#define PLANNER_ALL_LISTS                       \
+    uint16_t *visits, size_t visits_count,      \
+    uint16_t *lengths, size_t lengths_count
+
+/* Relocate and tail exchange between all lists, by at most limit moves; settled and moves as above. With two lists or more
+ * the empty ones are dropped at the end: the others keep their order, remaining says how many they are, and behind them
+ * lengths has 0. pruning, 1 as in the Rust or 0, changes how long relocate takes and nothing else. */
+uint8_t planner_relocate_improve(PLANNER_DAY, struct planner_van van, PLANNER_ALL_LISTS, uint32_t limit, uint8_t pruning,
+                                 uint8_t *settled, uint32_t *moves, size_t *remaining);
+uint8_t planner_exchange_improve(PLANNER_DAY, struct planner_van van, PLANNER_ALL_LISTS, uint32_t limit,
+                                 uint8_t *settled, uint32_t *moves, size_t *remaining);
+
 /* What is worked out of day and van before the first move: the largest distance, the least gain that counts (1e-12 times
  * that), whether each distance equals its mirror (1 or 0), the van's fixed cost in distance, and the number of depots.
  * Refusals 1 to 7. */

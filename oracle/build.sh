@@ -1,5 +1,5 @@
 #!/bin/bash
-# build.sh OUT: makes OUT/reference, OUT/port, OUT/generate, OUT/compare and OUT/sample, and holds include/planner.h to C99.
+# build.sh OUT: makes OUT/reference, OUT/port, OUT/generate, OUT/compare, OUT/demand3 and OUT/sample, and holds include/planner.h to C99.
 #   SHARED   the folder with docs/src (the published Rust, not copied into this repository) and oracle (the script that
 #            makes the reference of it); by default the folder shared beside the repository
 #   LIBRARY  the port's static library; by default target/staticlib/libplanner_c.a, which `rt staticlib planner_c` writes
@@ -36,6 +36,7 @@ if command -v gcc > /dev/null; then
 fi
 program generate "$here/generate.rs"
 program compare "$here/compare/main.rs"
+program demand3 "$here/demand3/main.rs"
 program sample "$here/sample/main.rs"
 
 if [ -d "$shared/docs/src/src" ] && [ -x "$shared/oracle/make-oracle.sh" ]; then

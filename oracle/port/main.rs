@@ -66,6 +66,86 @@ fn answers(day: &Day) -> String {
     lines
 }
 
+/// What stands in a count's place before a call.
+const UNWRITTEN_COUNT: u32 = u32::MAX - 5;
+
+/// A run that changes one list, on a copy of what is lent.
+macro_rules! within {
+    ($name:ident, $call:expr) => {{
+        let mut lent = $call.lent.clone();
+        let mut settled = UNWRITTEN_BYTE;
+        let mut moves = UNWRITTEN_COUNT;
+        let mut distance = UNWRITTEN;
+        let refusal = call!($name, lent, $call.van, lent.visits.as_mut_ptr(), lent.visits.len(), lent.lengths.as_ptr(),
+            lent.lengths.len(), $call.run.list as usize, limit_of($call.run), &mut settled, &mut moves, &mut distance);
+        within_line($call, &lent, refusal, settled, moves, distance)
+    }};
+}
+
+/// The limit of a run; none is more than any run makes.
+fn limit_of(run: &Run) -> u32 {
+    u32::try_from(run.limit).unwrap_or(u32::MAX)
+}
+
+/// The line of a run that changed one list: every other list has to be as it was.
+fn within_line(call: &Call, lent: &Lent, refusal: u8, settled: u8, moves: u32, distance: f64) -> String {
+    if refusal != 0 {
+        let nothing = settled == UNWRITTEN_BYTE && moves == UNWRITTEN_COUNT && unwritten(&[distance]);
+        return refused(refusal, nothing && untouched(lent, call.lent));
+    }
+    let list = call.run.list as usize;
+    let start: usize = lent.lengths[..list].iter().map(|n| *n as usize).sum();
+    let end = start + lent.lengths[list] as usize;
+    let mut others = lent.clone();
+    others.visits[start..end].copy_from_slice(&call.lent.visits[start..end]);
+    if !untouched(&others, call.lent) {
+        return "changed another list".to_string();
+    }
+    let word = ["stopped", "settled"].get(settled as usize).copied().unwrap_or("no word");
+    format!("{word} {moves} {} [{}]", hex(distance), joined(&lent.visits[start..end]))
+}
+
+/// A run that changes all lists, on a copy of what is lent.
+macro_rules! across {
+    ($name:ident, $call:expr $(, $more:expr)*) => {{
+        let mut lent = $call.lent.clone();
+        let mut settled = UNWRITTEN_BYTE;
+        let mut moves = UNWRITTEN_COUNT;
+        let mut remaining = UNWRITTEN_SIZE;
+        let refusal = call!($name, lent, $call.van, lent.visits.as_mut_ptr(), lent.visits.len(), lent.lengths.as_mut_ptr(),
+            lent.lengths.len(), limit_of($call.run) $(, $more)*, &mut settled, &mut moves, &mut remaining);
+        across_line($call, &lent, refusal, settled, moves, remaining)
+    }};
+}
+
+/// The line of a run that changed all lists: the lengths behind those that remain have to be 0.
+fn across_line(call: &Call, lent: &Lent, refusal: u8, settled: u8, moves: u32, remaining: usize) -> String {
+    if refusal != 0 {
+        let nothing = settled == UNWRITTEN_BYTE && moves == UNWRITTEN_COUNT && remaining == UNWRITTEN_SIZE;
+        return refused(refusal, nothing && untouched(lent, call.lent));
+    }
+    let mut others = lent.clone();
+    others.visits = call.lent.visits.clone();
+    others.lengths = call.lent.lengths.clone();
+    if !untouched(&others, call.lent) || remaining > lent.lengths.len() || lent.lengths[remaining..].iter().any(|n| *n != 0) {
+        return "left the tables wrong".to_string();
+    }
+    let mut start = 0;
+    let mut lists = Vec::new();
+    for n in &lent.lengths[..remaining] {
+        let end = start + *n as usize;
+        lists.push(joined(lent.visits.get(start..end).unwrap_or(&[])));
+        start = end;
+    }
+    let word = ["stopped", "settled"].get(settled as usize).copied().unwrap_or("no word");
+    format!("{word} {moves} [{}] {remaining}", lists.join("|"))
+}
+
+/// Visits as the reference prints them.
+fn joined(visits: &[u16]) -> String {
+    visits.iter().map(u16::to_string).collect::<Vec<_>>().join(",")
+}
+
 /// A function for each kind of run. One that changes tables takes its own copy of what is lent.
 fn answer(call: &Call) -> String {
     match call.run.engine.as_str() {
@@ -74,6 +154,12 @@ fn answer(call: &Call) -> String {
         "schedule" => schedule(call),
         "distance" => distance(call),
         "table" => table(call),
+        "two_opt" => within!(planner_two_opt_improve, call),
+        "or_opt" => within!(planner_or_opt_improve, call),
+        "three_opt" => within!(planner_three_opt_improve, call),
+        "relocate" => across!(planner_relocate_improve, call, 1),
+        "relocate_np" => across!(planner_relocate_improve, call, 0),
+        "exchange" => across!(planner_exchange_improve, call),
         _ => "unknown".to_string(),
     }
 }

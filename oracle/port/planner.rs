@@ -79,6 +79,22 @@ exports_of_list! {
         taken: *mut u8, position: *mut usize, start: *mut f64);
 }
 
+exports! {
+    planner_two_opt_improve(visits: *mut u16, visits_count: usize, lengths: *const u16, lengths_count: usize, list: usize,
+        limit: u32, settled: *mut u8, moves: *mut u32, distance: *mut f64);
+    planner_or_opt_improve(visits: *mut u16, visits_count: usize, lengths: *const u16, lengths_count: usize, list: usize,
+        limit: u32, settled: *mut u8, moves: *mut u32, distance: *mut f64);
+    planner_three_opt_improve(visits: *mut u16, visits_count: usize, lengths: *const u16, lengths_count: usize, list: usize,
+        limit: u32, settled: *mut u8, moves: *mut u32, distance: *mut f64);
+}
+
+exports! {
+    planner_relocate_improve(visits: *mut u16, visits_count: usize, lengths: *mut u16, lengths_count: usize, limit: u32,
+        pruning: u8, settled: *mut u8, moves: *mut u32, remaining: *mut usize);
+    planner_exchange_improve(visits: *mut u16, visits_count: usize, lengths: *mut u16, lengths_count: usize, limit: u32,
+        settled: *mut u8, moves: *mut u32, remaining: *mut usize);
+}
+
 /// Calls one of `exports!`.
 #[macro_export]
 macro_rules! call {

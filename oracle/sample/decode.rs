@@ -109,9 +109,9 @@ fn runs(input: &mut Bytes, day: &mut Day) -> Option<Vec<String>> {
     for _ in 0..input.byte()? {
         let tag = input.byte()?;
         let end = usize::from(input.byte()?) + input.at;
-        if let Some((engine, list, answer)) = run(input, tag)? {
-            lines.push(format!("{engine} {answer}"));
-            day.runs.push(Run { engine: engine.to_string(), limit: 0, list });
+        if let Some((run, answer)) = run(input, &day.lists, tag)? {
+            lines.push(format!("{} {answer}", run.engine));
+            day.runs.push(run);
         } else {
             input.at = end;
         }
@@ -122,28 +122,47 @@ fn runs(input: &mut Bytes, day: &mut Day) -> Option<Vec<String>> {
     Some(lines)
 }
 
-/// Engine, list and answer; within, none for a tag that isn't known.
-fn run(input: &mut Bytes, tag: u8) -> Option<Option<(&'static str, u64, String)>> {
-    if !(1..=4).contains(&tag) {
-        return Some(None);
-    }
+/// A run and its answer; within, none for a tag that isn't known.
+fn run(input: &mut Bytes, lists: &[Vec<u16>], tag: u8) -> Option<Option<(Run, String)>> {
+    let engine = match tag {
+        1 => "feasible",
+        2 => "eval",
+        3 => "schedule",
+        4 => "distance",
+        16 => "two_opt",
+        17 => "or_opt",
+        18 => "three_opt",
+        _ => return Some(None),
+    };
     let list = u64::from(input.byte()?);
-    if tag == 4 {
-        return Some(Some(("distance", list, input.hexes(1)?)));
-    }
-    let passes = input.byte()?;
-    if tag == 1 {
-        return Some(Some(("feasible", list, passes.to_string())));
-    }
-    let engine = if tag == 2 { "eval" } else { "schedule" };
-    if passes == 0 {
-        return Some(Some((engine, list, "none".to_string())));
+    let limit = if tag < 16 { 0 } else { input.whole()? as i64 };
+    let answer = match tag {
+        1 => input.byte()?.to_string(),
+        2 | 3 => totals(input, tag == 3)?,
+        4 => input.hexes(1)?,
+        _ => end(input, lists.get(list as usize)?.len())?,
+    };
+    Some(Some((Run { engine: engine.to_string(), limit, list }, answer)))
+}
+
+/// What a list comes to, with the break where it is a schedule.
+fn totals(input: &mut Bytes, schedule: bool) -> Option<String> {
+    if input.byte()? == 0 {
+        return Some("none".to_string());
     }
     let mut answer = format!("some {}", input.hexes(4)?);
-    if tag == 3 && input.byte()? == 1 {
+    if schedule && input.byte()? == 1 {
         answer.push_str(&format!(" {} {}", input.byte()?, input.hexes(1)?));
-    } else if tag == 3 {
+    } else if schedule {
         answer.push_str(" - -");
     }
-    Some(Some((engine, list, answer)))
+    Some(answer)
+}
+
+/// How a run on a list of that length ended, and the list handed back.
+fn end(input: &mut Bytes, length: usize) -> Option<String> {
+    let word = if input.byte()? == 0 { "settled" } else { "stopped" };
+    let (moves, distance) = (input.whole()?, input.hexes(1)?);
+    let list: Vec<String> = input.bytes(length)?.iter().map(u8::to_string).collect();
+    Some(format!("{word} {moves} {distance} [{}]", list.join(",")))
 }

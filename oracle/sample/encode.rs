@@ -4,8 +4,16 @@ use crate::days::day::{Day, Run};
 /// From this byte on a number stands in the day's table.
 const TABLED: u8 = 128;
 
-/// The runs that are stored, by tag from 1 on.
-pub const TAGS: [&str; 4] = ["feasible", "eval", "schedule", "distance"];
+/// The runs that are stored, with their tags.
+pub const TAGS: [(&str, u8); 7] =
+    [("feasible", 1), ("eval", 2), ("schedule", 3), ("distance", 4), ("two_opt", 16), ("or_opt", 17), ("three_opt", 18)];
+
+pub const ENDS: [&str; 2] = ["settled", "stopped"];
+
+/// The tag of a kind of run; none where it isn't stored.
+pub fn tag(engine: &str) -> Option<u8> {
+    TAGS.iter().find(|(known, _)| *known == engine).map(|(_, tag)| *tag)
+}
 
 /// The numbers that a day needs and no byte is.
 struct Table(Vec<u64>);
@@ -55,7 +63,7 @@ pub fn day(day: &Day, lines: &[String]) -> Option<Vec<u8>> {
     rest.push(u8::try_from(day.runs.len()).ok()?);
     for (run, line) in day.runs.iter().zip(lines) {
         let (tag, payload) = answer(run, line, &mut table)?;
-        rest.extend([tag, payload.len() as u8]);
+        rest.extend([tag, u8::try_from(payload.len()).ok()?]);
         rest.extend(payload);
     }
     let mut bytes = vec![day.locations() as u8, table.0.len() as u8];
@@ -91,7 +99,7 @@ fn van(day: &Day, table: &mut Table, out: &mut Vec<u8>) -> Option<()> {
 /// The run's tag and what stands behind its size.
 fn answer(run: &Run, line: &str, table: &mut Table) -> Option<(u8, Vec<u8>)> {
     let words: Vec<&str> = line.split(' ').skip(1).collect();
-    let tag = 1 + TAGS.iter().position(|engine| *engine == run.engine)? as u8;
+    let tag = tag(&run.engine)?;
     let mut out = vec![run.list as u8];
     match (run.engine.as_str(), &words[..]) {
         ("feasible", [passes]) => out.push(passes.parse().ok()?),
@@ -106,9 +114,23 @@ fn answer(run: &Run, line: &str, table: &mut Table) -> Option<(u8, Vec<u8>)> {
             put_some(&mut out, numbers, table)?;
             out.extend([1, position.parse().ok()?, table.hex(start)?]);
         }
+        (_, [end, moves, distance, list]) => put_end(&mut out, run.limit, [end, moves, distance, list], table)?,
         _ => return None,
     }
     Some((tag, out))
+}
+
+/// Limit, end word, moves, distance and the list handed back.
+fn put_end(out: &mut Vec<u8>, limit: i64, [end, moves, distance, list]: [&str; 4], table: &mut Table) -> Option<()> {
+    out.push(table.whole(u64::try_from(limit).ok()?)?);
+    out.push(ENDS.iter().position(|word| *word == end)? as u8);
+    out.push(table.whole(moves.parse().ok()?)?);
+    out.push(table.hex(distance)?);
+    let visits = list.strip_prefix('[')?.strip_suffix(']')?;
+    for visit in visits.split(',').filter(|visit| !visit.is_empty()) {
+        out.push(visit.parse().ok()?);
+    }
+    Some(())
 }
 
 fn put_some(out: &mut Vec<u8>, numbers: &[&str], table: &mut Table) -> Option<()> {

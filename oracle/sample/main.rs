@@ -1,8 +1,12 @@
 //! sample: a file of days with the reference's answers, for a program that has no Rust at hand (README.md has the format).
-//!   sample write FILE [--kept DAYS] [--seed N] [--bytes N] [--largest N] [--runs NAME,..] [--reference PROGRAM]
-//!                                               the days of the text file DAYS first, then generated ones
+//!   sample write FILE [--kept DAYS] [--seed N] [--bytes N] [--largest N] [--runs NAME,..] [--engines-bytes N]
+//!                     [--engines-largest N] [--reference PROGRAM]
+//!                                               the days of the text file DAYS first, then generated ones: small days
+//!                                               for the checks, then days for the engines within a list
 //!   sample check FILE [--reference PROGRAM]     reads the file back and holds it to the reference
+//!   sample count FILE                           prints how many runs it has of each kind and answer
 //!   sample text FILE                            prints it in the text format
+mod choose;
 #[path = "../days/mod.rs"]
 mod days;
 mod decode;
@@ -10,14 +14,12 @@ mod encode;
 #[path = "../compare/programs.rs"]
 mod programs;
 use days::day::Day;
-use days::families::{day, engines_named, FAMILIES};
 use days::options::{fail, Options};
-use days::text::{put_day, Reader};
+use days::text::put_day;
 use programs::{Lines, Program};
+use std::collections::BTreeMap;
 
-const NAMES: [&str; 6] = ["seed", "bytes", "largest", "runs", "reference", "kept"];
-/// Days tried of each family.
-const TRIED: u64 = 60;
+const NAMES: [&str; 8] = ["seed", "bytes", "largest", "runs", "engines-bytes", "engines-largest", "reference", "kept"];
 
 fn main() {
     let options = Options::read(&NAMES);
@@ -27,22 +29,21 @@ fn main() {
     match words[..] {
         ["write", file] => write(file, &options, &reference),
         ["check", file] => check(file, &reference),
+        ["count", file] => count(file),
         ["text", file] => text(file),
-        _ => fail("usage: sample write|check|text FILE [--kept DAYS] [--seed N] [--bytes N] [--largest N] [--runs NAME,..] [--reference PROGRAM]"),
+        _ => fail("usage: sample write|check|count|text FILE; the head comment of sample/main.rs lists the options"),
     }
 }
 
-/// The kept days, then families in turn, one day of each, as long as there is room.
+/// The kept days, then the days for the checks and those for the engines, of each as many as there is room for.
 fn write(file: &str, options: &Options, reference: &Program) {
+    let mut out = vec![0, 0];
     let room = options.number("bytes", 60_000) as usize;
-    let (mut count, mut out) = (0u16, vec![0, 0]);
-    let kept = stored(&kept_days(options), reference, usize::MAX);
-    for bytes in kept.into_iter().chain(generated(options, reference)) {
-        if out.len() + bytes.len() <= room {
-            out.extend(bytes);
-            count += 1;
-        }
-    }
+    let mut count = 0;
+    count += put(&mut out, choose::kept(options, reference), room);
+    count += put(&mut out, choose::checks(options, reference), room);
+    let room = out.len() + options.number("engines-bytes", 240_000) as usize;
+    count += put(&mut out, choose::engines(options, reference), room);
     out[..2].copy_from_slice(&count.to_le_bytes());
     if std::fs::write(file, &out).is_err() {
         fail(&format!("can't write {file}"));
@@ -50,39 +51,16 @@ fn write(file: &str, options: &Options, reference: &Program) {
     println!("{count} days, {} bytes", out.len());
 }
 
-/// The bytes of the days that can be stored and aren't too large, with the reference's answers.
-fn stored(days: &[Day], reference: &Program, largest: usize) -> Vec<Vec<u8>> {
-    let answers = reference.answers(days);
-    let bytes = days.iter().zip(&answers).filter_map(|(day, lines)| encode::day(day, lines));
-    bytes.filter(|bytes| bytes.len() <= largest).collect()
-}
-
-fn kept_days(options: &Options) -> Vec<Day> {
-    let file = options.text("kept", "");
-    if file.is_empty() {
-        return Vec::new();
+/// Adds the days for which there is room, and says how many these are.
+fn put(out: &mut Vec<u8>, days: Vec<Vec<u8>>, room: usize) -> u16 {
+    let mut count = 0;
+    for bytes in days {
+        if out.len() + bytes.len() <= room {
+            out.extend(bytes);
+            count += 1;
+        }
     }
-    let text = std::fs::read_to_string(&file).unwrap_or_else(|error| fail(&format!("{file}: {error}")));
-    let mut reader = Reader::new(&text);
-    let mut days = Vec::new();
-    while let Some(mut day) = reader.day().unwrap_or_else(|what| fail(&format!("{file}: {what}"))) {
-        day.runs.retain(|run| encode::TAGS.contains(&run.engine.as_str()));
-        days.push(day);
-    }
-    days
-}
-
-/// Families in turn.
-fn generated(options: &Options, reference: &Program) -> Vec<Vec<u8>> {
-    let (seed, largest) = (options.number("seed", 1), options.number("largest", 400) as usize);
-    let names = options.text("runs", "feasible,eval,schedule,distance");
-    let engines = engines_named(&names);
-    let of_family = |family: usize| {
-        let days: Vec<Day> = (0..TRIED).map(|number| day(family, seed, number, true, &engines)).collect();
-        stored(&days, reference, largest)
-    };
-    let families: Vec<Vec<Vec<u8>>> = (0..FAMILIES.len()).map(of_family).collect();
-    (0..TRIED as usize).flat_map(|turn| families.iter().filter_map(move |days| days.get(turn).cloned())).collect()
+    count
 }
 
 fn read(file: &str) -> Vec<(Day, Lines)> {
@@ -97,6 +75,32 @@ fn check(file: &str, reference: &Program) {
     let differences = stored.iter().flatten().zip(answers.iter().flatten()).filter(|(stored, answer)| stored != answer).count();
     println!("{} days, {runs} runs, {differences} differences", days.len());
     std::process::exit(i32::from(differences > 0));
+}
+
+/// Runs by kind and, for an engine, by soft windows or none in the day, the end word and the moves, 4 or more as one.
+fn count(file: &str) {
+    let mut counts = BTreeMap::new();
+    for (day, lines) in read(file) {
+        for line in &lines {
+            *counts.entry(kind(&day, line)).or_insert(0) += 1;
+        }
+    }
+    for (kind, count) in counts {
+        println!("{count:6} {kind}");
+    }
+}
+
+fn kind(day: &Day, line: &str) -> String {
+    let words: Vec<&str> = line.split(' ').collect();
+    match words[..] {
+        [engine, end @ ("settled" | "stopped"), moves, ..] => {
+            let soft = day.flags.iter().any(|flags| flags & 6 == 6);
+            let moves = if moves.len() > 1 || moves > "3" { "4 or more" } else { moves };
+            format!("{engine} {} {end} {moves}", if soft { "soft" } else { "hard" })
+        }
+        [engine, ..] => engine.to_string(),
+        [] => String::new(),
+    }
 }
 
 fn text(file: &str) {

@@ -36,12 +36,12 @@ pub leads-none : (ls : List (List ℕ)) (p : Place) (cut1 cut2 : ℕ) → cut1 �
 unfolding leadsBy
 leads-none ls p cut1 cut2 e = rw e
 
-moved-some : (p : Pair) (cut1 cut2 : ℕ) → (cut1 ≡ 0 → ⊥) → movedBy p cut1 cut2 ≡ some (record { pair = p; cut1 = cut1; cut2 = cut2 })
+pub moved-some : (p : Pair) (cut1 cut2 : ℕ) → (cut1 ≡ 0 → ⊥) → movedBy p cut1 cut2 ≡ some (record { pair = p; cut1 = cut1; cut2 = cut2 })
 unfolding movedBy
 moved-some p zero cut2 h = absurd (h refl)
 moved-some p (suc cut1) cut2 h = refl
 
-moved-none : (p : Pair) (cut1 cut2 : ℕ) → cut1 ≡ 0 → movedBy p cut1 cut2 ≡ none
+pub moved-none : (p : Pair) (cut1 cut2 : ℕ) → cut1 ≡ 0 → movedBy p cut1 cut2 ≡ none
 unfolding movedBy
 moved-none p cut1 cut2 e = rw e
 

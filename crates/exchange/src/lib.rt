@@ -71,7 +71,7 @@ pub struct Found {
 // ---- loads
 
 // A number of boxes, which is not below 0.
-fn boxes_of(x: i32) -> usize
+pub fn boxes_of(x: i32) -> usize
     requires { ⌜ leZ (pos 0) x ≡ true ⌝ }
     ensures { λ r. ⌜ r ≡ natAbs x ⌝ }
 {
@@ -79,7 +79,7 @@ fn boxes_of(x: i32) -> usize
 }
 
 // The boxes of the visit at a position.
-fn boxes_at(l: usize, demand: &[i32], list: &[u16], k: usize) -> usize
+pub fn boxes_at(l: usize, demand: &[i32], list: &[u16], k: usize) -> usize
     requires { ⌜ Loaded l (now demand) × (k < length (now list)) × (getD (now list) k 0 < l) ⌝ }
     ensures { λ r. ⌜ r ≡ boxesAt (now (demand .entry)) (getD (now (list .entry)) k 0) ⌝ }
 {
@@ -88,7 +88,7 @@ fn boxes_at(l: usize, demand: &[i32], list: &[u16], k: usize) -> usize
 }
 
 // The load of a list: its visits' boxes added up.
-fn load_of(l: usize, demand: &[i32], list: &[u16]) -> usize
+pub fn load_of(l: usize, demand: &[i32], list: &[u16]) -> usize
     requires { ⌜ Loaded l (now demand) × Visits l (now list) ⌝ }
     ensures { λ r. ⌜ r ≡ total (boxesAt (now (demand .entry))) (now (list .entry)) ⌝ }
 {
@@ -380,7 +380,7 @@ fn best_at(
 // ---- moves
 
 // The place that follows in a sweep over n lists.
-fn place_after(n: usize, place: Place) -> Place
+pub fn place_after(n: usize, place: Place) -> Place
     requires { ⌜ (place .one < place .other) × (place .other < n) ⌝ }
     ensures { λ r. ⌜ r ≡ placeAfter n place ⌝ }
 {

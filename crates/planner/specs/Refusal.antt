@@ -13,10 +13,10 @@ use Rattle.day.specs.Customer.{numDepots}
 use Rattle.day.specs.Refusal.{dayRefusal, vanRefusal}
 use Rattle.day.specs.Fine.{DayFine, VanFine, day-fine, van-fine}
 use Rattle.day.specs.declared.vehicle.Van.{Van}
-use Rattle.lists.specs.Refused.{listsRefusal, ListsFine}
+use Rattle.lists.specs.Refused.{tableRefusal, listsRefusal, TableFine, ListsFine}
 use Rattle.lists.specs.Table.{Laid, startOf, listOf}
 use Rattle.lists.proofs.Tables.{length-list, list-within}
-use Rattle.lists.proofs.Fine.{lists-fine}
+use Rattle.lists.proofs.Fine.{table-fine, lists-fine}
 use Rattle.evaluation.specs.Columns.{Formed, Visits, columnsOf, formed}
 
 -- 01, 'Refused, by place': 'The order is by number': the first of 1 to 10 that an input meets, and 0 where it meets none, of an entry that asks for a list
@@ -28,7 +28,19 @@ refusal d van visits lengths list =
 unfoldable pub dayAndVanRefusal : Day → Van → ℕ
 dayAndVanRefusal d van = firstOf (dayRefusal d) (vanRefusal (d .flags) van)
 
--- what an input that is not refused tells
+-- the first of 1 to 10, of an entry that takes all lists and asks for none
+unfoldable pub refusalOfLists : Day → Van → List ℕ → List ℕ → ℕ
+refusalOfLists d van visits lengths =
+    firstOf (dayRefusal d) (firstOf (vanRefusal (d .flags) van) (tableRefusal (numDepots (d .flags)) (d .l) visits lengths))
+
+-- what an input that is not refused tells, of an entry that asks for no list
+pub record FineLists (d : Day) (van : Van) (visits lengths : List ℕ) : Type 0 where
+  pub day : DayFine d
+  pub van-fine : VanFine (d .flags) van
+  pub depot : van .depot < d .l
+  pub table : TableFine (numDepots (d .flags)) (d .l) visits lengths
+
+-- and of one that asks for a list
 pub record Fine (d : Day) (van : Van) (visits lengths : List ℕ) (list : ℕ) : Type 0 where
   pub day : DayFine d
   pub van-fine : VanFine (d .flags) van
@@ -50,6 +62,20 @@ fine d van visits lengths list h =
       van-fine = v-fine;
       depot = lt-of-lt-of-le (v-fine .depot) (d-fine .depots);
       lists = lists-fine _ _ visits lengths list (of-van .1);
+    }
+
+pub fine-lists : (d : Day) (van : Van) (visits lengths : List ℕ) → refusalOfLists d van visits lengths ≡ 0 → FineLists d van visits lengths
+unfolding refusalOfLists
+fine-lists d van visits lengths h =
+    let of-day = first-zero _ _ h in
+    let of-van = first-zero _ _ (of-day .1) in
+    let d-fine = day-fine d (of-day .0) in
+    let v-fine = van-fine (d .flags) van (of-van .0) in
+    record {
+      day = d-fine;
+      van-fine = v-fine;
+      depot = lt-of-lt-of-le (v-fine .depot) (d-fine .depots);
+      table = table-fine _ _ visits lengths (of-van .1);
     }
 
 -- the list asked for has at most 63 visits, each a location

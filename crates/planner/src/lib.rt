@@ -1,6 +1,8 @@
 // THE PUBLIC CRATE: every entry of the planner. No entry has a `requires`: whatever a caller lends, it gets a result or one of document 01's refusals,
-// and a refused call changes nothing. Each contract equates the answer, and every lent table that could change, with a definition of specs/Answer.antt.
+// and a refused call changes nothing. Each contract equates the answer, and every lent table that could change, with a definition of specs/.
 pub mod refusal; // the number of the first refusal
 pub mod list; // the list asked for, as the caller's own part
 pub mod check; // the distance, the check, the evaluation and the schedule of a list
+pub mod improve; // 2-opt, Or-opt and 3-opt of a list
+pub mod rearrange; // relocate and tail exchange over all lists
 pub mod table; // what the searches work out before the first move

@@ -4,6 +4,10 @@ use mathlib.Core.Bool.{Bool, true, false}
 use lib.Ieee.{Float}
 use Rattle.planner.specs.declared.table.Table.{Table}
 use Rattle.planner.specs.declared.table.Table.the-variants as table
+use Rattle.planner.specs.declared.improve.Improved.{Improved}
+use Rattle.planner.specs.declared.improve.Improved.the-variants as improved
+use Rattle.planner.specs.declared.rearrange.Rearranged.{Rearranged}
+use Rattle.planner.specs.declared.rearrange.Rearranged.the-variants as rearranged
 use Rattle.planner.specs.declared.check.Distance.{Distance}
 use Rattle.planner.specs.declared.check.Distance.the-variants as distance
 use Rattle.planner.specs.declared.check.Feasibility.{Feasibility}
@@ -14,6 +18,58 @@ use Rattle.planner.specs.declared.check.Timetable.{Timetable}
 use Rattle.planner.specs.declared.check.Timetable.the-variants as timetable
 use Rattle.evaluation.specs.declared.label.Taken.{Taken}
 use Rattle.evaluation.specs.declared.label.Taken.the-variants.{Untaken, At}
+
+-- ---- two_opt_improve, or_opt_improve, three_opt_improve
+
+-- the refusal's number, else 0
+unfoldable pub improveCode : Improved → ℕ
+improveCode (improved.Refused n) = n
+improveCode (improved.Settled moves distance) = 0
+improveCode (improved.Stopped moves distance) = 0
+
+-- 1 where the run settled, 0 where it stopped
+unfoldable pub settledIn : Improved → ℕ → ℕ
+settledIn (improved.Refused n) before = before
+settledIn (improved.Settled moves distance) before = 1
+settledIn (improved.Stopped moves distance) before = 0
+
+-- the moves made
+unfoldable pub movesIn : Improved → ℕ → ℕ
+movesIn (improved.Refused n) before = before
+movesIn (improved.Settled moves distance) before = moves
+movesIn (improved.Stopped moves distance) before = moves
+
+-- the distance of the list handed back
+unfoldable pub endDistanceIn : Improved → Float → Float
+endDistanceIn (improved.Refused n) before = before
+endDistanceIn (improved.Settled moves distance) before = distance
+endDistanceIn (improved.Stopped moves distance) before = distance
+
+-- ---- relocate_improve, exchange_improve
+
+-- the refusal's number, else 0
+unfoldable pub rearrangeCode : Rearranged → ℕ
+rearrangeCode (rearranged.Refused n) = n
+rearrangeCode (rearranged.Settled moves remaining) = 0
+rearrangeCode (rearranged.Stopped moves remaining) = 0
+
+-- 1 where the run settled, 0 where it stopped
+unfoldable pub overSettledIn : Rearranged → ℕ → ℕ
+overSettledIn (rearranged.Refused n) before = before
+overSettledIn (rearranged.Settled moves remaining) before = 1
+overSettledIn (rearranged.Stopped moves remaining) before = 0
+
+-- the moves made
+unfoldable pub overMovesIn : Rearranged → ℕ → ℕ
+overMovesIn (rearranged.Refused n) before = before
+overMovesIn (rearranged.Settled moves remaining) before = moves
+overMovesIn (rearranged.Stopped moves remaining) before = moves
+
+-- how many lists remain
+unfoldable pub remainingWritten : Rearranged → ℕ → ℕ
+remainingWritten (rearranged.Refused n) before = before
+remainingWritten (rearranged.Settled moves remaining) before = remaining
+remainingWritten (rearranged.Stopped moves remaining) before = remaining
 
 -- ---- route_distance
 

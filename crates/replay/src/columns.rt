@@ -56,7 +56,7 @@ pub fn demands(table: &[u8], day: &[u8], at: usize, n: usize) -> [i32; 64]
     column
 }
 
-fn place(byte: u8) -> u16 {
+pub fn place(byte: u8) -> u16 {
     byte as u16
 }
 
@@ -72,6 +72,27 @@ pub fn places(day: &[u8], at: usize, n: usize) -> [u16; 64]
         i += 1;
     }
     column
+}
+
+// The visit at a place of a table, 0 where there is none.
+pub fn visit_at(visits: &[u16], place: usize) -> u16 {
+    if place < visits.len() {
+        return visits[place];
+    }
+    0
+}
+
+// The visits once more, to be changed.
+pub fn copied(visits: &[u16]) -> [u16; 64]
+    ensures { λ r. ⌜ 64 ≡ length r ⌝ }
+{
+    let mut copy = [0u16; 64];
+    let mut i = 0;
+    while i < 64 {
+        copy[i] = visit_at(visits, i);
+        i += 1;
+    }
+    copy
 }
 
 // The first `n` numbers, none where there are fewer.
@@ -96,8 +117,8 @@ pub fn first_places(column: &[u16], n: usize) -> &[u16] {
     &column[0..n]
 }
 
-// An id, 0 where it is too large.
-fn id(value: u64) -> u32 {
+// An id or a limit, 0 where it is too large.
+pub fn short(value: u64) -> u32 {
     if value < 4294967296 {
         return value as u32;
     }
@@ -108,7 +129,7 @@ fn id(value: u64) -> u32 {
 pub fn van(table: &[u8], day: &[u8], at: usize) -> Van {
     let bytes = part(day, at, 11);
     Van {
-        id: id(value(table, byte_at(bytes, 0))),
+        id: short(value(table, byte_at(bytes, 0))),
         depot: value(table, byte_at(bytes, 1)) as usize,
         capacity: signed(value(table, byte_at(bytes, 2))),
         cost_per_distance: number(table, byte_at(bytes, 3)),

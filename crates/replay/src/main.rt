@@ -5,8 +5,13 @@ mod bytes; // bytes by position, words and numbers
 mod layout; // where the parts of a day lie
 mod columns; // the parts of a day as tables to lend
 mod whole; // whether the file has the stored form
+mod stored; // whether an answer is the one stored
+mod improve; // the kinds of run that change one list
 mod runs; // one function for each kind of run
 mod score; // how many runs of a kind agree
+
+ghost use mathlib.Core.Path.{_≡_};
+ghost use lib.ListN.{length};
 
 fn line(kind: &[u8], data: &[u8], tag: u8) {
     let score = score::of_file(data, tag);
@@ -26,10 +31,20 @@ fn replay(data: &[u8]) {
     line(b"eval ", data, runs::EVAL);
     line(b"schedule ", data, runs::SCHEDULE);
     line(b"distance ", data, runs::DISTANCE);
+    line(b"two_opt ", data, improve::TWO_OPT);
+    line(b"or_opt ", data, improve::OR_OPT);
+    line(b"three_opt ", data, improve::THREE_OPT);
+}
+
+// Room for the file, 524,288 bytes.
+fn room() -> [u8; 524288]
+    ensures { λ r. ⌜ 524288 ≡ length r ⌝ }
+{
+    [0; 524288]
 }
 
 fn main() {
-    let mut buffer = io::large_buffer();
+    let mut buffer = room();
     let n = io::read_full(0, &mut buffer);
     replay(&buffer[..n]);
 }

@@ -1,10 +1,9 @@
-// The kinds of run: each asks the planner's entry for the stored list, and says whether the answer is the stored one to the last bit.
-// A refused run differs, and so does one that hasn't the form of its kind. A new kind is a tag, a function and an arm of `agrees`.
+// The kinds of run that change nothing, and with them all kinds: each asks the planner's entry for the stored list, and says whether the answer is the
+// stored one to the last bit. A refused run differs, and so does one that hasn't the form of its kind. A new kind is a tag, a function and an arm.
 use crate::bytes::byte_at;
 use crate::bytes::count_at;
-use crate::bytes::is_known;
-use crate::bytes::number;
-use crate::bytes::same;
+use crate::improve;
+use crate::stored::is_number;
 use day::vehicle::Van;
 use evaluation::label::Taken;
 use planner::check::Distance;
@@ -20,15 +19,6 @@ pub const SCHEDULE: u8 = 3;
 
 pub const DISTANCE: u8 = 4;
 
-// Whether a number is the one stored at a place of the run.
-fn is_stored(run: &[u8], table: &[u8], at: usize, x: f64) -> bool {
-    let byte = byte_at(run, at);
-    if !is_known(table, byte) {
-        return false;
-    }
-    same(x, number(table, byte))
-}
-
 // Whether four numbers are those stored behind the list and the case.
 fn are_stored(
     run: &[u8],
@@ -38,10 +28,10 @@ fn are_stored(
     lateness: f64,
     cost: f64,
 ) -> bool {
-    if !is_stored(run, table, 2, distance) || !is_stored(run, table, 3, duration) {
+    if !is_number(run, table, 2, distance) || !is_number(run, table, 3, duration) {
         return false;
     }
-    is_stored(run, table, 4, lateness) && is_stored(run, table, 5, cost)
+    is_number(run, table, 4, lateness) && is_number(run, table, 5, cost)
 }
 
 // Whether the run has this size and this case, which stands behind the list.
@@ -57,7 +47,7 @@ fn is_rest(run: &[u8], table: &[u8], rest: Taken) -> bool {
             if !is_case(run, 9, 1) || byte_at(run, 6) != 1 {
                 return false;
             }
-            count_at(run, 7) == position && is_stored(run, table, 8, start)
+            count_at(run, 7) == position && is_number(run, table, 8, start)
         }
     }
 }
@@ -223,7 +213,7 @@ fn distance(
     );
     match answer {
         Distance::Refused(_) => false,
-        Distance::Known(x) => run.len() == 2 && is_stored(run, table, 1, x),
+        Distance::Known(x) => run.len() == 2 && is_number(run, table, 1, x),
     }
 }
 
@@ -309,6 +299,22 @@ pub fn agrees(
             visits,
             lengths,
         ),
-        _ => false,
+        _ => improve::agrees(
+            tag,
+            run,
+            table,
+            l,
+            flags,
+            demand,
+            service,
+            ready,
+            due,
+            penalty,
+            distances,
+            times,
+            van,
+            visits,
+            lengths,
+        ),
     }
 }

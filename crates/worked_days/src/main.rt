@@ -5,6 +5,7 @@ mod print; // lines and numbers
 mod check; // distance, windows, break
 mod table; // what the searches work out of a table
 mod asked; // the list asked for
+mod improve; // 2-opt, Or-opt, 3-opt
 mod refused; // refusals 1 to 10
 
 fn main() {
@@ -15,6 +16,9 @@ fn main() {
     check::breaks();
     check::roundings();
     asked::both_lists();
+    improve::two_opt();
+    improve::or_opt();
+    improve::three_opt();
     refused::by_size();
     refused::by_numbers();
     refused::by_van();

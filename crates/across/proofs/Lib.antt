@@ -1,0 +1,2 @@
+pub mod Hard
+pub mod Asked

@@ -1,0 +1,71 @@
+-- Demand 3 as the entries' contracts state it: premises on the values lent, and the claim about a whole run. Assumes nothing.
+use Prim.Native.Nat.{ℕ}
+use mathlib.Core.Path.{_≡_}
+use mathlib.Core.Bool.{false}
+use mathlib.Core.Option.{Option, none, some}
+use mathlib.Core.List.{[], _∷_}
+use lib.Dec.{T}
+use lib.Ieee.{eq}
+use Rattle.numbers.specs.Operations.{zero64}
+use Rattle.numbers.specs.Value.{isWhole}
+use Rattle.numbers.specs.Total.{every}
+use Rattle.day.specs.Day.{Day}
+use Rattle.day.specs.Matrix.{leg}
+use Rattle.day.specs.Customer.{hasSoftWindows}
+use Rattle.day.specs.Vehicle.{limitsOf, fixedCostInDistance}
+use Rattle.day.specs.declared.vehicle.Van.{Van}
+use Rattle.evaluation.specs.Columns.{columnsOf}
+use Rattle.descent.specs.Permitted.{Checks, Engine, State}
+use Rattle.descent.specs.Search.{Word, settled, stopped}
+use Rattle.descent.specs.Claim.{Claim}
+use Rattle.deltas.specs.Judged.{Map, roadsOf}
+use Rattle.engine.specs.Engine.{checksOf, mapOf}
+use Rattle.exchange.specs.Boxes.{boxes}
+use Rattle.planner.specs.declared.improve.Improved.{Improved}
+use Rattle.planner.specs.declared.improve.Improved.the-variants as improved
+use Rattle.planner.specs.declared.rearrange.Rearranged.{Rearranged}
+use Rattle.planner.specs.declared.rearrange.Rearranged.the-variants as rearranged
+
+-- 00, demand 3: 'whole distances up to 16,777,216, zero from the van's depot to itself, a fixed cost worth a whole distance in that range and no soft window'
+pub record WholeDay (d : Day) (van : Van) : Type 0 where
+  pub distances : T (every (isWhole 16777216) (d .distances))
+  pub home : T (eq (leg (d .l) (d .distances) (van .depot) (van .depot)) zero64)
+  pub fixed : T (isWhole 16777216 (fixedCostInDistance van))
+  pub hard : hasSoftWindows (d .flags) ≡ false
+
+-- what the sum of demand 3 is made of: the distances, the van's depot, and its `fixed_cost_in_distance`
+abbrev pub mapFor : Day → Van → Map
+mapFor d van = mapOf (d .l) (d .distances) (van .depot) (fixedCostInDistance van)
+
+-- what a list must meet: the van's capacity, and 'passes'
+abbrev pub checksFor : Day → Van → Checks
+checksFor d van = checksOf (boxes (d .demand) (van .capacity) ∷ []) (columnsOf d) (limitsOf van) (van .depot)
+
+-- how a run that wasn't refused says that it ended
+pub record Report : Type 0 where
+  pub word : Word
+  pub moves : ℕ
+
+-- 'for every run of 2-opt, 3-opt, Or-opt, relocate or tail exchange that isn't refused': of the lists lent, those handed back and the report
+abbrev pub Claimed : (e : Engine) → Day → Van → ℕ → State e → State e → Option Report → Type 0
+Claimed e d van limit lent back none = Unit
+Claimed e d van limit lent back (some r) =
+    WholeDay d van → (ended : State e) × Claim e (roadsOf (mapFor d van)) (checksFor d van) limit lent ended back (r .moves) (r .word)
+
+-- the report in an answer within a list
+abbrev pub reported : Improved → Option Report
+reported (improved.Refused n) = none
+reported (improved.Settled moves distance) = some (record { word = settled; moves = moves })
+reported (improved.Stopped moves distance) = some (record { word = stopped; moves = moves })
+
+-- and in an answer across lists
+abbrev pub reportedOver : Rearranged → Option Report
+reportedOver (rearranged.Refused n) = none
+reportedOver (rearranged.Settled moves remaining) = some (record { word = settled; moves = moves })
+reportedOver (rearranged.Stopped moves remaining) = some (record { word = stopped; moves = moves })
+
+-- how many lists it says remain
+abbrev pub remainingIn : Rearranged → ℕ
+remainingIn (rearranged.Refused n) = 0
+remainingIn (rearranged.Settled moves remaining) = remaining
+remainingIn (rearranged.Stopped moves remaining) = remaining

@@ -1,0 +1,32 @@
+-- `planner_exchange_improve`: the entry's outcome, and its answer written out.
+use borrow.Author.Needs.{needs}
+use Rattle.planner_c.proofs.rearrange.planner_exchange_improve.Statement.{statement}
+use Rattle.planner_c.proofs.rearrange.planner_exchange_improve.Tie as tie
+
+exchange-improve-requires : tie.Need-exchange-improve-requires
+exchange-improve-requires c κs = search needs
+
+write-rearranged-requires : tie.Need-write-rearranged-requires
+write-rearranged-requires c κs = search needs
+
+same-length : tie.Need-same-length
+same-length c = search needs
+
+same-length-2 : tie.Need-same-length-2
+same-length-2 c = search needs
+
+returns : tie.Need-returns
+returns c =
+    let e = c .before .before .before .before .before .before .before .before .exchange-improve .ensures in
+    let w = c .write-rearranged .ensures in
+    rw (← e .0) (w .0, w .1, w .2, w .3, e .1, e .2, e .3, e .4)
+
+pub planner-exchange-improve-spec : {M : Type 1} → statement M
+planner-exchange-improve-spec =
+    tie.close
+    (tie.spec
+    exchange-improve-requires
+    write-rearranged-requires
+    same-length
+    same-length-2
+    returns)

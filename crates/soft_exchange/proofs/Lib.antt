@@ -1,0 +1,4 @@
+pub mod Considering
+pub mod Choosing
+pub mod Moves
+pub mod Offices

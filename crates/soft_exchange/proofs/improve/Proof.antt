@@ -1,0 +1,61 @@
+-- `improve`: the terms are those of the day and the van, so that the run is the definition's.
+use borrow.Author.Needs.{needs}
+use mathlib.Core.Path.{ap, _∙_}
+use mir.Syntax.{w32}
+use mir.ValLaws.{toZ-ofZ}
+use Rattle.numbers.specs.Floor.{gainFloor}
+use Rattle.exchange.proofs.Tables.{edited-length}
+use Rattle.soft_exchange.specs.SoftExchange.{soft-exchange-run}
+use Rattle.soft_exchange.specs.Parts.{searchOf, judgeOf, nextOf}
+use Rattle.soft_exchange.proofs.improve.Statement.{statement}
+use Rattle.soft_exchange.proofs.improve.Tie as tie
+
+scale-requires : tie.Need-scale-requires
+scale-requires c κs = search needs
+
+gain-floor-requires : tie.Need-gain-floor-requires
+gain-floor-requires c κs = search needs
+
+boxes-of-requires : tie.Need-boxes-of-requires
+boxes-of-requires c κs =
+    let start = c .before .before .before .before .before .before .before .before .before .before .before in
+    rw (toZ-ofZ w32 (start .args .capacity) (start .fits .capacity)) (start .pre .1 .0)
+
+run-moves-requires : tie.Need-run-moves-requires
+run-moves-requires c κs =
+    let start = c .before .before .before .before .before .before .before .before .before .before .before .before .before .before in
+    (record { formed = start .pre .0 .0; loaded = start .pre .0 .1; depot-there = start .pre .1 .1 }, start .pre .1 .2)
+
+same-length : tie.Need-same-length
+same-length c =
+    let at-run-moves = c .before .before .before .before in
+    edited-length (at-run-moves .run-moves .ensures .0)
+
+same-length-2 : tie.Need-same-length-2
+same-length-2 c =
+    let at-run-moves = c .before .before .before .before in
+    at-run-moves .run-moves .ensures .0 .number
+
+returns : tie.Need-returns
+unfolding soft-exchange-run nextOf searchOf judgeOf
+returns c =
+    let at-run-moves = c .before .before .before .before in
+    let at-boxes-of = at-run-moves .before .before .before in
+    let at-gain-floor = at-boxes-of .before in
+    let at-scale = at-gain-floor .before in
+    let start = at-scale .before .before .before .before .before .before .before .before .before .before in
+    let boxes = rw (toZ-ofZ w32 (start .args .capacity) (start .fits .capacity)) at (at-boxes-of .boxes-of .ensures) in
+    let floor = at-gain-floor .gain-floor .ensures ∙ ap gainFloor (at-scale .scale .ensures) in
+    rw (← boxes, ← floor) (at-run-moves .run-moves .ensures)
+
+pub improve-spec : {M : Type 1} → statement M
+improve-spec =
+    tie.close
+    (tie.spec
+    scale-requires
+    gain-floor-requires
+    boxes-of-requires
+    run-moves-requires
+    same-length
+    same-length-2
+    returns)

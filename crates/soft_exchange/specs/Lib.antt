@@ -1,0 +1,2 @@
+pub mod SoftExchange
+pub mod Parts

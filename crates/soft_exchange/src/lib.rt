@@ -1,0 +1,686 @@
+// Tail exchange between lists where a day has a soft window, in place (local_search/exchange.rs, the `soft` branches). An exchange that shortens two lists
+// can make a van late, so that it is judged by the whole of both new lists: distance plus lateness cost.
+//
+// Pairs, cuts, loads and the order of search are those of `exchange`. What differs is the delta, and that a pair of which one list has no finite price has
+// no move. The cut at both ends, which changes nothing, is tried too: where its rounded delta counts, only the limit ends the run, as in the Rust.
+use day::matrix::scale;
+use day::vehicle::RouteLimits;
+use edits::append_stretch;
+use engine::Ended;
+use evaluation::route::effective_cost;
+use exchange::Choice;
+use exchange::Found;
+use exchange::Place;
+use exchange::boxes_at;
+use exchange::boxes_of;
+use exchange::load_of;
+use exchange::place_after;
+use lists::exchange_tails;
+use lists::list_of;
+use numbers::gain_floor;
+use numbers::is_finite;
+ghost use mathlib.Core.Path.{_≡_};
+ghost use mathlib.Core.Bool.{true};
+ghost use mathlib.Core.List.{[]};
+ghost use Prim.Native.Nat.{_<_, _≤_};
+ghost use lib.IntN.{pos};
+ghost use lib.Signed.{leZ};
+ghost use lib.ListN.{length, take};
+ghost use Rattle.numbers.specs.Floor.{gainFloor};
+ghost use Rattle.day.specs.Matrix.{scaleOf};
+ghost use Rattle.edits.specs.Total.{total};
+ghost use Rattle.lists.specs.Table.{lists};
+ghost use Rattle.lists.specs.Edits.{joined, Edited};
+ghost use Rattle.evaluation.specs.Columns.{columnsAt, Formed};
+ghost use Rattle.evaluation.specs.Route.{effectiveCost};
+ghost use Rattle.descent.specs.Search.{run};
+ghost use Rattle.engine.specs.Engine.{endedAs};
+ghost use Rattle.exchange.specs.Boxes.{boxesAt, Loaded};
+ghost use Rattle.exchange.specs.Exchange.{Held, Two, pairAt, movedBy, from, InSweep, leads, Apt};
+ghost use Rattle.soft_exchange.specs.SoftExchange.{priced, soft-exchange-run};
+ghost use Rattle.soft_exchange.specs.Parts.{costIn, Asked, Figured, better, bestRow, bestOf, takenAt, firstAt, nextOf};
+
+// What stays the same over a run: worked out once, before the first move.
+pub struct Terms {
+    pub l: usize,
+    pub depot: usize,
+    pub limits: RouteLimits,
+    // The boxes that the van holds.
+    pub capacity: usize,
+    // The gain below which a change does not count.
+    pub floor: f64,
+}
+
+// What two lists load and cost as they are: worked out once a pair.
+pub struct Figures {
+    pub load1: usize,
+    pub load2: usize,
+    pub cost1: f64,
+    pub cost2: f64,
+}
+
+// ---- a candidate
+
+// What the first `cut1` visits of a list cost with another's tail behind them.
+fn joined_cost(
+    flags: &[u8],
+    service: &[f64],
+    ready: &[f64],
+    due: &[f64],
+    penalty: &[f64],
+    distances: &[f64],
+    times: &[f64],
+    terms: Terms,
+    one: &[u16],
+    cut1: usize,
+    other: &[u16],
+    cut2: usize,
+) -> f64
+    requires { ⌜ Formed (columnsAt (terms .l) flags service ready due penalty distances times) × (terms .depot < terms .l) ⌝ }
+    requires { ⌜ Two (terms .l) (now one) (now other) ⌝ }
+    requires { ⌜ (cut1 ≤ length (now one)) × (cut2 ≤ length (now other)) ⌝ }
+    ensures { λ r.
+        ⌜ r ≡ effectiveCost
+        (columnsAt (terms .l) (flags .entry) (service .entry) (ready .entry) (due .entry) (penalty .entry) (distances .entry) (times .entry))
+        (terms .limits) (terms .depot) (joined (now (one .entry)) cut1 (now (other .entry)) cut2) ⌝ }
+{
+    let mut buffer = [0u16; 64];
+    let head = append_stretch(&mut buffer, 0, one, 0, cut1);
+    let end = append_stretch(&mut buffer, head, other, cut2, other.len());
+    let limits = terms.limits;
+    effective_cost(
+        terms.l,
+        flags,
+        service,
+        ready,
+        due,
+        penalty,
+        distances,
+        times,
+        limits,
+        terms.depot,
+        &buffer[0..end],
+    )
+}
+
+// The better of the best so far and one exchange more, of which the new loads are known: loads first, then both new lists are priced.
+fn consider(
+    flags: &[u8],
+    demand: &[i32],
+    service: &[f64],
+    ready: &[f64],
+    due: &[f64],
+    penalty: &[f64],
+    distances: &[f64],
+    times: &[f64],
+    terms: Terms,
+    one: &[u16],
+    other: &[u16],
+    figures: Figures,
+    cut1: usize,
+    cut2: usize,
+    load1: usize,
+    load2: usize,
+    best: Choice,
+) -> Choice
+    requires { ⌜ Asked (columnsAt (terms .l) flags service ready due penalty distances times) (now demand) terms ⌝ }
+    requires { ⌜ Two (terms .l) (now one) (now other) × (cut1 ≤ length (now one)) × (cut2 ≤ length (now other)) ⌝ }
+    requires { ⌜ Figured (columnsAt (terms .l) flags service ready due penalty distances times) (now demand) terms (now one) (now other) figures ⌝ }
+    requires { ⌜ priced (costIn (columnsAt (terms .l) flags service ready due penalty distances times) terms) (now one) (now other) ≡ true ⌝ }
+    requires { ⌜ (load1 ≡ total (boxesAt (now demand)) (joined (now one) cut1 (now other) cut2))
+        × (load2 ≡ total (boxesAt (now demand)) (joined (now other) cut2 (now one) cut1)) ⌝ }
+    ensures { λ r.
+        ⌜ r ≡ better
+        (columnsAt (terms .l) (flags .entry) (service .entry) (ready .entry) (due .entry) (penalty .entry) (distances .entry) (times .entry))
+        (now (demand .entry)) terms (now (one .entry)) (now (other .entry)) cut1 cut2 best ⌝ }
+{
+    if load1 > terms.capacity {
+        return best;
+    }
+    if load2 > terms.capacity {
+        return best;
+    }
+    let new1 = joined_cost(
+        flags,
+        service,
+        ready,
+        due,
+        penalty,
+        distances,
+        times,
+        terms,
+        one,
+        cut1,
+        other,
+        cut2,
+    );
+    let new2 = joined_cost(
+        flags,
+        service,
+        ready,
+        due,
+        penalty,
+        distances,
+        times,
+        terms,
+        other, // the second list: its own head, and the first one's tail
+        cut2,
+        one,
+        cut1,
+    );
+    let delta = new1 + new2 - figures.cost1 - figures.cost2;
+    if delta < best.delta {
+        return Choice { cut1, cut2, delta };
+    }
+    best
+}
+
+// ---- the best exchange of two lists
+
+// The best with one cut of the first list and every cut of the second; `head1` is the load of the first head.
+fn best_row(
+    flags: &[u8],
+    demand: &[i32],
+    service: &[f64],
+    ready: &[f64],
+    due: &[f64],
+    penalty: &[f64],
+    distances: &[f64],
+    times: &[f64],
+    terms: Terms,
+    one: &[u16],
+    other: &[u16],
+    figures: Figures,
+    cut1: usize,
+    head1: usize,
+    best: Choice,
+) -> Choice
+    requires { ⌜ Asked (columnsAt (terms .l) flags service ready due penalty distances times) (now demand) terms ⌝ }
+    requires { ⌜ Two (terms .l) (now one) (now other) × (cut1 ≤ length (now one)) ⌝ }
+    requires { ⌜ Figured (columnsAt (terms .l) flags service ready due penalty distances times) (now demand) terms (now one) (now other) figures ⌝ }
+    requires { ⌜ priced (costIn (columnsAt (terms .l) flags service ready due penalty distances times) terms) (now one) (now other) ≡ true ⌝ }
+    requires { ⌜ head1 ≡ total (boxesAt (now demand)) (take cut1 (now one)) ⌝ }
+    ensures { λ r.
+        ⌜ r ≡ bestRow
+        (columnsAt (terms .l) (flags .entry) (service .entry) (ready .entry) (due .entry) (penalty .entry) (distances .entry) (times .entry))
+        (now (demand .entry)) terms (now (one .entry)) (now (other .entry)) cut1 best ⌝ }
+{
+    let mut found = best;
+    let mut head2 = 0;
+    let mut last = 0;
+    while last < other.len() {
+        head2 += boxes_at(terms.l, demand, other, last);
+        let cut2 = last + 1;
+        let new1 = head1 + (figures.load2 - head2);
+        let new2 = head2 + (figures.load1 - head1);
+        found = consider(
+            flags,
+            demand,
+            service,
+            ready,
+            due,
+            penalty,
+            distances,
+            times,
+            terms,
+            one,
+            other,
+            figures,
+            cut1,
+            cut2,
+            new1,
+            new2,
+            found,
+        );
+        last += 1;
+    }
+    found
+}
+
+// The first least of all exchanges of two lists that have a price.
+fn best_priced(
+    flags: &[u8],
+    demand: &[i32],
+    service: &[f64],
+    ready: &[f64],
+    due: &[f64],
+    penalty: &[f64],
+    distances: &[f64],
+    times: &[f64],
+    terms: Terms,
+    one: &[u16],
+    other: &[u16],
+    figures: Figures,
+) -> Choice
+    requires { ⌜ Asked (columnsAt (terms .l) flags service ready due penalty distances times) (now demand) terms ⌝ }
+    requires { ⌜ Two (terms .l) (now one) (now other) ⌝ }
+    requires { ⌜ Figured (columnsAt (terms .l) flags service ready due penalty distances times) (now demand) terms (now one) (now other) figures ⌝ }
+    requires { ⌜ priced (costIn (columnsAt (terms .l) flags service ready due penalty distances times) terms) (now one) (now other) ≡ true ⌝ }
+    ensures { λ r.
+        ⌜ r ≡ bestOf
+        (columnsAt (terms .l) (flags .entry) (service .entry) (ready .entry) (due .entry) (penalty .entry) (distances .entry) (times .entry))
+        (now (demand .entry)) terms (now (one .entry)) (now (other .entry)) ⌝ }
+{
+    let mut best = Choice {
+        cut1: 0,
+        cut2: 0,
+        delta: -terms.floor,
+    };
+    let mut head1 = 0;
+    let mut last = 0;
+    while last < one.len() {
+        head1 += boxes_at(terms.l, demand, one, last);
+        best = best_row(
+            flags,
+            demand,
+            service,
+            ready,
+            due,
+            penalty,
+            distances,
+            times,
+            terms,
+            one,
+            other,
+            figures,
+            last + 1,
+            head1,
+            best,
+        );
+        last += 1;
+    }
+    best
+}
+
+// What two lists load and cost.
+fn figures_of(
+    flags: &[u8],
+    demand: &[i32],
+    service: &[f64],
+    ready: &[f64],
+    due: &[f64],
+    penalty: &[f64],
+    distances: &[f64],
+    times: &[f64],
+    terms: Terms,
+    one: &[u16],
+    other: &[u16],
+) -> Figures
+    requires { ⌜ Asked (columnsAt (terms .l) flags service ready due penalty distances times) (now demand) terms ⌝ }
+    requires { ⌜ Two (terms .l) (now one) (now other) ⌝ }
+    ensures { λ r.
+        ⌜ Figured
+        (columnsAt (terms .l) (flags .entry) (service .entry) (ready .entry) (due .entry) (penalty .entry) (distances .entry) (times .entry))
+        (now (demand .entry)) terms (now (one .entry)) (now (other .entry)) r ⌝ }
+{
+    let cost1 = effective_cost(
+        terms.l,
+        flags,
+        service,
+        ready,
+        due,
+        penalty,
+        distances,
+        times,
+        terms.limits,
+        terms.depot,
+        one,
+    );
+    let cost2 = effective_cost(
+        terms.l,
+        flags,
+        service,
+        ready,
+        due,
+        penalty,
+        distances,
+        times,
+        terms.limits,
+        terms.depot,
+        other,
+    );
+    let load1 = load_of(terms.l, demand, one);
+    let load2 = load_of(terms.l, demand, other);
+    Figures {
+        load1,
+        load2,
+        cost1,
+        cost2,
+    }
+}
+
+// The first least of all exchanges of two lists; none where a list has no price.
+fn best_exchange(
+    flags: &[u8],
+    demand: &[i32],
+    service: &[f64],
+    ready: &[f64],
+    due: &[f64],
+    penalty: &[f64],
+    distances: &[f64],
+    times: &[f64],
+    terms: Terms,
+    one: &[u16],
+    other: &[u16],
+) -> Choice
+    requires { ⌜ Asked (columnsAt (terms .l) flags service ready due penalty distances times) (now demand) terms ⌝ }
+    requires { ⌜ Two (terms .l) (now one) (now other) ⌝ }
+    ensures { λ r.
+        ⌜ r ≡ bestOf
+        (columnsAt (terms .l) (flags .entry) (service .entry) (ready .entry) (due .entry) (penalty .entry) (distances .entry) (times .entry))
+        (now (demand .entry)) terms (now (one .entry)) (now (other .entry)) ⌝ }
+{
+    let nothing = Choice {
+        cut1: 0,
+        cut2: 0,
+        delta: -terms.floor,
+    };
+    let figures = figures_of(
+        flags,
+        demand,
+        service,
+        ready,
+        due,
+        penalty,
+        distances,
+        times,
+        terms,
+        one,
+        other,
+    );
+    if !is_finite(figures.cost1) {
+        return nothing;
+    }
+    if !is_finite(figures.cost2) {
+        return nothing;
+    }
+    best_priced(
+        flags,
+        demand,
+        service,
+        ready,
+        due,
+        penalty,
+        distances,
+        times,
+        terms,
+        one,
+        other,
+        figures,
+    )
+}
+
+// The exchange to take at a pair of lists.
+fn best_at(
+    flags: &[u8],
+    demand: &[i32],
+    service: &[f64],
+    ready: &[f64],
+    due: &[f64],
+    penalty: &[f64],
+    distances: &[f64],
+    times: &[f64],
+    terms: Terms,
+    visits: &[u16],
+    lengths: &[u16],
+    place: Place,
+) -> Choice
+    requires { ⌜ Asked (columnsAt (terms .l) flags service ready due penalty distances times) (now demand) terms ⌝ }
+    requires { ⌜ Held (terms .l) (now visits) (now lengths) × (place .one < place .other) × (place .other < length (now lengths)) ⌝ }
+    ensures { λ r.
+        ⌜ movedBy (pairAt place) (r .cut1) (r .cut2) ≡ takenAt
+        (columnsAt (terms .l) (flags .entry) (service .entry) (ready .entry) (due .entry) (penalty .entry) (distances .entry) (times .entry))
+        (now (demand .entry)) terms (lists (now (visits .entry)) (now (lengths .entry))) (pairAt place) ⌝ }
+{
+    let one = list_of(visits, lengths, place.one);
+    let other = list_of(visits, lengths, place.other);
+    best_exchange(
+        flags,
+        demand,
+        service,
+        ready,
+        due,
+        penalty,
+        distances,
+        times,
+        terms,
+        one,
+        other,
+    )
+}
+
+// ---- moves
+
+// The first move from a place of the sweep on.
+fn first_move(
+    flags: &[u8],
+    demand: &[i32],
+    service: &[f64],
+    ready: &[f64],
+    due: &[f64],
+    penalty: &[f64],
+    distances: &[f64],
+    times: &[f64],
+    terms: Terms,
+    visits: &[u16],
+    lengths: &[u16],
+    start: Place,
+) -> Found
+    requires { ⌜ Asked (columnsAt (terms .l) flags service ready due penalty distances times) (now demand) terms ⌝ }
+    requires { ⌜ Held (terms .l) (now visits) (now lengths) × InSweep (length (now lengths)) start ⌝ }
+    ensures { λ r.
+        ⌜ (let ls = lists (now (visits .entry)) (now (lengths .entry)) in
+        (leads ls r ≡ firstAt
+        (columnsAt (terms .l) (flags .entry) (service .entry) (ready .entry) (due .entry) (penalty .entry) (distances .entry) (times .entry))
+        (now (demand .entry)) terms ls (from (length (now (lengths .entry))) start))
+        × Apt (now (visits .entry)) (now (lengths .entry)) r) ⌝ }
+{
+    let n = lengths.len();
+    let mut place = start;
+    while place.other < n {
+        let best = best_at(
+            flags,
+            demand,
+            service,
+            ready,
+            due,
+            penalty,
+            distances,
+            times,
+            terms,
+            visits,
+            lengths,
+            place,
+        );
+        if best.cut1 != 0 {
+            return Found {
+                place,
+                cut1: best.cut1,
+                cut2: best.cut2,
+            };
+        }
+        place = place_after(n, place);
+    }
+    Found {
+        place,
+        cut1: 0,
+        cut2: 0,
+    }
+}
+
+// The next move: the first ahead in this sweep or, where there is none, the first of a new sweep.
+fn next_move(
+    flags: &[u8],
+    demand: &[i32],
+    service: &[f64],
+    ready: &[f64],
+    due: &[f64],
+    penalty: &[f64],
+    distances: &[f64],
+    times: &[f64],
+    terms: Terms,
+    visits: &[u16],
+    lengths: &[u16],
+    ahead: Place,
+) -> Found
+    requires { ⌜ Asked (columnsAt (terms .l) flags service ready due penalty distances times) (now demand) terms ⌝ }
+    requires { ⌜ Held (terms .l) (now visits) (now lengths) × InSweep (length (now lengths)) ahead ⌝ }
+    ensures { λ r.
+        ⌜ (let ls = lists (now (visits .entry)) (now (lengths .entry)) in
+        (leads ls r ≡ nextOf
+        (columnsAt (terms .l) (flags .entry) (service .entry) (ready .entry) (due .entry) (penalty .entry) (distances .entry) (times .entry))
+        (now (demand .entry)) terms (record { now = ls; ahead = from (length (now (lengths .entry))) ahead }))
+        × Apt (now (visits .entry)) (now (lengths .entry)) r) ⌝ }
+{
+    let found = first_move(
+        flags,
+        demand,
+        service,
+        ready,
+        due,
+        penalty,
+        distances,
+        times,
+        terms,
+        visits,
+        lengths,
+        ahead,
+    );
+    if found.cut1 != 0 {
+        return found;
+    }
+    let start = Place { one: 0, other: 1 };
+    first_move(
+        flags,
+        demand,
+        service,
+        ready,
+        due,
+        penalty,
+        distances,
+        times,
+        terms,
+        visits,
+        lengths,
+        start,
+    )
+}
+
+// Moves until none is left or the limit is used up. The run starts with nothing ahead, in front of a new sweep.
+fn run_moves(
+    flags: &[u8],
+    demand: &[i32],
+    service: &[f64],
+    ready: &[f64],
+    due: &[f64],
+    penalty: &[f64],
+    distances: &[f64],
+    times: &[f64],
+    terms: Terms,
+    visits: &mut [u16],
+    lengths: &mut [u16],
+    limit: u32,
+) -> Ended
+    requires { ⌜ Asked (columnsAt (terms .l) flags service ready due penalty distances times) (now demand) terms ⌝ }
+    requires { ⌜ Held (terms .l) (now visits) (now lengths) ⌝ }
+    ensures { λ r.
+        ⌜ (let run = run
+        (nextOf
+        (columnsAt (terms .l) (flags .entry) (service .entry) (ready .entry) (due .entry) (penalty .entry) (distances .entry) (times .entry))
+        (now (demand .entry)) terms)
+        limit (record { now = lists (now (visits .entry)) (now (lengths .entry)); ahead = [] })
+        in Edited (now (visits .entry)) (now (lengths .entry)) (now (visits .exit)) (now (lengths .exit)) (run .last .now)
+        × (r ≡ endedAs (run .word) (run .moves))) ⌝ }
+{
+    let n = lengths.len();
+    let mut moves = 0;
+    let mut ahead = Place {
+        one: n,
+        other: n + 1,
+    };
+    loop {
+        let found = next_move(
+            flags,
+            demand,
+            service,
+            ready,
+            due,
+            penalty,
+            distances,
+            times,
+            terms,
+            visits,
+            lengths,
+            ahead,
+        );
+        if found.cut1 == 0 {
+            return Ended::Settled(moves);
+        }
+        if limit <= moves {
+            return Ended::Stopped(moves);
+        }
+        let place = found.place;
+        exchange_tails(
+            visits,
+            lengths,
+            place.one,
+            place.other,
+            found.cut1,
+            found.cut2,
+        );
+        ahead = place_after(n, place);
+        moves += 1;
+    }
+}
+
+// Soft tail exchange of the lists of a call, up to a limit of moves. An emptied list is no case: each head keeps a visit.
+pub fn improve(
+    l: usize,
+    flags: &[u8],
+    demand: &[i32],
+    service: &[f64],
+    ready: &[f64],
+    due: &[f64],
+    penalty: &[f64],
+    distances: &[f64],
+    times: &[f64],
+    limits: RouteLimits,
+    capacity: i32,
+    depot: usize,
+    visits: &mut [u16],
+    lengths: &mut [u16],
+    limit: u32,
+) -> Ended
+    requires { ⌜ Formed (columnsAt l flags service ready due penalty distances times) × Loaded l (now demand) ⌝ }
+    requires { ⌜ (leZ (pos 0) capacity ≡ true) × (depot < l) × Held l (now visits) (now lengths) ⌝ }
+    ensures { λ r.
+        ⌜ (let run = soft-exchange-run
+        (columnsAt l (flags .entry) (service .entry) (ready .entry) (due .entry) (penalty .entry) (distances .entry) (times .entry))
+        (now (demand .entry)) limits capacity depot (gainFloor (scaleOf (now (distances .entry)))) limit
+        (lists (now (visits .entry)) (now (lengths .entry)))
+        in Edited (now (visits .entry)) (now (lengths .entry)) (now (visits .exit)) (now (lengths .exit)) (run .last .now)
+        × (r ≡ endedAs (run .word) (run .moves))) ⌝ }
+{
+    let floor = gain_floor(scale(distances));
+    let terms = Terms {
+        l,
+        depot,
+        limits,
+        capacity: boxes_of(capacity),
+        floor,
+    };
+    run_moves(
+        flags,
+        demand,
+        service,
+        ready,
+        due,
+        penalty,
+        distances,
+        times,
+        terms,
+        visits,
+        lengths,
+        limit,
+    )
+}

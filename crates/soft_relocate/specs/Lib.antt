@@ -1,0 +1,2 @@
+pub mod SoftRelocate
+pub mod Offers

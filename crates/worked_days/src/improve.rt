@@ -1,0 +1,215 @@
+// The runs that change one list: 2-opt, Or-opt and 3-opt.
+use crate::line;
+use crate::print;
+use crate::print::number;
+use crate::print::text;
+use planner::improve::Improved;
+
+enum Engine {
+    TwoOpt,
+    OrOpt,
+    ThreeOpt,
+}
+
+// The flags of place 2: none, or a soft window.
+const OPEN: u8 = 0;
+
+const SOFT: u8 = 6;
+
+// More moves than any list here takes.
+const ENOUGH: u32 = 1000;
+
+fn ended(distance: f64, moves: u32, word: &[u8]) {
+    text(b", distance ");
+    number(distance);
+    text(b", moves ");
+    io::print_decimal(1, moves as u64);
+    text(word);
+}
+
+fn improved(answer: Improved) {
+    match answer {
+        Improved::Refused(_) => {
+            text(b", refused\n");
+        }
+        Improved::Settled {
+            moves: a,
+            distance: b,
+        } => {
+            ended(b, a, b", settled\n");
+        }
+        Improved::Stopped {
+            moves: a,
+            distance: b,
+        } => {
+            ended(b, a, b", stopped\n");
+        }
+    }
+}
+
+// The engine's run on the line. Where the flags of place 2 say so, it has a soft window from 0 to 20 with penalty 3.
+fn improve(engine: Engine, flag: u8, visits: &mut [u16], lengths: &[u16], limit: u32) -> Improved {
+    let flags = [1u8, 0, flag, 0, 0];
+    let demand = [1i32; 5];
+    let zeros = [0.0f64; 5];
+    let due = [0.0f64, 0.0, 20.0, 0.0, 0.0];
+    let penalty = [0.0f64, 0.0, 3.0, 0.0, 0.0];
+    let gaps = line::distances();
+    let van = line::van(0, 0.0, 0.0, 0.0);
+    match engine {
+        Engine::TwoOpt => planner::improve::two_opt_improve(
+            5,
+            &flags,
+            &demand,
+            &zeros,
+            &zeros,
+            &due,
+            &penalty,
+            &gaps,
+            &[],
+            van,
+            visits,
+            lengths,
+            0,
+            limit,
+        ),
+        Engine::OrOpt => planner::improve::or_opt_improve(
+            5,
+            &flags,
+            &demand,
+            &zeros,
+            &zeros,
+            &due,
+            &penalty,
+            &gaps,
+            &[],
+            van,
+            visits,
+            lengths,
+            0,
+            limit,
+        ),
+        Engine::ThreeOpt => planner::improve::three_opt_improve(
+            5,
+            &flags,
+            &demand,
+            &zeros,
+            &zeros,
+            &due,
+            &penalty,
+            &gaps,
+            &[],
+            van,
+            visits,
+            lengths,
+            0,
+            limit,
+        ),
+    }
+}
+
+// The visits of a list, or that it has none.
+fn list(visits: &[u16]) {
+    if visits.len() == 0 {
+        text(b" none");
+        return;
+    }
+    print::visits(visits);
+}
+
+// One day: the list handed back, and how the run ended.
+fn day(words: &[u8], engine: Engine, flag: u8, visits: &mut [u16], lengths: &[u16], limit: u32) {
+    let answer = improve(engine, flag, visits, lengths, limit);
+    text(words);
+    list(visits);
+    improved(answer);
+}
+
+fn none(words: &[u8], engine: Engine) {
+    let mut visits = [0u16; 1];
+    day(words, engine, OPEN, &mut visits[0..0], &[0u16], ENOUGH);
+}
+
+pub fn two_opt() {
+    let mut first = [2u16, 1, 3];
+    day(
+        b"2-opt of 2,1,3:",
+        Engine::TwoOpt,
+        OPEN,
+        &mut first,
+        &[3u16],
+        ENOUGH,
+    );
+    let mut second = [2u16, 1, 3];
+    day(
+        b"2-opt of 2,1,3, limit 0:",
+        Engine::TwoOpt,
+        OPEN,
+        &mut second,
+        &[3u16],
+        0,
+    );
+    let mut third = [3u16, 1, 2];
+    day(
+        b"2-opt of 3,1,2, place 2 due 20, penalty 3:",
+        Engine::TwoOpt,
+        SOFT,
+        &mut third,
+        &[3u16],
+        ENOUGH,
+    );
+    none(b"2-opt of the empty list:", Engine::TwoOpt);
+}
+
+pub fn or_opt() {
+    let mut first = [3u16, 1, 2];
+    day(
+        b"Or-opt of 3,1,2:",
+        Engine::OrOpt,
+        OPEN,
+        &mut first,
+        &[3u16],
+        ENOUGH,
+    );
+    let mut second = [3u16, 1, 2];
+    day(
+        b"Or-opt of 3,1,2, place 2 due 20, penalty 3:",
+        Engine::OrOpt,
+        SOFT,
+        &mut second,
+        &[3u16],
+        ENOUGH,
+    );
+    none(b"Or-opt of the empty list:", Engine::OrOpt);
+}
+
+pub fn three_opt() {
+    let mut first = [2u16, 1, 3];
+    day(
+        b"3-opt of 2,1,3:",
+        Engine::ThreeOpt,
+        OPEN,
+        &mut first,
+        &[3u16],
+        ENOUGH,
+    );
+    let mut second = [1u16, 3, 2, 4];
+    day(
+        b"3-opt of 1,3,2,4:",
+        Engine::ThreeOpt,
+        OPEN,
+        &mut second,
+        &[4u16],
+        ENOUGH,
+    );
+    let mut third = [2u16, 4, 1, 3];
+    day(
+        b"3-opt of 2,4,1,3, place 2 due 20, penalty 3:",
+        Engine::ThreeOpt,
+        SOFT,
+        &mut third,
+        &[4u16],
+        ENOUGH,
+    );
+    none(b"3-opt of the empty list:", Engine::ThreeOpt);
+}
