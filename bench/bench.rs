@@ -264,6 +264,9 @@ impl Bench {
     /// One row. Times: about a second of rounds, of at least 20 microseconds each, and 5 at least.
     fn row(&self, name: &str, n: usize, each: [&mut dyn FnMut(); 3]) {
         let name = format!("{name}, {n}");
+        if !std::env::var("ROWS").is_ok_and(|part| name.contains(&part)) && std::env::var_os("ROWS").is_some() {
+            return;
+        }
         if self.counting {
             for (side, f) in ["rust", "refusals", "entry"].into_iter().zip(each) {
                 let label = format!("row {name} side {side}\0");
