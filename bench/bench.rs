@@ -5,6 +5,7 @@
 //!   bench            times, by calls in turn
 //!   bench count      one call of each side under callgrind, a dump a call; run.sh reads the dumps
 //!   bench FILE       times, with the instructions that FILE has for each row, as run.sh writes them
+//! ROWS in the environment is a part of the names of the rows to run; all where it isn't set.
 mod constructive;
 mod distance;
 mod evaluation;
@@ -264,7 +265,7 @@ impl Bench {
     /// One row. Times: about a second of rounds, of at least 20 microseconds each, and 5 at least.
     fn row(&self, name: &str, n: usize, each: [&mut dyn FnMut(); 3]) {
         let name = format!("{name}, {n}");
-        if !std::env::var("ROWS").is_ok_and(|part| name.contains(&part)) && std::env::var_os("ROWS").is_some() {
+        if std::env::var("ROWS").is_ok_and(|part| !name.contains(&part)) {
             return;
         }
         if self.counting {
@@ -340,9 +341,6 @@ macro_rules! engine {
         assert_eq!(port(), 0, "{} refuses the day of {} visits, {}", $name, $n, $kind_name);
         let got: Ran = (visits.iter().map(|&v| v as usize).collect(), distance.to_bits(), moves as u64, settled == 1);
         assert_eq!(got, expected, "{} on {} visits, {}", $name, $n, $kind_name);
-        if std::env::var_os("MOVES").is_some() {
-            println!("{} {} {}: {} moves, settled {}", $name, $kind_name, $n, moves, settled);
-        }
         let mut port = || {
             visits.copy_from_slice(&d.visits);
             black_box(call!($port, black_box(&d), d.van, visits.as_mut_ptr(), limit, &mut settled, &mut moves, &mut distance));

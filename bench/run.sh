@@ -3,6 +3,7 @@
 # call in turn. With --instructions it first counts the instructions of one call of each side by valgrind's callgrind: those are the
 # same at every run, also on a busy machine.
 #   SHARED   the folder with docs/src and oracle; by default the folder shared beside the repository
+#   ROWS     a part of the names of the rows to run, as 'soft windows, 30'; by default all of them, which takes about a minute
 #   LIBRARY  the static library; by default target/staticlib/libplanner_c.a, which `rt staticlib planner_c` writes
 set -euo pipefail
 counts=
@@ -26,4 +27,4 @@ valgrind --tool=callgrind --callgrind-out-file="$out/dumps/count" "$out/bench" c
 for dump in $(ls -v "$out"/dumps/count.*); do
     sed -n -e 's/^desc: Trigger: Client Request: row \(.*\) side .*/\1/p' -e 's/^\(totals\|summary\): //p' "$dump" | head -2 | paste -s
 done | awk -F'\t' '{ if ($1 != row) { if (row != "") print line; row = $1; line = row } line = line "\t" $2 } END { print line }' > "$out/instructions"
-if [ -z "${ONLY_COUNT:-}" ]; then "$out/bench" "$out/instructions"; fi
+"$out/bench" "$out/instructions"
