@@ -1,4 +1,5 @@
 pub mod Choosing
+pub mod Skipping
 pub mod Moved
 pub mod Sizes
 pub mod Running
