@@ -1,9 +1,9 @@
 -- Or-opt as its functions state it: what stays the same over a run, the choice among candidates, and where a move leads. For src/. Assumes nothing.
 use mathlib.Core.Path.{_≡_}
 use mathlib.Core.Logic.{_⊎_}
-use mathlib.Core.Bool.{Bool, true, false}
+use mathlib.Core.Bool.{Bool, true}
 use mathlib.Core.Option.{Option, none, some}
-use mathlib.Core.List.{List, [], _∷_, _++_, map}
+use mathlib.Core.List.{List, [], _++_, map}
 use Prim.Native.Nat.{ℕ, suc, _+_, _≤_, _<_}
 use lib.Ieee.{Float, neg, lt}
 use Rattle.numbers.specs.Operations.{zero64}
@@ -79,11 +79,6 @@ to-each size from = map (λ to. record { size = size; from = from; to = to })
 -- the positions that a piece may take: before its start, or behind its end up to the last
 abbrev pub row : ℕ → ℕ → ℕ → List Piece
 row n size from = to-each size from (range 0 from ++ range (suc (from + size)) (suc (last-position n size)))
-
--- the positions from the first on whose delta is below a bar
-unfoldable pub fromBelow : (ℕ → Float) → Float → List ℕ → List ℕ
-fromBelow delta most [] = []
-fromBelow delta most (to ∷ tos) = elim (lt (delta to) most) [ true ↦ to ∷ tos | false ↦ fromBelow delta most tos ]
 
 -- ---- the best so far
 

@@ -5,9 +5,6 @@
 // shows that the rest equals the whole. The Rust's one test against the best so far is the definition's two, as what is below the best also counts.
 use day::matrix::scale;
 use day::vehicle::RouteLimits;
-use deltas::around;
-use deltas::detour;
-use deltas::ends_of;
 use deltas::piece_insertion;
 use deltas::removal_gain;
 use edits::append;
@@ -22,7 +19,7 @@ ghost use mathlib.Core.List.{[], _∷_};
 ghost use Prim.Native.Nat.{suc, _+_, _<_, _≤_};
 ghost use lib.ListN.{length};
 ghost use Rattle.numbers.specs.Operations.{zero64};
-ghost use Rattle.day.specs.Matrix.{leg, Square};
+ghost use Rattle.day.specs.Matrix.{leg};
 ghost use Rattle.evaluation.specs.Columns.{columnsAt, Formed, Visits};
 ghost use Rattle.evaluation.specs.Route.{feasible};
 ghost use Rattle.descent.specs.Order.{range};
@@ -30,11 +27,11 @@ ghost use Rattle.descent.specs.Permitted.{or-opt, n-minus-length};
 ghost use Rattle.descent.specs.Search.{taken, firstMove, next};
 ghost use Rattle.descent.specs.Within.{put-before};
 ghost use Rattle.descent.specs.Engines.{run-of};
-ghost use Rattle.deltas.specs.Deltas.{Listed, removalGain, orOptDelta};
+ghost use Rattle.deltas.specs.Deltas.{removalGain};
 ghost use Rattle.deltas.specs.Judged.{float-judge};
 ghost use Rattle.engine.specs.Engine.{checksOf, mapOf, endedAs, passing};
 ghost use Rattle.or_opt.specs.OrOpt.{last-position, searchOf, judgeOf, Asked, Fits, choice, to-each, row};
-ghost use Rattle.or_opt.specs.OrOpt.{pieceOf, barOf, Known, Apt, leads, fromBelow};
+ghost use Rattle.or_opt.specs.OrOpt.{pieceOf, barOf, Known, Apt, leads};
 
 // What stays the same over a run.
 pub struct Terms {
@@ -228,39 +225,6 @@ fn consider(
     })
 }
 
-// The first position from `start` up to `end` at which the piece changes the distance by less than `most`, and `end` where there is none. Nothing
-// but sums of legs is worked out here: it is the loop in which a search spends its time.
-fn next_below(
-    l: usize,
-    distances: &[f64],
-    depot: usize,
-    list: &[u16],
-    piece: Segment,
-    start: usize,
-    end: usize,
-    most: f64,
-) -> usize
-    requires { ⌜ Square l (now distances) × Listed l depot (now list) ⌝ }
-    requires { ⌜ (piece .from + piece .size ≤ length (now list)) × (end ≤ suc (length (now list))) × (length (now list) ≤ 63) ⌝ }
-    requires { ⌜ piece .gain ≡ removalGain (leg l (now distances)) depot (now list) (piece .size) (piece .from) ⌝ }
-    ensures { λ r.
-        ⌜ (start ≤ r)
-        × (range r end
-        ≡ fromBelow (orOptDelta (leg l (now (distances .entry))) depot (now (list .entry)) (piece .size) (piece .from)) most (range start end)) ⌝ }
-{
-    let ends = ends_of(depot, list, piece.from, piece.from + piece.size);
-    let mut to = start;
-    while to < end {
-        let stops = around(depot, list, to, to);
-        let cost = detour(l, distances, stops, ends);
-        if cost - piece.gain < most {
-            return to;
-        }
-        to += 1;
-    }
-    to
-}
-
 // The best with the positions from `start` up to `end`, all of them before the piece or behind it.
 fn best_between(
     flags: &[u8],
@@ -287,11 +251,8 @@ fn best_between(
         (pieceOf r ≡ choice c terms (now (list .entry)) (pieceOf best) (to-each (piece .size) (piece .from) (range start end)))
         × Known c terms (now (list .entry)) r) ⌝ }
 {
-    let l = terms.l;
-    let depot = terms.depot;
     let mut found = best;
-    let first = bar(terms.floor, best);
-    let mut to = next_below(l, distances, depot, list, piece, start, end, first);
+    let mut to = start;
     while to < end {
         found = consider(
             flags,
@@ -307,8 +268,7 @@ fn best_between(
             to,
             found,
         );
-        let most = bar(terms.floor, found);
-        to = next_below(l, distances, depot, list, piece, to + 1, end, most);
+        to += 1;
     }
     found
 }
