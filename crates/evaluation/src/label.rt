@@ -6,8 +6,10 @@ use day::vehicle::VehicleBreak;
 use tests::both;
 use tests::either;
 ghost use mathlib.Core.Path.{_≡_};
+ghost use mathlib.Core.Bool.{cond};
 ghost use Rattle.numbers.specs.Total.{larger};
-ghost use Rattle.day.specs.declared.customer.Window.the-variants.{Hard};
+ghost use Rattle.day.specs.Customer.{isViolated, latenessAt};
+ghost use Rattle.day.specs.declared.customer.Window.the-variants.{Hard, Soft};
 ghost use Rattle.evaluation.specs.Label.{atStart, inTime, tooLate, servedIn, resting, served, servedRested, isServed};
 ghost use Rattle.evaluation.specs.Label.{servedFrom, servedRestedFrom, isEarlier, earlierOf};
 
@@ -92,6 +94,35 @@ fn serve_hard(label: Label, span: TimeWindow, ready: f64, service: f64) -> Reach
     in_time(label, ready + 0.0, service)
 }
 
+// The service at a soft window that begins at this time: late or not.
+fn serve_soft_from(
+    label: Label,
+    span: TimeWindow,
+    penalty: f64,
+    ready: f64,
+    begin: f64,
+    service: f64,
+) -> Reached
+    ensures { λ r.
+        ⌜ r ≡ cond (isViolated span ready) (tooLate label begin service (latenessAt span ready) penalty) (inTime label begin service) ⌝ }
+{
+    if span.is_violated(ready) {
+        return too_late(label, begin, service, span.lateness(ready), penalty);
+    }
+    in_time(label, begin, service)
+}
+
+// The service at a soft window. Whether the van waits is asked first, as at a hard one.
+fn serve_soft(label: Label, span: TimeWindow, penalty: f64, ready: f64, service: f64) -> Reached
+    ensures { λ r. ⌜ r ≡ servedIn (Soft span penalty) label ready service ⌝ }
+{
+    if ready < span.ready {
+        let begin = ready + (span.ready - ready);
+        return serve_soft_from(label, span, penalty, ready, begin, service);
+    }
+    serve_soft_from(label, span, penalty, ready, ready + 0.0, service)
+}
+
 // The service of a stop for which the van is ready at this time: the wait for its window, and what being late means there.
 fn serve_at(label: Label, ready: f64, stop: Stop) -> Reached
     ensures { λ r. ⌜ r ≡ servedIn (stop .window) label ready (stop .service) ⌝ }
@@ -101,13 +132,7 @@ fn serve_at(label: Label, ready: f64, stop: Stop) -> Reached
     match window {
         Window::Open => in_time(label, ready, service),
         Window::Hard(span) => serve_hard(label, span, ready, service),
-        Window::Soft(span, penalty) => {
-            let begin = ready + span.waiting_time(ready);
-            if span.is_violated(ready) {
-                return too_late(label, begin, service, span.lateness(ready), penalty);
-            }
-            in_time(label, begin, service)
-        }
+        Window::Soft(span, penalty) => serve_soft(label, span, penalty, ready, service),
     }
 }
 

@@ -1,1 +1,2 @@
 pub mod ThreeOpt
+pub mod Below

@@ -3,7 +3,8 @@
 // search starts again.
 //
 // The Rust sorts the patterns that count and takes the first that passes. Here they are scanned in order, and one is tested only where its delta is
-// below the best that passed so far: the same answer, and where none passes, which is where a search spends its time, the same tests.
+// below the best that passed so far: the same answer, and where none passes, which is where a search spends its time, the same tests. Before that scan
+// it is asked whether any counts.
 use day::matrix::is_symmetric;
 use day::matrix::scale;
 use day::vehicle::RouteLimits;
@@ -16,6 +17,7 @@ use engine::Ended;
 use engine::passes;
 use evaluation::route::route_checks_needed;
 use numbers::gain_floor;
+use tests::either;
 ghost use mathlib.Core.Path.{_≡_};
 ghost use mathlib.Core.Bool.{true};
 ghost use mathlib.Core.List.{[], _++_};
@@ -23,18 +25,20 @@ ghost use Prim.Native.Nat.{_+_, _-_, _<_, _≤_};
 ghost use lib.ListN.{length, take};
 ghost use lib.Seq.{slice};
 ghost use Rattle.numbers.specs.Operations.{zero64};
-ghost use Rattle.day.specs.Matrix.{leg};
+ghost use Rattle.day.specs.Matrix.{leg, Square};
 ghost use Rattle.day.specs.Refusal.{allPlain};
 ghost use Rattle.evaluation.specs.Columns.{columnsAt, Formed, Visits};
 ghost use Rattle.descent.specs.Permitted.{turn, arranged, three-opt};
 ghost use Rattle.descent.specs.Search.{taken};
 ghost use Rattle.descent.specs.Within.{reconnect};
 ghost use Rattle.descent.specs.Engines.{run-of};
+ghost use Rattle.deltas.specs.Changes.{Placed};
 ghost use Rattle.deltas.specs.Deltas.{cutAt};
 ghost use Rattle.deltas.specs.Judged.{float-judge};
 ghost use Rattle.engine.specs.Engine.{passing, checksOf, mapOf, endedAs};
 ghost use Rattle.three_opt.specs.ThreeOpt.{searchOf, judgeOf, Prepared, Inside, cutOf, wayOf, arrangement, reconnection};
 ghost use Rattle.three_opt.specs.ThreeOpt.{moveOf, better, placeAfter};
+ghost use Rattle.three_opt.specs.Below.{anyBelow};
 
 // What is worked out once before the first move.
 struct Setup {
@@ -282,6 +286,22 @@ fn better_of(
     Choice { pattern, delta }
 }
 
+// Whether one of the seven patterns is below a bar. At most places none is, so all are asked at once, with no branch between them.
+fn any_below(l: usize, distances: &[f64], cut: Cut, bar: f64) -> bool
+    requires { ⌜ Square l (now distances) × Placed l (cut .around) × Placed l (cut .b) × Placed l (cut .c) ⌝ }
+    ensures { λ r. ⌜ r ≡ anyBelow (leg l (now (distances .entry))) cut bar ⌝ }
+{
+    let one = pattern_change(l, distances, cut, false, false, true) < bar;
+    let two = pattern_change(l, distances, cut, false, true, false) < bar;
+    let three = pattern_change(l, distances, cut, false, true, true) < bar;
+    let four = pattern_change(l, distances, cut, true, false, false) < bar;
+    let five = pattern_change(l, distances, cut, true, true, false) < bar;
+    let six = pattern_change(l, distances, cut, true, false, true) < bar;
+    let seven = pattern_change(l, distances, cut, true, true, true) < bar;
+    let swapped = either(four, either(five, either(six, seven)));
+    either(one, either(two, either(three, swapped)))
+}
+
 // The pattern to take at a place.
 fn best_pattern(
     setup: Setup,
@@ -314,9 +334,13 @@ fn best_pattern(
         place.j,
         place.k,
     );
+    let bar = -setup.floor;
+    if !any_below(setup.l, distances, cut, bar) {
+        return 0;
+    }
     let mut best = Choice {
         pattern: 0,
-        delta: -setup.floor,
+        delta: bar,
     };
     let mut pattern = 1;
     while pattern < 8 {
