@@ -1,6 +1,6 @@
 //! Which days and runs are stored, with the reference's answers.
 use crate::days::day::{Day, Run};
-use crate::days::families::{day, engines_named, FAMILIES, WITHIN};
+use crate::days::families::{day, engines_named, ACROSS, FAMILIES, WITHIN};
 use crate::days::options::{fail, Options};
 use crate::days::text::Reader;
 use crate::encode;
@@ -16,6 +16,10 @@ const LIMITS: [i64; 4] = [0, 1, 2, 3];
 const LARGE: i64 = u32::MAX as i64;
 const LARGE_FOR_MANY: i64 = 6;
 const MANY: usize = 24;
+/// The same for the engines over all lists, of which some runs never end.
+const LARGE_ACROSS: i64 = 40;
+/// The engines over all lists that are stored: cross-depot isn't.
+const STORED_ACROSS: usize = 3;
 
 type Answered = (Day, Lines);
 
@@ -35,11 +39,11 @@ pub fn checks(options: &Options, reference: &Program) -> Vec<Vec<u8>> {
     })
 }
 
-/// Days of any size with runs of the engines within a list, families in turn.
+/// Days of any size with runs of the engines, families in turn.
 pub fn engines(options: &Options, reference: &Program) -> Vec<Vec<u8>> {
-    let (seed, largest) = (options.number("seed", 1), options.number("engines-largest", 6_000) as usize);
+    let (seed, largest) = (options.number("seed", 1), options.number("engines-largest", 7_000) as usize);
     in_turn(|family| {
-        let days = (0..TRIED_ENGINES).map(|number| asking_within(day(family, seed, number, false, &[]))).collect();
+        let days = (0..TRIED_ENGINES).map(|number| asking_engines(day(family, seed, number, false, &[]))).collect();
         let told = answered(days, reference).into_iter().enumerate();
         let moving = told.filter(|(number, (_, lines))| number % IDLE == 0 || lines.iter().any(|line| moves(line) > 0));
         encoded(moving.map(|(_, day)| without_repeats(day)).collect(), largest)
@@ -79,16 +83,24 @@ fn kept_days(options: &Options) -> Vec<Day> {
     days
 }
 
-/// The day with every engine within a list, every list and every limit asked for, the largest limit last.
-fn asking_within(mut day: Day) -> Day {
-    let large = if day.locations() > MANY { LARGE_FOR_MANY } else { LARGE };
+/// The day with every engine, every list and every limit asked for.
+fn asking_engines(mut day: Day) -> Day {
+    let many = day.locations() > MANY;
     for engine in WITHIN {
         for list in 0..day.lists.len() as u64 {
-            let limits = LIMITS.into_iter().chain([large]);
-            day.runs.extend(limits.map(|limit| Run { engine: engine.to_string(), limit, list }));
+            ask(&mut day, engine, list, if many { LARGE_FOR_MANY } else { LARGE });
         }
     }
+    for engine in &ACROSS[..STORED_ACROSS] {
+        ask(&mut day, engine, 0, if many { LARGE_FOR_MANY } else { LARGE_ACROSS });
+    }
     day
+}
+
+/// Asks for one engine with every limit, the largest last.
+fn ask(day: &mut Day, engine: &str, list: u64, large: i64) {
+    let limits = LIMITS.into_iter().chain([large]);
+    day.runs.extend(limits.map(|limit| Run { engine: engine.to_string(), limit, list }));
 }
 
 /// The moves that a line of an engine tells.

@@ -132,8 +132,15 @@ fn run(input: &mut Bytes, lists: &[Vec<u16>], tag: u8) -> Option<Option<(Run, St
         16 => "two_opt",
         17 => "or_opt",
         18 => "three_opt",
+        19 => "relocate",
+        20 => "relocate_np",
+        21 => "exchange",
         _ => return Some(None),
     };
+    if tag > 18 {
+        let limit = input.whole()? as i64;
+        return Some(Some((Run { engine: engine.to_string(), limit, list: 0 }, end_of_all(input, lists)?)));
+    }
     let list = u64::from(input.byte()?);
     let limit = if tag < 16 { 0 } else { input.whole()? as i64 };
     let answer = match tag {
@@ -163,6 +170,21 @@ fn totals(input: &mut Bytes, schedule: bool) -> Option<String> {
 fn end(input: &mut Bytes, length: usize) -> Option<String> {
     let word = if input.byte()? == 0 { "settled" } else { "stopped" };
     let (moves, distance) = (input.whole()?, input.hexes(1)?);
-    let list: Vec<String> = input.bytes(length)?.iter().map(u8::to_string).collect();
-    Some(format!("{word} {moves} {distance} [{}]", list.join(",")))
+    Some(format!("{word} {moves} {distance} [{}]", visits(input, length)?))
+}
+
+fn visits(input: &mut Bytes, count: usize) -> Option<String> {
+    Some(input.bytes(count)?.iter().map(u8::to_string).collect::<Vec<_>>().join(","))
+}
+
+/// How a run over all lists ended, the lists handed back and how many remain. The lengths behind these are 0, and all visits are there.
+fn end_of_all(input: &mut Bytes, lent: &[Vec<u16>]) -> Option<String> {
+    let word = if input.byte()? == 0 { "settled" } else { "stopped" };
+    let (moves, remaining) = (input.whole()?, usize::from(input.byte()?));
+    let lengths: Vec<usize> = input.bytes(lent.len())?.into_iter().map(usize::from).collect();
+    if lengths.iter().sum::<usize>() != lent.iter().map(Vec::len).sum() || lengths.iter().skip(remaining).any(|length| *length > 0) {
+        return None;
+    }
+    let lists: Option<Vec<String>> = lengths.iter().take(remaining).map(|length| visits(input, *length)).collect();
+    Some(format!("{word} {moves} [{}] {remaining}", lists?.join("|")))
 }

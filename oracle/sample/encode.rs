@@ -5,8 +5,18 @@ use crate::days::day::{Day, Run};
 const TABLED: u8 = 128;
 
 /// The runs that are stored, with their tags.
-pub const TAGS: [(&str, u8); 7] =
-    [("feasible", 1), ("eval", 2), ("schedule", 3), ("distance", 4), ("two_opt", 16), ("or_opt", 17), ("three_opt", 18)];
+pub const TAGS: [(&str, u8); 10] = [
+    ("feasible", 1),
+    ("eval", 2),
+    ("schedule", 3),
+    ("distance", 4),
+    ("two_opt", 16),
+    ("or_opt", 17),
+    ("three_opt", 18),
+    ("relocate", 19),
+    ("relocate_np", 20),
+    ("exchange", 21),
+];
 
 pub const ENDS: [&str; 2] = ["settled", "stopped"];
 
@@ -62,7 +72,7 @@ pub fn day(day: &Day, lines: &[String]) -> Option<Vec<u8>> {
     rest.extend(day.lists.iter().flatten().map(|visit| *visit as u8));
     rest.push(u8::try_from(day.runs.len()).ok()?);
     for (run, line) in day.runs.iter().zip(lines) {
-        let (tag, payload) = answer(run, line, &mut table)?;
+        let (tag, payload) = answer(run, line, day.lists.len(), &mut table)?;
         rest.extend([tag, u8::try_from(payload.len()).ok()?]);
         rest.extend(payload);
     }
@@ -97,9 +107,12 @@ fn van(day: &Day, table: &mut Table, out: &mut Vec<u8>) -> Option<()> {
 }
 
 /// The run's tag and what stands behind its size.
-fn answer(run: &Run, line: &str, table: &mut Table) -> Option<(u8, Vec<u8>)> {
+fn answer(run: &Run, line: &str, lists: usize, table: &mut Table) -> Option<(u8, Vec<u8>)> {
     let words: Vec<&str> = line.split(' ').skip(1).collect();
     let tag = tag(&run.engine)?;
+    if let ("relocate" | "relocate_np" | "exchange", [end, moves, back, remaining]) = (run.engine.as_str(), &words[..]) {
+        return Some((tag, over_all_lists(run.limit, [end, moves, back, remaining], lists, table)?));
+    }
     let mut out = vec![run.list as u8];
     match (run.engine.as_str(), &words[..]) {
         ("feasible", [passes]) => out.push(passes.parse().ok()?),
@@ -122,15 +135,35 @@ fn answer(run: &Run, line: &str, table: &mut Table) -> Option<(u8, Vec<u8>)> {
 
 /// Limit, end word, moves, distance and the list handed back.
 fn put_end(out: &mut Vec<u8>, limit: i64, [end, moves, distance, list]: [&str; 4], table: &mut Table) -> Option<()> {
+    put_word(out, limit, end, moves, table)?;
+    out.push(table.hex(distance)?);
+    out.extend(visits(list.strip_prefix('[')?.strip_suffix(']')?)?);
+    Some(())
+}
+
+/// Limit, end word, moves, the lists that remain, the lengths of as many lists as were lent, and all visits.
+fn over_all_lists(limit: i64, [end, moves, back, remaining]: [&str; 4], lent: usize, table: &mut Table) -> Option<Vec<u8>> {
+    let mut out = Vec::new();
+    put_word(&mut out, limit, end, moves, table)?;
+    let remaining: u8 = remaining.parse().ok()?;
+    out.push(remaining);
+    let parts = back.strip_prefix('[')?.strip_suffix(']')?.split('|').take(usize::from(remaining));
+    let lists: Vec<Vec<u8>> = parts.map(visits).collect::<Option<_>>()?;
+    let lengths = lists.iter().map(|list| list.len() as u8).chain(std::iter::repeat(0));
+    out.extend(lengths.take(lent));
+    out.extend(lists.iter().flatten());
+    Some(out)
+}
+
+fn put_word(out: &mut Vec<u8>, limit: i64, end: &str, moves: &str, table: &mut Table) -> Option<()> {
     out.push(table.whole(u64::try_from(limit).ok()?)?);
     out.push(ENDS.iter().position(|word| *word == end)? as u8);
     out.push(table.whole(moves.parse().ok()?)?);
-    out.push(table.hex(distance)?);
-    let visits = list.strip_prefix('[')?.strip_suffix(']')?;
-    for visit in visits.split(',').filter(|visit| !visit.is_empty()) {
-        out.push(visit.parse().ok()?);
-    }
     Some(())
+}
+
+fn visits(list: &str) -> Option<Vec<u8>> {
+    list.split(',').filter(|visit| !visit.is_empty()).map(|visit| visit.parse().ok()).collect()
 }
 
 fn put_some(out: &mut Vec<u8>, numbers: &[&str], table: &mut Table) -> Option<()> {

@@ -2,7 +2,7 @@
 //!   sample write FILE [--kept DAYS] [--seed N] [--bytes N] [--largest N] [--runs NAME,..] [--engines-bytes N]
 //!                     [--engines-largest N] [--reference PROGRAM]
 //!                                               the days of the text file DAYS first, then generated ones: small days
-//!                                               for the checks, then days for the engines within a list
+//!                                               for the checks, then days for the engines
 //!   sample check FILE [--reference PROGRAM]     reads the file back and holds it to the reference
 //!   sample count FILE                           prints how many runs it has of each kind and answer
 //!   sample text FILE                            prints it in the text format
@@ -42,7 +42,7 @@ fn write(file: &str, options: &Options, reference: &Program) {
     let mut count = 0;
     count += put(&mut out, choose::kept(options, reference), room);
     count += put(&mut out, choose::checks(options, reference), room);
-    let room = out.len() + options.number("engines-bytes", 240_000) as usize;
+    let room = out.len() + options.number("engines-bytes", 350_000) as usize;
     count += put(&mut out, choose::engines(options, reference), room);
     out[..2].copy_from_slice(&count.to_le_bytes());
     if std::fs::write(file, &out).is_err() {

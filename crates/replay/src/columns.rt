@@ -74,7 +74,7 @@ pub fn places(day: &[u8], at: usize, n: usize) -> [u16; 64]
     column
 }
 
-// The visit at a place of a table, 0 where there is none.
+// The visit or length at a place of a table, 0 where there is none.
 pub fn visit_at(visits: &[u16], place: usize) -> u16 {
     if place < visits.len() {
         return visits[place];
@@ -82,7 +82,7 @@ pub fn visit_at(visits: &[u16], place: usize) -> u16 {
     0
 }
 
-// The visits once more, to be changed.
+// The visits or lengths once more, to be changed.
 pub fn copied(visits: &[u16]) -> [u16; 64]
     ensures { λ r. ⌜ 64 ≡ length r ⌝ }
 {

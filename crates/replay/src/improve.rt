@@ -6,6 +6,7 @@ use crate::bytes::is_known;
 use crate::bytes::part;
 use crate::bytes::value;
 use crate::columns;
+use crate::stored;
 use crate::stored::is_count;
 use crate::stored::is_number;
 use day::vehicle::Van;
@@ -22,10 +23,6 @@ pub const THREE_OPT: u8 = 18;
 // The bytes before the list handed back: list, limit, end word, moves, distance.
 const BEFORE: usize = 5;
 
-const SETTLED: u8 = 0;
-
-const STOPPED: u8 = 1;
-
 fn is_end(run: &[u8], table: &[u8], word: u8, moves: u32, distance: f64) -> bool {
     if byte_at(run, 2) != word || !is_count(run, table, 3, moves) {
         return false;
@@ -40,11 +37,11 @@ fn ends_as_stored(run: &[u8], table: &[u8], answer: Improved) -> bool {
         Improved::Settled {
             moves: a,
             distance: b,
-        } => is_end(run, table, SETTLED, a, b),
+        } => is_end(run, table, stored::SETTLED, a, b),
         Improved::Stopped {
             moves: a,
             distance: b,
-        } => is_end(run, table, STOPPED, a, b),
+        } => is_end(run, table, stored::STOPPED, a, b),
     }
 }
 

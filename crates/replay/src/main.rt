@@ -7,6 +7,7 @@ mod columns; // the parts of a day as tables to lend
 mod whole; // whether the file has the stored form
 mod stored; // whether an answer is the one stored
 mod improve; // the kinds of run that change one list
+mod rearrange; // the kinds of run that change all lists
 mod runs; // one function for each kind of run
 mod score; // how many runs of a kind agree
 
@@ -34,6 +35,9 @@ fn replay(data: &[u8]) {
     line(b"two_opt ", data, improve::TWO_OPT);
     line(b"or_opt ", data, improve::OR_OPT);
     line(b"three_opt ", data, improve::THREE_OPT);
+    line(b"relocate ", data, rearrange::RELOCATE);
+    line(b"relocate_np ", data, rearrange::RELOCATE_WITHOUT_PRUNING);
+    line(b"exchange ", data, rearrange::EXCHANGE);
 }
 
 // Room for the file, 524,288 bytes.

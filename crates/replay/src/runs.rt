@@ -3,6 +3,7 @@
 use crate::bytes::byte_at;
 use crate::bytes::count_at;
 use crate::improve;
+use crate::rearrange;
 use crate::stored::is_number;
 use day::vehicle::Van;
 use evaluation::label::Taken;
@@ -217,6 +218,62 @@ fn distance(
     }
 }
 
+// Whether the planner's answer to a run that changes lists is the stored one.
+fn engine_agrees(
+    tag: u8,
+    run: &[u8],
+    table: &[u8],
+    l: usize,
+    flags: &[u8],
+    demand: &[i32],
+    service: &[f64],
+    ready: &[f64],
+    due: &[f64],
+    penalty: &[f64],
+    distances: &[f64],
+    times: &[f64],
+    van: Van,
+    visits: &[u16],
+    lengths: &[u16],
+) -> bool {
+    if tag < rearrange::RELOCATE {
+        return improve::agrees(
+            tag,
+            run,
+            table,
+            l,
+            flags,
+            demand,
+            service,
+            ready,
+            due,
+            penalty,
+            distances,
+            times,
+            van,
+            visits,
+            lengths,
+        );
+    }
+    rearrange::agrees(
+        tag,
+        run,
+        table,
+        l,
+        flags,
+        demand,
+        service,
+        ready,
+        due,
+        penalty,
+        distances,
+        times,
+        van,
+        visits,
+        lengths,
+    )
+}
+
 // Whether the planner's answer to a run is the stored one.
 pub fn agrees(
     tag: u8,
@@ -299,7 +356,7 @@ pub fn agrees(
             visits,
             lengths,
         ),
-        _ => improve::agrees(
+        _ => engine_agrees(
             tag,
             run,
             table,

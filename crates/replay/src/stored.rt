@@ -5,6 +5,11 @@ use crate::bytes::number;
 use crate::bytes::same;
 use crate::bytes::value;
 
+// The end words.
+pub const SETTLED: u8 = 0;
+
+pub const STOPPED: u8 = 1;
+
 // Whether a number is the one stored at a place of the run.
 pub fn is_number(run: &[u8], table: &[u8], at: usize, x: f64) -> bool {
     let byte = byte_at(run, at);

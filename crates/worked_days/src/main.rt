@@ -6,6 +6,7 @@ mod check; // distance, windows, break
 mod table; // what the searches work out of a table
 mod asked; // the list asked for
 mod improve; // 2-opt, Or-opt, 3-opt
+mod rearrange; // relocate, tail exchange
 mod refused; // refusals 1 to 10
 
 fn main() {
@@ -19,6 +20,8 @@ fn main() {
     improve::two_opt();
     improve::or_opt();
     improve::three_opt();
+    rearrange::relocate();
+    rearrange::exchange();
     refused::by_size();
     refused::by_numbers();
     refused::by_van();
