@@ -1,0 +1,4 @@
+pub mod Fleet
+pub mod Boxes
+pub mod CrossDepot
+pub mod Scan
