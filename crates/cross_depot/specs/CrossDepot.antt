@@ -137,42 +137,41 @@ dropped p = record {
 
 -- ---- the search
 
-module _ (c : Columns) (demand : List ℤ) (fleet : Fleet) where
-  -- two lists by number, with their vans and what they cost together
-  unfoldable pub pairOf : Plan → ℕ → ℕ → Pair
-  pairOf p a b = record {
-    one = a;
-    other = b;
-    van1 = fleetVehicle fleet (getD (p .ids) a 0);
-    van2 = fleetVehicle fleet (getD (p .ids) b 0);
-    before = getD (p .costs) a nan ⊕ getD (p .costs) b nan;
-  }
+-- two lists by number, with their vans and what they cost together, of the columns of ids and costs
+unfoldable pub pairOf : Fleet → List ℕ → List Float → ℕ → ℕ → Pair
+pairOf fleet ids costs a b = record {
+  one = a;
+  other = b;
+  van1 = fleetVehicle fleet (getD ids a 0);
+  van2 = fleetVehicle fleet (getD ids b 0);
+  before = getD costs a nan ⊕ getD costs b nan;
+}
 
-  -- 'Relocate: out of `a`, into `b`'; 'Swap, each pair of routes once'; 'Tail exchange'
-  unfoldable pub betweenLists : List (List ℕ) → Pair → List Move
-  betweenLists ls pair =
-      let a = pair .one in
-      let b = pair .other in
-      let n1 = length (at ls a) in
-      let n2 = length (at ls b) in
-      relocations a b n1 n2 ++ cond (ltb a b) (swaps a b n1 n2 ++ tailExchanges a b n1 n2) []
+-- 'Relocate: out of `a`, into `b`'; 'Swap, each pair of routes once'; 'Tail exchange'
+unfoldable pub betweenLists : ℕ → ℕ → ℕ → ℕ → List Move
+betweenLists a b n1 n2 = relocations a b n1 n2 ++ cond (ltb a b) (swaps a b n1 n2 ++ tailExchanges a b n1 n2) []
 
-  -- the moves between two lists, if their vans start from different depots; a list and itself have one depot
-  unfoldable pub ofPair : Plan → ℕ → ℕ → List Move
-  ofPair p a b =
-      let pair = pairOf p a b in
-      cond (eqb (pair .van1 .depot) (pair .van2 .depot)) [] (betweenLists (p .lists) pair)
+-- both vans start from one depot; so do those of a list and itself
+abbrev pub sameDepot : Pair → Bool
+sameDepot pair = eqb (pair .van1 .depot) (pair .van2 .depot)
+
+module _ (fleet : Fleet) (p : Plan) where
+  -- the moves between two lists, if their vans start from different depots
+  unfoldable pub ofPair : ℕ → ℕ → List Move
+  ofPair a b =
+      cond (sameDepot (pairOf fleet (p .ids) (p .costs) a b)) [] (betweenLists a b (length (at (p .lists) a)) (length (at (p .lists) b)))
 
   -- `for a in 0..routes.len()`, `for b in 0..routes.len()`
-  unfoldable pub moves : Plan → List Move
-  moves p = each (range 0 (length (p .lists))) λ a. each (range 0 (length (p .lists))) λ b. ofPair p a b
+  unfoldable pub moves : List Move
+  moves = each (range 0 (length (p .lists))) λ a. each (range 0 (length (p .lists))) (ofPair a)
 
+module _ (c : Columns) (demand : List ℤ) (fleet : Fleet) where
   -- what each of the two lists costs then, if its van allows it
   unfoldable pub firstPrice : Plan → Move → Price
-  firstPrice p m = allowed c demand (m .tested) (pairOf p (m .one) (m .other) .van1) (first (p .lists) m)
+  firstPrice p m = allowed c demand (m .tested) (fleetVehicle fleet (getD (p .ids) (m .one) 0)) (first (p .lists) m)
 
   unfoldable pub secondPrice : Plan → Move → Price
-  secondPrice p m = allowed c demand true (pairOf p (m .one) (m .other) .van2) (second (p .lists) m)
+  secondPrice p m = allowed c demand true (fleetVehicle fleet (getD (p .ids) (m .other) 0)) (second (p .lists) m)
 
   -- the plan after a move: both lists, what they cost, and the empty lists dropped
   unfoldable pub moved : Plan → Move → Plan
@@ -186,7 +185,7 @@ module _ (c : Columns) (demand : List ℤ) (fleet : Fleet) where
   unfoldable pub searchOf : Search Plan Unit Move
   searchOf = record {
     places = λ p. tt ∷ [];
-    candidates = λ p place. moves p;
+    candidates = λ p place. moves fleet p;
     passes = λ p m. hasPrice (firstPrice p m) && hasPrice (secondPrice p m);
     made = moved;
     after = begins-again;
@@ -195,7 +194,7 @@ module _ (c : Columns) (demand : List ℤ) (fleet : Fleet) where
   -- `cost_a + cost_b - before`, which counts below minus the floor; the greatest gain is the least delta
   unfoldable pub judgeOf : Judge Plan Move Float
   judgeOf = record {
-    delta = λ p m. amount (firstPrice p m) ⊕ amount (secondPrice p m) ⊖ pairOf p (m .one) (m .other) .before;
+    delta = λ p m. amount (firstPrice p m) ⊕ amount (secondPrice p m) ⊖ (getD (p .costs) (m .one) nan ⊕ getD (p .costs) (m .other) nan);
     counts = λ d. lt d (neg (gainFloor (scaleOf (c .distances))));
     less = lt;
   }

@@ -25,22 +25,28 @@ pub record Fleet : Type 0 where
   pub latest : List Float
   pub durations : List Float
 
+-- the fleet of these columns
+abbrev pub fleetOf : List ℕ → List ℕ → List ℤ → List Float → List Float → List ℕ → List Float → List Float → List Float → List Float → List Float → Fleet
+fleetOf ids depots capacities per-distance fixed flags most-distance most-duration earliest latest durations = record {
+  ids = ids;
+  depots = depots;
+  capacities = capacities;
+  «distance_costs» = per-distance;
+  «fixed_costs» = fixed;
+  flags = flags;
+  «max_distances» = most-distance;
+  «max_durations» = most-duration;
+  earliest = earliest;
+  latest = latest;
+  durations = durations;
+}
+
 -- the fleet that a call is lent, as its columns stand: for contracts
 abbrev pub fleetAt : RefT (List ℕ) → RefT (List ℕ) → RefT (List ℤ) → RefT (List Float) → RefT (List Float) → RefT (List ℕ) → RefT (List Float)
     → RefT (List Float) → RefT (List Float) → RefT (List Float) → RefT (List Float) → Fleet
-fleetAt ids depots capacities per-distance fixed flags most-distance most-duration earliest latest durations = record {
-  ids = now ids;
-  depots = now depots;
-  capacities = now capacities;
-  «distance_costs» = now per-distance;
-  «fixed_costs» = now fixed;
-  flags = now flags;
-  «max_distances» = now most-distance;
-  «max_durations» = now most-duration;
-  earliest = now earliest;
-  latest = now latest;
-  durations = now durations;
-}
+fleetAt ids depots capacities per-distance fixed flags most-distance most-duration earliest latest durations =
+    fleetOf (now ids) (now depots) (now capacities) (now per-distance) (now fixed) (now flags) (now most-distance) (now most-duration) (now earliest)
+    (now latest) (now durations)
 
 -- van k of the fleet
 unfoldable pub vanAt : Fleet → ℕ → Van

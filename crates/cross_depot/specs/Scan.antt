@@ -5,20 +5,20 @@ use mathlib.Core.Bool.{Bool, true, false, cond}
 use mathlib.Core.Option.{Option, none, some}
 use mathlib.Core.List.{List, [], _∷_}
 use Prim.Native.Nat.{ℕ, _+_, _≤_, _<_}
-use lib.Dec.{eqb, ltb}
+use lib.Dec.{ltb}
 use lib.IntN.{ℤ}
 use lib.ListN.{length, getD}
 use lib.Seq.{slice}
 use lib.Ieee.{Float, lt, neg}
-use Rattle.numbers.specs.Operations.{_⊕_, _⊖_}
+use Rattle.numbers.specs.Operations.{_⊕_, _⊖_, zero64}
 use Rattle.day.specs.declared.vehicle.Van.{Van}
-use Rattle.lists.specs.Table.{Laid, listOf}
+use Rattle.lists.specs.Table.{Laid, lists}
 use Rattle.lists.specs.Edits.{at}
 use Rattle.evaluation.specs.Columns.{Columns, Formed}
 use Rattle.descent.specs.Order.{range}
 use Rattle.cross_depot.specs.Boxes.{Loaded}
 use Rattle.cross_depot.specs.Fleet.{Fleet, Driven, Manned}
-use Rattle.cross_depot.specs.CrossDepot.{Plan, allowed, replaced, relocation, exchange, cuts, pairOf}
+use Rattle.cross_depot.specs.CrossDepot.{Plan, allowed, replaced, relocation, exchange, cuts, pairOf, sameDepot}
 use Rattle.cross_depot.specs.declared.price.Price.{Price}
 use Rattle.cross_depot.specs.declared.price.Price.the-variants.{Unallowed, Costs}
 use Rattle.cross_depot.specs.declared.pair.Pair.{Pair}
@@ -82,13 +82,21 @@ module _ (c : Columns) (demand : List ℤ) (pair : Pair) (X Y : List ℕ) where
 
   -- ---- rows of candidates
 
-  -- a visit of the first list, at every place of the second
-  unfoldable pub relocateRow : ℕ → Choice → Choice
-  relocateRow position = scan (λ place. better (relocation (pair .one) (pair .other) position place)) (range 0 (length Y + 1))
+  -- a visit of the first list at a place of the second
+  unfoldable pub tryRelocation : ℕ → ℕ → Choice → Choice
+  tryRelocation position place = better (relocation (pair .one) (pair .other) position place)
 
-  -- a visit of the first list, or a cut, with the first `count` of the second
+  -- a visit of the first list, or its tail, with one of the second
+  unfoldable pub tryExchange : Bool → ℕ → ℕ → Choice → Choice
+  tryExchange tails k1 k2 = better (exchange tails (pair .one) (pair .other) (length X) (length Y) k1 k2)
+
+  -- with every place of the second
+  unfoldable pub relocateRow : ℕ → Choice → Choice
+  relocateRow position = scan (tryRelocation position) (range 0 (length Y + 1))
+
+  -- with the first `count` of the second
   unfoldable pub exchangeRow : Bool → ℕ → ℕ → Choice → Choice
-  exchangeRow tails k1 count = scan (λ k2. better (exchange tails (pair .one) (pair .other) (length X) (length Y) k1 k2)) (range 0 count)
+  exchangeRow tails k1 count = scan (tryExchange tails k1) (range 0 count)
 
   unfoldable pub bestRelocation : Choice → Choice
   bestRelocation = scan relocateRow (range 0 (length X))
@@ -103,21 +111,38 @@ module _ (c : Columns) (demand : List ℤ) (pair : Pair) (X Y : List ℕ) where
   unfoldable pub bestExchange : Choice → Choice
   bestExchange best = cond (ltb (pair .one) (pair .other)) (bestTails (bestSwap best)) best
 
-  -- all moves between two lists of different depots
+  -- all moves between two lists
   unfoldable pub bestBetween : Choice → Choice
-  bestBetween best = cond (eqb (pair .van1 .depot) (pair .van2 .depot)) best (bestExchange (bestRelocation best))
+  bestBetween best = bestExchange (bestRelocation best)
 
 -- ---- all pairs of lists
 
+-- the plan that the tables hold
+abbrev pub planOf : List ℕ → List ℕ → List ℕ → List Float → Plan
+planOf visits lengths ids costs = record { lists = lists visits lengths; ids = ids; costs = costs }
+
 module _ (c : Columns) (demand : List ℤ) (fleet : Fleet) (p : Plan) where
+  -- two lists, if their vans start from different depots
   unfoldable pub bestOfPair : ℕ → ℕ → Choice → Choice
-  bestOfPair a b = bestBetween c demand (pairOf c demand fleet p a b) (at (p .lists) a) (at (p .lists) b)
+  bestOfPair a b best =
+      let pair = pairOf fleet (p .ids) (p .costs) a b in
+      cond (sameDepot pair) best (bestBetween c demand pair (at (p .lists) a) (at (p .lists) b) best)
 
   unfoldable pub bestFrom : ℕ → Choice → Choice
   bestFrom a = scan (bestOfPair a) (range 0 (length (p .lists)))
 
   unfoldable pub bestOf : Choice → Choice
   bestOf = scan bestFrom (range 0 (length (p .lists)))
+
+-- no move so far: a delta has to be below minus the floor
+abbrev pub nothing : Float → Choice
+nothing floor = record {
+  found = false;
+  chosen = record { one = 0; from1 = 0; to1 = 0; other = 0; from2 = 0; to2 = 0; tested = false };
+  delta = neg floor;
+  cost1 = zero64;
+  cost2 = zero64;
+}
 
 -- the move that a choice says
 unfoldable pub moveOf : Choice → Option Move

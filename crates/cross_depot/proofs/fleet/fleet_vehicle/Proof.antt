@@ -10,10 +10,14 @@ van-number-requires : tie.Need-van-number-requires
 van-number-requires c κs = search needs
 
 van-at-requires : tie.Need-van-at-requires
-van-at-requires c κs = (c .before .before .before .before .before .before .before .before .before .before .before .pre .0, (rw (c .van-number .ensures) (number-below _ _ (c .before .before .before .before .before .before .before .before .before .before .before .pre .1 .0)), c .before .before .before .before .before .before .before .before .before .before .before .pre .1 .1))
+van-at-requires c κs =
+    let start = c .before .before .before .before .before .before .before .before .before .before .before in
+    (start .pre .0, (rw (c .van-number .ensures) (number-below _ _ (start .pre .1 .0)), start .pre .1 .1))
 
 returns : tie.Need-returns
-returns c = c .van-at .ensures ∙ ap (vanAt _) (c .before .van-number .ensures)
+returns c =
+    let at-van-number = c .before in
+    c .van-at .ensures ∙ ap (vanAt _) (at-van-number .van-number .ensures)
 
 pub fleet-vehicle-spec : {M : Type 1} → statement M
 fleet-vehicle-spec = tie.close (tie.spec van-number-requires van-at-requires returns)

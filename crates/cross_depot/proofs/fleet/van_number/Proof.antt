@@ -25,7 +25,10 @@ shared-slice-read-if1 : tie.Need-shared-slice-read-if1 Inv-loop μ-loop
 shared-slice-read-if1 c = search needs
 
 returns : tie.Need-returns Inv-loop μ-loop
-returns c = sym (number-here _ _ _ (c .before .before .loop-test .taken) (c .if1 .taken)) ∙ c .before .before .before .loop .inv .1
+returns c =
+    let at-loop-test = c .before .before in
+    let at-loop = at-loop-test .before in
+    sym (number-here _ _ _ (at-loop-test .loop-test .taken) (c .if1 .taken)) ∙ at-loop .loop .inv .1
 
 add-k : tie.Need-add-k Inv-loop μ-loop
 add-k c = search needs
@@ -34,10 +37,15 @@ loop-less : tie.Need-loop-less Inv-loop μ-loop
 loop-less c = search needs
 
 loop-again : tie.Need-loop-again Inv-loop μ-loop
-loop-again c = (omega (arith, c .before .before .loop-test .taken), number-later _ _ _ (c .before .before .loop-test .taken) (c .if1 .left) ∙ c .before .before .before .loop .inv .1)
+loop-again c =
+    let at-loop-test = c .before .before in
+    let at-loop = at-loop-test .before in
+    (omega (arith, at-loop-test .loop-test .taken), number-later _ _ _ (at-loop-test .loop-test .taken) (c .if1 .left) ∙ at-loop .loop .inv .1)
 
 returns-2 : tie.Need-returns-2 Inv-loop μ-loop
-returns-2 c = sym (number-none _ _ _ (c .loop-test .left)) ∙ c .before .loop .inv .1
+returns-2 c =
+    let at-loop = c .before in
+    sym (number-none _ _ _ (c .loop-test .left)) ∙ at-loop .loop .inv .1
 
 pub van-number-spec : {M : Type 1} → statement M
 van-number-spec =

@@ -8,13 +8,18 @@ is-within-requires : tie.Need-is-within-requires
 is-within-requires c κs = search needs
 
 returns : tie.Need-returns
-returns c = allowed-not _ _ _ _ _ _ (c .before .is-within .ensures) (c .if1 .taken)
+returns c =
+    let at-is-within = c .before in
+    allowed-not _ _ _ _ _ _ (at-is-within .is-within .ensures) (c .if1 .taken)
 
 priced-requires : tie.Need-priced-requires
 priced-requires c κs = search needs
 
 returns-2 : tie.Need-returns-2
-returns-2 c = allowed-at _ _ _ _ _ _ (c .before .before .is-within .ensures) _ (c .before .if1 .left) (c .priced .ensures)
+returns-2 c =
+    let at-if1 = c .before in
+    let at-is-within = at-if1 .before in
+    allowed-at _ _ _ _ _ _ (at-is-within .is-within .ensures) _ (at-if1 .if1 .left) (c .priced .ensures)
 
 pub allowed-price-spec : {M : Type 1} → statement M
 allowed-price-spec = tie.close (tie.spec is-within-requires returns priced-requires returns-2)

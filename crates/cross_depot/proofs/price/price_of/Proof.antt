@@ -23,7 +23,10 @@ returns c = rw (c .enum-told .given .1)
 
 returns-2 : tie.Need-returns-2
 unfolding priceOf
-returns-2 c = rw (c .before .before .before .evaluation .given .1, c .route-cost .ensures, c .before .priced-distance .ensures)
+returns-2 c =
+    let at-priced-distance = c .before in
+    let at-evaluation = at-priced-distance .before .before in
+    rw (at-evaluation .evaluation .given .1, c .route-cost .ensures, at-priced-distance .priced-distance .ensures)
 
 pub price-of-spec : {M : Type 1} → statement M
 price-of-spec =

@@ -13,13 +13,19 @@ of-requires : tie.Need-of-requires
 of-requires c κs = search needs
 
 route-eval-requires : tie.Need-route-eval-requires
-route-eval-requires c κs = (c .before .before .before .before .before .before .before .before .before .before .pre .0, (c .before .before .before .before .before .before .before .before .before .before .pre .1 .0 .depot-there, c .before .before .before .before .before .before .before .before .before .before .pre .1 .1))
+route-eval-requires c κs =
+    let start = c .before .before .before .before .before .before .before .before .before .before in
+    (start .pre .0, (start .pre .1 .0 .depot-there, start .pre .1 .1))
 
 price-of-requires : tie.Need-price-of-requires
 price-of-requires c κs = search needs
 
 returns-2 : tie.Need-returns-2
-returns-2 c = priced-some _ _ _ _ _ _ (c .before .before .before .if1 .left) (c .before .before .of .ensures) (c .before .route-eval .ensures) (c .price-of .ensures)
+returns-2 c =
+    let at-route-eval = c .before in
+    let at-of = at-route-eval .before in
+    let at-if1 = at-of .before in
+    priced-some _ _ _ _ _ _ (at-if1 .if1 .left) (at-of .of .ensures) (at-route-eval .route-eval .ensures) (c .price-of .ensures)
 
 pub priced-spec : {M : Type 1} → statement M
 priced-spec =

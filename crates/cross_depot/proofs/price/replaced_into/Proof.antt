@@ -18,24 +18,28 @@ same-length : tie.Need-same-length
 same-length c = search needs
 
 returns : tie.Need-returns
-returns c = (
-  omega (
-    arith,
-    c .before .before .before .before .before .before .before .before .before .before .append-stretch .ensures .0,
-    c .before .before .before .before .before .before .append-stretch2 .ensures .0,
-    c .before .before .append-stretch3 .ensures .0,
-    c .before .before .before .before .before .before .before .before .before .before .append-stretch .ensures .1 .same-length,
-    c .before .before .before .before .before .before .append-stretch2 .ensures .1 .same-length,
-    c .before .before .append-stretch3 .ensures .1 .same-length,
-    c .before .before .before .before .before .before .before .before .before .before .before .before .before .before .before .pre .0 .0,
-    c .before .before .before .before .before .before .before .before .before .before .before .before .before .before .before .pre .0 .1,
-    c .before .before .before .before .before .before .before .before .before .before .before .before .before .before .before .pre .0 .2,
-    c .before .before .before .before .before .before .before .before .before .before .before .before .before .before .before .pre .0 .3,
-    c .before .before .before .before .before .before .before .before .before .before .before .before .before .before .before .pre .1,
-  ),
-  built (c .before .before .before .before .before .before .before .before .before .before .before .before .before .before .before .args .list .now) _ (c .before .before .before .before .before .before .before .before .before .before .before .before .before .before .before .args .from) (c .before .before .before .before .before .before .before .before .before .before .before .before .before .before .before .args .to) (c .before .before .before .before .before .before .before .before .before .before .append-stretch .ensures .1 .filled) (c .before .before .before .before .before .before .append-stretch2 .ensures .1 .filled)
-      (c .before .before .append-stretch3 .ensures .1 .filled),
-)
+returns c =
+    let at-append-stretch3 = c .before .before in
+    let at-append-stretch2 = at-append-stretch3 .before .before .before .before in
+    let at-append-stretch = at-append-stretch2 .before .before .before .before in
+    let start = at-append-stretch .before .before .before .before .before in (
+      omega (
+        arith,
+        at-append-stretch .append-stretch .ensures .0,
+        at-append-stretch2 .append-stretch2 .ensures .0,
+        at-append-stretch3 .append-stretch3 .ensures .0,
+        at-append-stretch .append-stretch .ensures .1 .same-length,
+        at-append-stretch2 .append-stretch2 .ensures .1 .same-length,
+        at-append-stretch3 .append-stretch3 .ensures .1 .same-length,
+        start .pre .0 .0,
+        start .pre .0 .1,
+        start .pre .0 .2,
+        start .pre .0 .3,
+        start .pre .1,
+      ),
+      built (start .args .list .now) _ (start .args .from) (start .args .to) (at-append-stretch .append-stretch .ensures .1 .filled) (at-append-stretch2 .append-stretch2 .ensures .1 .filled)
+          (at-append-stretch3 .append-stretch3 .ensures .1 .filled),
+    )
 
 pub replaced-into-spec : {M : Type 1} → statement M
 replaced-into-spec =

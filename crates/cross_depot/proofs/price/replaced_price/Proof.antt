@@ -23,17 +23,20 @@ part-allowed-price-end c = search needs
 
 allowed-price-requires : tie.Need-allowed-price-requires
 allowed-price-requires c κs =
-    let whole = front (c .before .before .before .replaced-into .result) (c .before .before .before .replaced-into .last .0) _ (c .before .before .before .replaced-into .ensures .1) in (
-      c .before .before .before .before .before .before .before .before .before .before .before .before .before .before .pre .0 .0,
+    let at-replaced-into = c .before .before .before in
+    let start = at-replaced-into .before .before .before .before .before .before .before .before .before .before .before in
+    let whole = front (at-replaced-into .replaced-into .result) (at-replaced-into .replaced-into .last .0) _ (at-replaced-into .replaced-into .ensures .1) in (
+      start .pre .0 .0,
       (
-        c .before .before .before .before .before .before .before .before .before .before .before .before .before .before .pre .0 .1,
-        rw whole (visits-replaced _ _ _ (c .before .before .before .before .before .before .before .before .before .before .before .before .before .before .pre .1 .0 .0) _ _ _ _ (c .before .before .before .before .before .before .before .before .before .before .before .before .before .before .pre .1 .0 .1) (c .before .before .before .before .before .before .before .before .before .before .before .before .before .before .pre .1 .0 .2) (c .before .before .before .before .before .before .before .before .before .before .before .before .before .before .pre .1 .1 .0) (c .before .before .before .before .before .before .before .before .before .before .before .before .before .before .pre .1 .1 .1)),
+        start .pre .0 .1,
+        rw whole (visits-replaced _ _ _ (start .pre .1 .0 .0) _ _ _ _ (start .pre .1 .0 .1) (start .pre .1 .0 .2) (start .pre .1 .1 .0) (start .pre .1 .1 .1)),
       ),
     )
 
 returns : tie.Need-returns
 returns c =
-    c .allowed-price .ensures ∙ ap (allowed _ _ _ _) (front (c .before .before .before .before .replaced-into .result) (c .before .before .before .before .replaced-into .last .0) _ (c .before .before .before .before .replaced-into .ensures .1))
+    let at-replaced-into = c .before .before .before .before in
+    c .allowed-price .ensures ∙ ap (allowed _ _ _ _) (front (at-replaced-into .replaced-into .result) (at-replaced-into .replaced-into .last .0) _ (at-replaced-into .replaced-into .ensures .1))
 
 pub replaced-price-spec : {M : Type 1} → statement M
 replaced-price-spec =
