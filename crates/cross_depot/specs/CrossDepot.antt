@@ -118,6 +118,10 @@ first ls m = replaced (at ls (m .one)) (m .from1) (m .to1) (slice (m .from2) (m 
 abbrev pub second : List (List ℕ) → Move → List ℕ
 second ls m = replaced (at ls (m .other)) (m .from2) (m .to2) (slice (m .from1) (m .to1) (at ls (m .one)))
 
+-- the lists with both
+unfoldable pub exchangedBy : List (List ℕ) → Move → List (List ℕ)
+exchangedBy ls m = set (set ls (m .one) (first ls m)) (m .other) (second ls m)
+
 -- ---- 01: 'Dropped places leave length 0, and vehicle id 0, at the end'
 
 -- of a column by list, the entries of the lists that have a visit
@@ -134,6 +138,14 @@ dropped p = record {
   ids = ofFilled (lengthsOf (p .lists)) (p .ids);
   costs = ofFilled (lengthsOf (p .lists)) (p .costs);
 }
+
+-- the plan after a move whose two lists then cost so much: the empty lists are dropped
+unfoldable pub afterMove : Plan → Move → Float → Float → Plan
+afterMove p m cost1 cost2 = dropped (record {
+  lists = exchangedBy (p .lists) m;
+  ids = p .ids;
+  costs = set (set (p .costs) (m .one) cost1) (m .other) cost2;
+})
 
 -- ---- the search
 
@@ -173,13 +185,9 @@ module _ (c : Columns) (demand : List ℤ) (fleet : Fleet) where
   unfoldable pub secondPrice : Plan → Move → Price
   secondPrice p m = allowed c demand true (fleetVehicle fleet (getD (p .ids) (m .other) 0)) (second (p .lists) m)
 
-  -- the plan after a move: both lists, what they cost, and the empty lists dropped
+  -- the plan after a move
   unfoldable pub moved : Plan → Move → Plan
-  moved p m = dropped (record {
-    lists = set (set (p .lists) (m .one) (first (p .lists) m)) (m .other) (second (p .lists) m);
-    ids = p .ids;
-    costs = set (set (p .costs) (m .one) (amount (firstPrice p m))) (m .other) (amount (secondPrice p m));
-  })
+  moved p m = afterMove p m (amount (firstPrice p m)) (amount (secondPrice p m))
 
   -- one place; a search begins again after a move
   unfoldable pub searchOf : Search Plan Unit Move

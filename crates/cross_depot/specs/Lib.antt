@@ -2,3 +2,4 @@ pub mod Fleet
 pub mod Boxes
 pub mod CrossDepot
 pub mod Scan
+pub mod Tables

@@ -5,3 +5,4 @@ pub mod fleet; // the van of a list
 pub mod price; // what a list costs with its van
 pub mod pair; // two lists, and a move between them
 pub mod search; // the best move
+pub mod change; // what a move makes of the tables
