@@ -6,3 +6,7 @@ pub mod Pairs
 pub mod Exchanging
 pub mod Dropping
 pub mod Making
+pub mod Onward
+pub mod Choosing
+pub mod Sound
+pub mod Going

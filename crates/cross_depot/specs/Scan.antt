@@ -134,6 +134,11 @@ module _ (c : Columns) (demand : List ℤ) (fleet : Fleet) (p : Plan) where
   unfoldable pub bestOf : Choice → Choice
   bestOf = scan bestFrom (range 0 (length (p .lists)))
 
+-- one move of the plan more
+unfoldable pub betterIn : Columns → List ℤ → Fleet → Plan → Move → Choice → Choice
+betterIn c demand fleet p m =
+    better c demand (pairOf fleet (p .ids) (p .costs) (m .one) (m .other)) (at (p .lists) (m .one)) (at (p .lists) (m .other)) m
+
 -- no move so far: a delta has to be below minus the floor
 abbrev pub nothing : Float → Choice
 nothing floor = record {
