@@ -1,0 +1,295 @@
+-- A run that is under way: the moves made and the run that is left are the whole run, so the loop ends with the run's own answer. The first n entries of
+-- the tables are the plan, and behind them there is nothing. Assumes nothing.
+use mathlib.Core.Path.{_≡_, refl, sym, ap, _∙_}
+use mathlib.Core.Bool.{true, false}
+use mathlib.Core.Option.{Option, none, some}
+use mathlib.Core.List.{List, [], _∷_, _++_}
+use Prim.Native.Nat.{ℕ, zero, suc, _+_, _-_, _≤_, _<_}
+use native.Mathlib.Nat.{sub-zero}
+use native.Mathlib.Omega.{arith}
+use borrow.Author.Tests.{lt-ltb, ltb-true}
+use borrow.Rule.Slice.PartMut.{putMid}
+use lib.Dec.{ltb}
+use lib.IntN.{ℤ}
+use lib.ListN.{length, getD, take, drop, replicate, length-append, length-drop, take-append-drop}
+use lib.Seq.{take-length, drop-length, take-append-le, drop-append-le, length-take-le}
+use lib.Ieee.{Float}
+use Rattle.edits.specs.Total.{SameVisits}
+use Rattle.edits.proofs.Kept.{same-each, same-length}
+use Rattle.lists.specs.Table.{Laid, lists, flat, lengthsOf}
+use Rattle.lists.proofs.Tables.{length-lists, flat-lists, lengths-lists}
+use Rattle.evaluation.specs.Columns.{Columns}
+use Rattle.descent.specs.Search.{Sweep, Outcome, settled, stopped, taken, firstMove, next, run}
+use Rattle.descent.proofs.Loops.{place-passed, place-moved, next-sweep, run-settles, run-stops, run-moves}
+use Rattle.engine.specs.Engine.{endedAs}
+use Rattle.engine.specs.declared.Ended.the-variants.{Settled, Stopped}
+use Rattle.cross_depot.specs.Fleet.{Fleet}
+use Rattle.cross_depot.specs.CrossDepot.{Plan, afterMove, moved, searchOf, judgeOf, runOf}
+use Rattle.cross_depot.specs.Scan.{Held, planOf, moveOf}
+use Rattle.cross_depot.specs.Tables.{Made, Chosen, Handed, crossedAs}
+use Rattle.cross_depot.specs.declared.pair.Move.{Move}
+use Rattle.cross_depot.specs.declared.search.Choice.{Choice}
+use Rattle.cross_depot.specs.declared.run.Crossed.{Crossed}
+
+-- a run's outcome behind some moves
+abbrev behind : {S : Type 0} → ℕ → Outcome S → Outcome S
+behind moves r = record { word = r .word; moves = moves + r .moves; last = r .last }
+
+-- after some moves the run is at a state, with the rest of the limit left
+pub record Going {S : Type 0} (step : S → Option S) (limit : ℕ) (first : S) (moves : ℕ) (now : S) : Type 0 where
+  pub left : ℕ
+  pub whole : moves + left ≡ limit
+  pub same : behind moves (run step left now) ≡ run step limit first
+
+module _ {S : Type 0} (step : S → Option S) (limit : ℕ) (first : S) where
+  pub going-start : Going step limit first 0 first
+  going-start =
+      let r = run step limit first in
+      let none-yet : 0 + r .moves ≡ r .moves = omega arith in
+      record { left = limit; whole = omega arith; same = ap (λ (n : ℕ). record { word = r .word; moves = n; last = r .last }) none-yet }
+
+  module _ (moves : ℕ) (now : S) (going : Going step limit first moves now) where
+    going-settled : step now ≡ none → run step limit first ≡ record { word = settled; moves = moves; last = now }
+    going-settled e =
+        let none-more : moves + 0 ≡ moves = omega arith in
+        sym (going .same) ∙ ap (behind moves) (run-settles step (going .left) now e)
+        ∙ ap (λ (n : ℕ). record { word = settled; moves = n; last = now }) none-more
+
+    going-stopped : (then : S) → step now ≡ some then → limit ≤ moves → run step limit first ≡ record { word = stopped; moves = moves; last = now }
+    going-stopped then e h =
+        let none-more : moves + 0 ≡ moves = omega arith in
+        let used : going .left ≡ 0 = omega (arith, going .whole) in
+        sym (going .same) ∙ ap (λ (n : ℕ). behind moves (run step n now)) used ∙ ap (behind moves) (run-stops step now then e)
+        ∙ ap (λ (n : ℕ). record { word = stopped; moves = n; last = now }) none-more
+
+    going-on : (then : S) → step now ≡ some then → moves < limit → Going step limit first (moves + 1) then
+    going-on then e h =
+        let fewer : ℕ = going .left - 1 in
+        let one : going .left ≡ suc fewer = omega (arith, going .whole) in
+        record {
+          left = fewer;
+          whole = omega (arith, going .whole);
+          same = shift (run step fewer then)
+              ∙ sym (ap (λ (n : ℕ). behind moves (run step n now)) one ∙ ap (behind moves) (run-moves step fewer now then e)) ∙ going .same;
+        }
+      where
+        shift : (r : Outcome S) → behind (moves + 1) r ≡ behind moves (record { word = r .word; moves = suc (r .moves); last = r .last })
+        shift r =
+            let more : moves + 1 + r .moves ≡ moves + suc (r .moves) = omega arith in
+            ap (λ (n : ℕ). record { word = r .word; moves = n; last = r .last }) more
+
+-- ---- parts of the tables
+
+-- the first n, lent
+pub part : {A : Type 0} (n : ℕ) (xs : List A) → take (n - 0) (drop 0 xs) ≡ take n xs
+part n xs = ap (λ k. take k xs) (sub-zero n)
+
+-- and given back as `new`
+pub put : {A : Type 0} (n : ℕ) (xs new : List A) → putMid 0 (n - 0) xs new ≡ new ++ drop n xs
+put n xs new = ap (λ k. new ++ drop k xs) (sub-zero n)
+
+nones : {A : Type 0} (x : A) (a b : ℕ) → replicate a x ++ replicate b x ≡ replicate (a + b) x
+nones x zero b = let e : 0 + b ≡ b = omega arith in rw e
+nones x (suc a) b = let e : suc a + b ≡ suc (a + b) = omega arith in rw e (ap (λ z. x ∷ z) (nones x a b))
+
+-- ---- the tables during a run
+
+pub record Live (l : ℕ) (visits₀ visits lengths ids : List ℕ) (costs : List Float) (n number : ℕ) : Type 0 where
+  pub held : Held l visits (take n lengths)
+  pub same : SameVisits visits₀ visits
+  pub few : n ≤ number
+  pub many-lengths : length lengths ≡ number
+  pub many-ids : length ids ≡ number
+  pub many-costs : length costs ≡ number
+  pub no-lengths : drop n lengths ≡ replicate (number - n) 0
+  pub no-ids : drop n ids ≡ replicate (number - n) 0
+
+module _ (l : ℕ) (visits lengths ids : List ℕ) (costs : List Float) (held : Held l visits lengths) (even-ids : length ids ≡ length lengths)
+    (even-costs : length costs ≡ length lengths) where
+  pub live-start : Live l visits visits lengths ids costs (length lengths) (length lengths)
+  live-start =
+      let none : length lengths - length lengths ≡ 0 = omega arith in
+      record {
+        held = rw (take-length lengths) held;
+        same = λ f. refl;
+        few = omega arith;
+        many-lengths = refl;
+        many-ids = even-ids;
+        many-costs = even-costs;
+        no-lengths = rw none (drop-length lengths);
+        no-ids = rw (none, ← even-ids) (drop-length ids);
+      }
+
+  -- all of them
+  pub all-now : planOf visits (take (length lengths) lengths) (take (length lengths) ids) (take (length lengths) costs) ≡ planOf visits lengths ids costs
+  all-now =
+      let i : take (length lengths) ids ≡ ids = rw (← even-ids) (take-length ids) in
+      let k : take (length lengths) costs ≡ costs = rw (← even-costs) (take-length costs) in
+      λ t. planOf visits (take-length lengths t) (i t) (k t)
+
+module _ (l : ℕ) (visits₀ visits lengths ids : List ℕ) (costs : List Float) (n number : ℕ) (live : Live l visits₀ visits lengths ids costs n number) where
+  -- what a search of the first n asks
+  pub live-asks : Held l visits (take n lengths) × (length (take n ids) ≡ length (take n lengths)) × (length (take n costs) ≡ length (take n lengths))
+  live-asks =
+      let a = length-take-le n lengths (omega (arith, live .few, live .many-lengths)) in
+      let b = length-take-le n ids (omega (arith, live .few, live .many-ids)) in
+      let c = length-take-le n costs (omega (arith, live .few, live .many-costs)) in
+      (live .held, omega arith, omega arith)
+
+  -- the tables hold the plan, and behind it nothing
+  pub handed-now : Handed (planOf visits (take n lengths) (take n ids) (take n costs)) number visits lengths ids
+  handed-now =
+      let add-up = live .held .laid .add-up in
+      let many : length (lists visits (take n lengths)) ≡ n
+      = length-lists visits (take n lengths) ∙ length-take-le n lengths (omega (arith, live .few, live .many-lengths)) in
+      record {
+        visits-are = sym (flat-lists visits (take n lengths) add-up);
+        lengths-are = rw (lengths-lists visits (take n lengths) add-up, many, ← live .no-lengths) (sym (take-append-drop n lengths));
+        ids-are = rw (many, ← live .no-ids) (sym (take-append-drop n ids));
+      }
+
+  pub lists-now : length (lists visits (take n lengths)) ≡ n
+  lists-now = length-lists visits (take n lengths) ∙ length-take-le n lengths (omega (arith, live .few, live .many-lengths))
+
+  -- a move made in the first n
+  module _ (p : Plan) (m : Move) (cost1 cost2 : Float) (visits′ L I : List ℕ) (C : List Float) (kept : ℕ)
+      (made : Made p m cost1 cost2 visits visits′ L I C kept) (long-L : length L ≡ n) (long-I : length I ≡ n) (long-C : length C ≡ n) where
+    front-L : take kept (L ++ drop n lengths) ≡ take kept L
+    front-L = take-append-le kept L (drop n lengths) (made .few)
+
+    front-I : take kept (I ++ drop n ids) ≡ take kept I
+    front-I = take-append-le kept I (drop n ids) (omega (arith, made .few))
+
+    front-C : take kept (C ++ drop n costs) ≡ take kept C
+    front-C = take-append-le kept C (drop n costs) (omega (arith, made .few))
+
+    pub plan-on : planOf visits′ (take kept (L ++ drop n lengths)) (take kept (I ++ drop n ids)) (take kept (C ++ drop n costs)) ≡ afterMove p m cost1 cost2
+    plan-on = (λ t. planOf visits′ (front-L t) (front-I t) (front-C t)) ∙ made .holds
+
+    back-L : drop kept (L ++ drop n lengths) ≡ replicate (number - kept) 0
+    back-L =
+        let more : (length L - kept) + (number - n) ≡ number - kept = omega (arith, made .few, live .few) in
+        drop-append-le kept L (drop n lengths) (made .few) ∙ (λ t. made .no-lengths t ++ live .no-lengths t) ∙ nones 0 (length L - kept) (number - n)
+        ∙ ap (λ k. replicate k 0) more
+
+    back-I : drop kept (I ++ drop n ids) ≡ replicate (number - kept) 0
+    back-I =
+        let more : (length I - kept) + (number - n) ≡ number - kept = omega (arith, made .few, live .few) in
+        drop-append-le kept I (drop n ids) (omega (arith, made .few)) ∙ (λ t. made .no-ids t ++ live .no-ids t) ∙ nones 0 (length I - kept) (number - n)
+        ∙ ap (λ k. replicate k 0) more
+
+    pub live-on : Live l visits₀ visits′ (L ++ drop n lengths) (I ++ drop n ids) (C ++ drop n costs) kept number
+    live-on = record {
+      held = rw front-L (record {
+        laid = made .laid;
+        below = λ k h. ltb-true _ _ (same-each (λ v. ltb v l) visits visits′ (made .same) (λ i there. lt-ltb _ _ (live .held .below i there)) k h);
+        few = rw (same-length visits visits′ (made .same)) (live .held .few);
+      });
+      same = λ f. made .same f ∙ live .same f;
+      few = omega (arith, made .few, live .few);
+      many-lengths = simp (length-append, length-drop) (omega (arith, live .many-lengths, live .few));
+      many-ids = simp (length-append, length-drop) (omega (arith, live .many-ids, live .few));
+      many-costs = simp (length-append, length-drop) (omega (arith, live .many-costs, live .few));
+      no-lengths = back-L;
+      no-ids = back-I;
+    }
+
+-- ---- one search
+
+module _ (c : Columns) (demand : List ℤ) (fleet : Fleet) (visits lengths ids : List ℕ) (costs : List Float) (r : Choice)
+    (chosen : Chosen c demand fleet visits lengths ids costs r) where
+  abbrev here : Sweep Plan Unit
+  here = record { now = planOf visits lengths ids costs; ahead = [] }
+
+  nowhere : firstMove (searchOf c demand fleet) (judgeOf c demand fleet) (planOf visits lengths ids costs) [] ≡ none
+  unfolding firstMove
+  nowhere = refl
+
+  fresh : next (searchOf c demand fleet) (judgeOf c demand fleet) here
+      ≡ firstMove (searchOf c demand fleet) (judgeOf c demand fleet) (planOf visits lengths ids costs) (tt ∷ [])
+  unfolding searchOf
+  fresh = next-sweep (searchOf c demand fleet) (judgeOf c demand fleet) here nowhere
+
+  pub no-next : r .found ≡ false → next (searchOf c demand fleet) (judgeOf c demand fleet) here ≡ none
+  unfolding moveOf
+  no-next e =
+      let is : moveOf r ≡ none = rw (e, moveOf) in
+      fresh ∙ place-passed (searchOf c demand fleet) (judgeOf c demand fleet) (planOf visits lengths ids costs) tt [] (sym (chosen .taken-is) ∙ is) ∙ nowhere
+
+  pub a-next : r .found ≡ true → next (searchOf c demand fleet) (judgeOf c demand fleet) here
+      ≡ some (record { now = afterMove (planOf visits lengths ids costs) (r .chosen) (r .cost1) (r .cost2); ahead = [] })
+  unfolding searchOf moveOf
+  a-next e =
+      let is : moveOf r ≡ some (r .chosen) = rw (e, moveOf) in
+      fresh ∙ place-moved (searchOf c demand fleet) (judgeOf c demand fleet) (planOf visits lengths ids costs) tt [] (r .chosen) (sym (chosen .taken-is) ∙ is)
+      ∙ ap (λ (q : Plan). some (record { now = q; ahead = [] })) (sym (chosen .leads e))
+
+-- ---- what the loop answers
+
+module _ (c : Columns) (demand : List ℤ) (fleet : Fleet) (limit : ℕ) (first : Plan) (moves : ℕ) where
+  abbrev pub Running : Plan → Type 0
+  Running p = Going (next (searchOf c demand fleet) (judgeOf c demand fleet)) limit (record { now = first; ahead = [] }) moves (record { now = p; ahead = [] })
+
+  -- what is to be shown of an answer and of the tables
+  abbrev pub Answered : Crossed → ℕ → List ℕ → List ℕ → List ℕ → Type 0
+  Answered r number visits lengths ids =
+      (r ≡ crossedAs (runOf c demand fleet limit first)) × Handed (runOf c demand fleet limit first .last .now) number visits lengths ids
+
+  module _ (l n number : ℕ) (visits₀ visits lengths ids : List ℕ) (costs : List Float) (live : Live l visits₀ visits lengths ids costs n number)
+      (running : Running (planOf visits (take n lengths) (take n ids) (take n costs))) (r : Choice)
+      (chosen : Chosen c demand fleet visits (take (n - 0) (drop 0 lengths)) (take (n - 0) (drop 0 ids)) (take (n - 0) (drop 0 costs)) r) where
+    pub chosen-now : Chosen c demand fleet visits (take n lengths) (take n ids) (take n costs) r
+    chosen-now = rw (part n lengths, part n ids, part n costs) at chosen
+
+    pub answers-settled : r .found ≡ false → Answered (record { ended = Settled moves; lists = n }) number visits lengths ids
+    unfolding runOf endedAs
+    answers-settled e =
+        let whole = going-settled _ _ _ moves _ running (no-next c demand fleet visits (take n lengths) (take n ids) (take n costs) r chosen-now e) in
+        let many = lists-now l visits₀ visits lengths ids costs n number live in
+        (rw (whole, many), rw whole (handed-now l visits₀ visits lengths ids costs n number live))
+
+    pub answers-stopped : r .found ≡ true → limit ≤ moves → Answered (record { ended = Stopped moves; lists = n }) number visits lengths ids
+    unfolding runOf endedAs
+    answers-stopped e used =
+        let whole = going-stopped _ _ _ moves _ running _ (a-next c demand fleet visits (take n lengths) (take n ids) (take n costs) r chosen-now e) used in
+        let many = lists-now l visits₀ visits lengths ids costs n number live in
+        (rw (whole, many), rw whole (handed-now l visits₀ visits lengths ids costs n number live))
+
+    pub goes-on : r .found ≡ true → moves < limit → (q : Plan)
+        → q ≡ afterMove (planOf visits (take n lengths) (take n ids) (take n costs)) (r .chosen) (r .cost1) (r .cost2)
+        → Going (next (searchOf c demand fleet) (judgeOf c demand fleet)) limit (record { now = first; ahead = [] }) (moves + 1) (record { now = q; ahead = [] })
+    goes-on e room q is =
+        rw is (going-on _ _ _ moves _ running _ (a-next c demand fleet visits (take n lengths) (take n ids) (take n costs) r chosen-now e) room)
+
+    -- a move that was made: the run goes on from the plan that the tables then hold
+    pub goes-on-made : r .found ≡ true → moves < limit → (visits′ L I : List ℕ) (C : List Float) (kept : ℕ)
+        → Made (planOf visits (take (n - 0) (drop 0 lengths)) (take (n - 0) (drop 0 ids)) (take (n - 0) (drop 0 costs))) (r .chosen) (r .cost1) (r .cost2) visits
+        visits′ L I C kept
+        → length L ≡ length (take (n - 0) (drop 0 lengths)) → length I ≡ length (take (n - 0) (drop 0 ids)) → length C ≡ length (take (n - 0) (drop 0 costs))
+        → Going (next (searchOf c demand fleet) (judgeOf c demand fleet)) limit (record { now = first; ahead = [] }) (moves + 1)
+        (record {
+          now = planOf visits′ (take kept (putMid 0 (n - 0) lengths L)) (take kept (putMid 0 (n - 0) ids I)) (take kept (putMid 0 (n - 0) costs C));
+          ahead = [];
+        })
+        × Live l visits₀ visits′ (putMid 0 (n - 0) lengths L) (putMid 0 (n - 0) ids I) (putMid 0 (n - 0) costs C) kept number
+    goes-on-made e room visits′ L I C kept made long-L long-I long-C =
+        let now = rw (part n lengths, part n ids, part n costs) at made in
+        let many-L : length L ≡ n
+        = long-L ∙ ap length (part n lengths) ∙ length-take-le n lengths (omega (arith, live .few, live .many-lengths)) in
+        let many-I : length I ≡ n = long-I ∙ ap length (part n ids) ∙ length-take-le n ids (omega (arith, live .few, live .many-ids)) in
+        let many-C : length C ≡ n = long-C ∙ ap length (part n costs) ∙ length-take-le n costs (omega (arith, live .few, live .many-costs)) in
+        rw (put n lengths L, put n ids I, put n costs C) (
+          goes-on e room _ (plan-on l visits₀ visits lengths ids costs n number live _ _ _ _ visits′ L I C kept now many-L many-I many-C),
+          live-on l visits₀ visits lengths ids costs n number live _ _ _ _ visits′ L I C kept now many-L many-I many-C,
+        )
+
+-- the start of the loop
+pub begins : (c : Columns) (demand : List ℤ) (fleet : Fleet) (limit l : ℕ) (visits lengths ids : List ℕ) (costs : List Float) → Held l visits lengths
+    → length ids ≡ length lengths → length costs ≡ length lengths
+    → Running c demand fleet limit (planOf visits lengths ids costs) 0
+    (planOf visits (take (length lengths) lengths) (take (length lengths) ids) (take (length lengths) costs))
+    × Live l visits visits lengths ids costs (length lengths) (length lengths)
+begins c demand fleet limit l visits lengths ids costs held even-ids even-costs = (
+  rw (all-now l visits lengths ids costs held even-ids even-costs) (going-start _ limit _),
+  live-start l visits lengths ids costs held even-ids even-costs,
+)

@@ -1,0 +1,12 @@
+pub mod Numbered
+pub mod Loads
+pub mod Stretch
+pub mod Scanning
+pub mod Pairs
+pub mod Exchanging
+pub mod Dropping
+pub mod Making
+pub mod Onward
+pub mod Choosing
+pub mod Sound
+pub mod Going

@@ -1,0 +1,5 @@
+pub mod Fleet
+pub mod Boxes
+pub mod CrossDepot
+pub mod Scan
+pub mod Tables

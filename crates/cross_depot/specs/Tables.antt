@@ -1,0 +1,94 @@
+-- What a move makes of the tables: for the contracts of the functions that change them. Assumes nothing.
+use mathlib.Core.Path.{_≡_}
+use mathlib.Core.Logic.{_≢_}
+use mathlib.Core.Bool.{true}
+use mathlib.Core.List.{List, [], _∷_, _++_, map}
+use Prim.Native.Nat.{ℕ, zero, suc, _-_, _≤_, _<_}
+use lib.IntN.{ℤ}
+use lib.ListN.{length, getD, take, drop, replicate}
+use lib.Ieee.{Float}
+use Rattle.edits.specs.Total.{SameVisits}
+use Rattle.lists.specs.Table.{Laid, flat, lengthsOf}
+use Rattle.evaluation.specs.Columns.{Columns}
+use Rattle.descent.specs.Search.{Sweep, Outcome, taken}
+use Rattle.engine.specs.Engine.{endedAs}
+use Rattle.cross_depot.specs.Fleet.{Fleet, fleetVehicle}
+use Rattle.cross_depot.specs.CrossDepot.{Plan, ofFilled, afterMove, moved, startingCost, searchOf, judgeOf}
+use Rattle.cross_depot.specs.Scan.{planOf, moveOf}
+use Rattle.cross_depot.specs.declared.pair.Move.{Move}
+use Rattle.cross_depot.specs.declared.search.Choice.{Choice}
+use Rattle.cross_depot.specs.declared.run.Crossed.{Crossed}
+
+-- what making a move asks: a stretch of one list, and a stretch of another
+pub record Makes (visits lengths : List ℕ) (m : Move) : Type 0 where
+  pub laid : Laid visits lengths
+  pub one-there : m .one < length lengths
+  pub other-there : m .other < length lengths
+  pub apart : m .one ≢ m .other
+  pub ordered1 : m .from1 ≤ m .to1
+  pub within1 : m .to1 ≤ getD lengths (m .one) 0
+  pub ordered2 : m .from2 ≤ m .to2
+  pub within2 : m .to2 ≤ getD lengths (m .other) 0
+
+-- the same move, seen from the other list
+abbrev pub turned : Move → Move
+turned m =
+    record { one = m .other; from1 = m .from2; to1 = m .to2; other = m .one; from2 = m .from1; to2 = m .to1; tested = m .tested }
+
+-- a column by list after the dropping: the entries of the lists that have a visit, and behind them `none`
+unfoldable pub packedBy : {A : Type 0} → A → List ℕ → List A → List A
+packedBy none lengths xs = ofFilled lengths xs ++ replicate (length xs - length (ofFilled lengths xs)) none
+
+-- an entry, if its list has a visit
+unfoldable pub keptIf : {A : Type 0} → A → ℕ → A → A
+keptIf none zero x = none
+keptIf none (suc n) x = x
+
+-- 1 for a list that has a visit
+unfoldable pub counted : ℕ → ℕ
+counted zero = 0
+counted (suc n) = 1
+
+-- of the first `kept` entries of the tables after a move, and of those behind them
+pub record Made (p : Plan) (m : Move) (cost1 cost2 : Float) (visits visits′ lengths′ ids′ : List ℕ) (costs′ : List Float) (kept : ℕ) : Type 0 where
+  pub holds : planOf visits′ (take kept lengths′) (take kept ids′) (take kept costs′) ≡ afterMove p m cost1 cost2
+  pub few : kept ≤ length lengths′
+  pub laid : Laid visits′ (take kept lengths′)
+  pub same : SameVisits visits visits′
+  pub no-lengths : drop kept lengths′ ≡ replicate (length lengths′ - kept) 0
+  pub no-ids : drop kept ids′ ≡ replicate (length ids′ - kept) 0
+
+-- ---- the run
+
+-- of the choice of a search: it is the definition's, and where there is a move it can be made, and its costs are those of its two lists
+pub record Chosen (c : Columns) (demand : List ℤ) (fleet : Fleet) (visits lengths ids : List ℕ) (costs : List Float) (r : Choice) : Type 0 where
+  pub taken-is : moveOf r ≡ taken (searchOf c demand fleet) (judgeOf c demand fleet) (planOf visits lengths ids costs) tt
+  pub makes : r .found ≡ true → Makes visits lengths (r .chosen)
+  pub leads : r .found ≡ true
+      → afterMove (planOf visits lengths ids costs) (r .chosen) (r .cost1) (r .cost2) ≡ moved c demand fleet (planOf visits lengths ids costs) (r .chosen)
+
+-- 01: 'Dropped places leave length 0, and vehicle id 0, at the end': the tables, of `number` lists, hold the plan's lists, and behind them nothing
+pub record Handed (p : Plan) (number : ℕ) (visits lengths ids : List ℕ) : Type 0 where
+  pub visits-are : visits ≡ flat (p .lists)
+  pub lengths-are : lengths ≡ lengthsOf (p .lists) ++ replicate (number - length (p .lists)) 0
+  pub ids-are : ids ≡ p .ids ++ replicate (number - length (p .lists)) 0
+
+-- 01: 'An engine answers `settled` or `stopped`, the moves made'; 'the answer says how many lists remain'
+abbrev pub crossedAs : Outcome (Sweep Plan Unit) → Crossed
+crossedAs run = record { ended = endedAs (run .word) (run .moves); lists = length (run .last .now .lists) }
+
+-- ---- the start
+
+-- the id of the van that `fleet_vehicle` finds, for each list
+abbrev pub foundIds : Fleet → List ℕ → List ℕ
+foundIds fleet ids = map (λ id. fleetVehicle fleet id .id) ids
+
+-- what each list costs at the start, by its van and the price that is lent
+unfoldable pub startingCosts : Fleet → List ℕ → List Float → List Float
+startingCosts fleet [] prices = []
+startingCosts fleet (id ∷ ids) [] = []
+startingCosts fleet (id ∷ ids) (price ∷ prices) = startingCost fleet id price ∷ startingCosts fleet ids prices
+
+-- the plan that is lent
+abbrev pub lentPlan : Fleet → List ℕ → List ℕ → List ℕ → List Float → Plan
+lentPlan fleet visits lengths ids prices = planOf visits lengths (foundIds fleet ids) (startingCosts fleet (foundIds fleet ids) prices)

@@ -1,0 +1,224 @@
+// What a list costs with its van (`priced` of local_search/cross_depot.rs), and whether its load is within the van's capacity.
+use day::vehicle::RouteLimits;
+use day::vehicle::Van;
+use edits::append_stretch;
+use evaluation::route::Evaluation;
+use evaluation::route::route_eval;
+ghost use mathlib.Core.Path.{_≡_};
+ghost use mathlib.Core.Bool.{true, not, _||_};
+ghost use Prim.Native.Nat.{_+_, _≤_, _<_};
+ghost use lib.IntN.{pos, natAbs};
+ghost use lib.Signed.{leZ};
+ghost use lib.ListN.{length, getD, take};
+ghost use lib.Seq.{slice};
+ghost use Rattle.edits.specs.Total.{total};
+ghost use Rattle.evaluation.specs.Columns.{columnsAt, Formed, Visits};
+ghost use Rattle.cross_depot.specs.Boxes.{boxesAt, Loaded};
+ghost use Rattle.cross_depot.specs.Fleet.{Driven};
+ghost use Rattle.cross_depot.specs.CrossDepot.{priceOf, pricedAs, holds, allowed, replaced};
+ghost use Rattle.cross_depot.specs.Scan.{Asked, Two};
+
+// The price of a list.
+pub enum Price {
+    // The van doesn't allow it.
+    Unallowed,
+    Costs(f64),
+}
+
+// A number of boxes, which is not below 0.
+fn boxes_of(x: i32) -> usize
+    requires { ⌜ leZ (pos 0) x ≡ true ⌝ }
+    ensures { λ r. ⌜ r ≡ natAbs x ⌝ }
+{
+    x as usize
+}
+
+// The boxes of the visit at a position.
+fn boxes_at(l: usize, demand: &[i32], list: &[u16], k: usize) -> usize
+    requires { ⌜ Loaded l (now demand) × (k < length (now list)) × (getD (now list) k 0 < l) ⌝ }
+    ensures { λ r. ⌜ r ≡ boxesAt (now (demand .entry)) (getD (now (list .entry)) k 0) ⌝ }
+{
+    let visit = list[k] as usize;
+    boxes_of(demand[visit])
+}
+
+// The load of a list: its visits' boxes added up.
+fn load_of(l: usize, demand: &[i32], list: &[u16]) -> usize
+    requires { ⌜ Loaded l (now demand) × Visits l (now list) ⌝ }
+    ensures { λ r. ⌜ r ≡ total (boxesAt (now (demand .entry))) (now (list .entry)) ⌝ }
+{
+    let mut load = 0;
+    let mut k = 0;
+    while k < list.len() {
+        load += boxes_at(l, demand, list, k);
+        k += 1;
+    }
+    load
+}
+
+// Whether the load of a list, where it is tested, is within a capacity.
+fn is_within(l: usize, demand: &[i32], tested: bool, van: Van, list: &[u16]) -> bool
+    requires { ⌜ Loaded l (now demand) × Visits l (now list) × Driven l van ⌝ }
+    ensures { λ r. ⌜ r ≡ (not tested || holds (now (demand .entry)) van (now (list .entry))) ⌝ }
+{
+    if !tested {
+        return true;
+    }
+    load_of(l, demand, list) <= boxes_of(van.capacity)
+}
+
+// The price of an evaluated list.
+fn price_of(van: Van, evaluation: Evaluation) -> Price
+    ensures { λ r. ⌜ r ≡ priceOf van evaluation ⌝ }
+{
+    match evaluation {
+        Evaluation::Fails => Price::Unallowed,
+        Evaluation::Passes(e) => Price::Costs(van.route_cost(e.priced_distance())),
+    }
+}
+
+// What a list costs with its van; an empty one costs nothing.
+fn priced(
+    l: usize,
+    flags: &[u8],
+    service: &[f64],
+    ready: &[f64],
+    due: &[f64],
+    penalty: &[f64],
+    distances: &[f64],
+    times: &[f64],
+    van: Van,
+    list: &[u16],
+) -> Price
+    requires { ⌜ Formed (columnsAt l flags service ready due penalty distances times) ⌝ }
+    requires { ⌜ Driven l van × Visits l (now list) ⌝ }
+    ensures { λ r.
+        ⌜ r ≡ pricedAs
+        (columnsAt l (flags .entry) (service .entry) (ready .entry) (due .entry) (penalty .entry) (distances .entry) (times .entry))
+        van (now (list .entry)) ⌝ }
+{
+    if list.len() == 0 {
+        return Price::Costs(0.0);
+    }
+    let limits = RouteLimits::of(van);
+    let evaluation = route_eval(
+        l,
+        flags,
+        service,
+        ready,
+        due,
+        penalty,
+        distances,
+        times,
+        limits,
+        van.depot,
+        list,
+    );
+    price_of(van, evaluation)
+}
+
+// The price of a list, if the van allows it; `tested` says whether its load counts.
+fn allowed_price(
+    l: usize,
+    flags: &[u8],
+    demand: &[i32],
+    service: &[f64],
+    ready: &[f64],
+    due: &[f64],
+    penalty: &[f64],
+    distances: &[f64],
+    times: &[f64],
+    tested: bool,
+    van: Van,
+    list: &[u16],
+) -> Price
+    requires { ⌜ Asked (columnsAt l flags service ready due penalty distances times) (now demand) ⌝ }
+    requires { ⌜ Driven l van × Visits l (now list) ⌝ }
+    ensures { λ r.
+        ⌜ r ≡ allowed
+        (columnsAt l (flags .entry) (service .entry) (ready .entry) (due .entry) (penalty .entry) (distances .entry) (times .entry))
+        (now (demand .entry)) tested van (now (list .entry)) ⌝ }
+{
+    if !is_within(l, demand, tested, van, list) {
+        return Price::Unallowed;
+    }
+    priced(
+        l,
+        flags,
+        service,
+        ready,
+        due,
+        penalty,
+        distances,
+        times,
+        van,
+        list,
+    )
+}
+
+// Builds a list with a stretch of another in the place of its own, at the front of the buffer.
+fn replaced_into(
+    buffer: &mut [u16],
+    list: &[u16],
+    from: usize,
+    to: usize,
+    other: &[u16],
+    other_from: usize,
+    other_to: usize,
+) -> usize
+    requires { ⌜ (from ≤ to) × (to ≤ length (now list)) × («other_from» ≤ «other_to») × («other_to» ≤ length (now other)) ⌝ }
+    requires { ⌜ length (now list) + length (now other) ≤ length (now buffer) ⌝ }
+    ensures { λ r. ⌜ r ≤ length (now (buffer .exit)) ⌝ }
+    ensures { λ r. ⌜ take r (now (buffer .exit)) ≡ replaced (now (list .entry)) from to (slice «other_from» «other_to» (now (other .entry))) ⌝ }
+{
+    let head = append_stretch(buffer, 0, list, 0, from);
+    let middle = append_stretch(buffer, head, other, other_from, other_to);
+    append_stretch(buffer, middle, list, to, list.len())
+}
+
+// The price of a list with a stretch of another in the place of its own, if the van allows it.
+pub fn replaced_price(
+    l: usize,
+    flags: &[u8],
+    demand: &[i32],
+    service: &[f64],
+    ready: &[f64],
+    due: &[f64],
+    penalty: &[f64],
+    distances: &[f64],
+    times: &[f64],
+    tested: bool,
+    van: Van,
+    list: &[u16],
+    from: usize,
+    to: usize,
+    other: &[u16],
+    other_from: usize,
+    other_to: usize,
+) -> Price
+    requires { ⌜ Asked (columnsAt l flags service ready due penalty distances times) (now demand) × Driven l van ⌝ }
+    requires { ⌜ Two l (now list) (now other) × (from ≤ to) × (to ≤ length (now list)) ⌝ }
+    requires { ⌜ («other_from» ≤ «other_to») × («other_to» ≤ length (now other)) ⌝ }
+    ensures { λ r.
+        ⌜ r ≡ allowed
+        (columnsAt l (flags .entry) (service .entry) (ready .entry) (due .entry) (penalty .entry) (distances .entry) (times .entry))
+        (now (demand .entry)) tested van
+        (replaced (now (list .entry)) from to (slice «other_from» «other_to» (now (other .entry)))) ⌝ }
+{
+    let mut buffer = [0u16; 64];
+    let end = replaced_into(&mut buffer, list, from, to, other, other_from, other_to);
+    allowed_price(
+        l,
+        flags,
+        demand,
+        service,
+        ready,
+        due,
+        penalty,
+        distances,
+        times,
+        tested,
+        van,
+        &buffer[0..end],
+    )
+}

@@ -1,0 +1,213 @@
+// A whole run of cross-depot (`cross_depot_improve` of local_search/cross_depot.rs): from the lent prices on, move after move until none gains or the limit is
+// used up.
+use crate::change::make_move;
+use crate::fleet::fleet_vehicle;
+use crate::pair::Move;
+use crate::search::Choice;
+use crate::search::best_move;
+use day::matrix::scale;
+use engine::Ended;
+use numbers::gain_floor;
+ghost use mathlib.Core.Path.{_≡_};
+ghost use mathlib.Core.List.{map};
+ghost use Prim.Native.Nat.{_≤_, _<_};
+ghost use lib.ListN.{length};
+ghost use Rattle.numbers.specs.Floor.{gainFloor};
+ghost use Rattle.day.specs.Matrix.{scaleOf};
+ghost use Rattle.evaluation.specs.Columns.{columnsAt};
+ghost use Rattle.cross_depot.specs.Fleet.{fleetAt, Fitted, Manned};
+ghost use Rattle.cross_depot.specs.CrossDepot.{runOf};
+ghost use Rattle.cross_depot.specs.Scan.{Asked, Held, planOf, nothing};
+ghost use Rattle.cross_depot.specs.Tables.{Chosen, Handed, crossedAs, foundIds, startingCosts, lentPlan};
+
+// How a run ended, and how many lists remain.
+pub struct Crossed {
+    pub ended: Ended,
+    pub lists: usize,
+}
+
+// No move so far.
+fn no_choice(floor: f64) -> Choice
+    ensures { λ r. ⌜ r ≡ nothing floor ⌝ }
+{
+    let none = Move {
+        one: 0,
+        from1: 0,
+        to1: 0,
+        other: 0,
+        from2: 0,
+        to2: 0,
+        tested: false,
+    };
+    Choice {
+        found: false,
+        chosen: none,
+        delta: -floor,
+        cost1: 0.0,
+        cost2: 0.0,
+    }
+}
+
+// The move to make.
+fn next_move(
+    l: usize,
+    flags: &[u8],
+    demand: &[i32],
+    service: &[f64],
+    ready: &[f64],
+    due: &[f64],
+    penalty: &[f64],
+    distances: &[f64],
+    times: &[f64],
+    van_ids: &[u32],
+    depots: &[usize],
+    capacities: &[i32],
+    distance_costs: &[f64],
+    fixed_costs: &[f64],
+    van_flags: &[u8],
+    max_distances: &[f64],
+    max_durations: &[f64],
+    earliest: &[f64],
+    latest: &[f64],
+    durations: &[f64],
+    floor: f64,
+    visits: &[u16],
+    lengths: &[u16],
+    ids: &[u32],
+    costs: &[f64],
+) -> Choice
+    requires { ⌜ Asked (columnsAt l flags service ready due penalty distances times) (now demand) × (floor ≡ gainFloor (scaleOf (now distances))) ⌝ }
+    requires { ⌜ Manned l (fleetAt «van_ids» depots capacities «distance_costs» «fixed_costs» «van_flags» «max_distances» «max_durations» earliest latest durations) ⌝ }
+    requires { ⌜ Held l (now visits) (now lengths) × (length (now ids) ≡ length (now lengths)) × (length (now costs) ≡ length (now lengths)) ⌝ }
+    ensures { λ r.
+        ⌜ Chosen
+        (columnsAt l (flags .entry) (service .entry) (ready .entry) (due .entry) (penalty .entry) (distances .entry) (times .entry))
+        (now (demand .entry))
+        (fleetAt («van_ids» .entry) (depots .entry) (capacities .entry) («distance_costs» .entry) («fixed_costs» .entry) («van_flags» .entry)
+        («max_distances» .entry) («max_durations» .entry) (earliest .entry) (latest .entry) (durations .entry))
+        (now (visits .entry)) (now (lengths .entry)) (now (ids .entry)) (now (costs .entry)) r ⌝ }
+{
+    best_move(
+        l,
+        flags,
+        demand,
+        service,
+        ready,
+        due,
+        penalty,
+        distances,
+        times,
+        van_ids,
+        depots,
+        capacities,
+        distance_costs,
+        fixed_costs,
+        van_flags,
+        max_distances,
+        max_durations,
+        earliest,
+        latest,
+        durations,
+        visits,
+        lengths,
+        ids,
+        costs,
+        no_choice(floor),
+    )
+}
+
+// Makes move after move until none is left or the limit is used up. The first n lists of the tables are the plan's.
+fn descend(
+    l: usize,
+    flags: &[u8],
+    demand: &[i32],
+    service: &[f64],
+    ready: &[f64],
+    due: &[f64],
+    penalty: &[f64],
+    distances: &[f64],
+    times: &[f64],
+    van_ids: &[u32],
+    depots: &[usize],
+    capacities: &[i32],
+    distance_costs: &[f64],
+    fixed_costs: &[f64],
+    van_flags: &[u8],
+    max_distances: &[f64],
+    max_durations: &[f64],
+    earliest: &[f64],
+    latest: &[f64],
+    durations: &[f64],
+    floor: f64,
+    visits: &mut [u16],
+    lengths: &mut [u16],
+    ids: &mut [u32],
+    costs: &mut [f64],
+    limit: u32,
+) -> Crossed
+    requires { ⌜ Asked (columnsAt l flags service ready due penalty distances times) (now demand) × (floor ≡ gainFloor (scaleOf (now distances))) ⌝ }
+    requires { ⌜ Manned l (fleetAt «van_ids» depots capacities «distance_costs» «fixed_costs» «van_flags» «max_distances» «max_durations» earliest latest durations) ⌝ }
+    requires { ⌜ Held l (now visits) (now lengths) × (length (now ids) ≡ length (now lengths)) × (length (now costs) ≡ length (now lengths)) ⌝ }
+    ensures { λ r.
+        ⌜ (let run = runOf
+        (columnsAt l (flags .entry) (service .entry) (ready .entry) (due .entry) (penalty .entry) (distances .entry) (times .entry))
+        (now (demand .entry))
+        (fleetAt («van_ids» .entry) (depots .entry) (capacities .entry) («distance_costs» .entry) («fixed_costs» .entry) («van_flags» .entry)
+        («max_distances» .entry) («max_durations» .entry) (earliest .entry) (latest .entry) (durations .entry))
+        limit (planOf (now (visits .entry)) (now (lengths .entry)) (now (ids .entry)) (now (costs .entry)))
+        in (r ≡ crossedAs run) × Handed (run .last .now) (length (now (lengths .entry))) (now (visits .exit)) (now (lengths .exit)) (now (ids .exit))) ⌝ }
+{
+    let mut n = lengths.len();
+    let mut moves = 0;
+    loop {
+        let best = next_move(
+            l,
+            flags,
+            demand,
+            service,
+            ready,
+            due,
+            penalty,
+            distances,
+            times,
+            van_ids,
+            depots,
+            capacities,
+            distance_costs,
+            fixed_costs,
+            van_flags,
+            max_distances,
+            max_durations,
+            earliest,
+            latest,
+            durations,
+            floor,
+            visits,
+            &lengths[0..n],
+            &ids[0..n],
+            &costs[0..n],
+        );
+        if !best.found {
+            return Crossed {
+                ended: Ended::Settled(moves),
+                lists: n,
+            };
+        }
+        if limit <= moves {
+            return Crossed {
+                ended: Ended::Stopped(moves),
+                lists: n,
+            };
+        }
+        n = make_move(
+            visits,
+            &mut lengths[0..n],
+            &mut ids[0..n],
+            &mut costs[0..n],
+            best.chosen,
+            best.cost1,
+            best.cost2,
+        );
+        moves += 1;
+    }
+}

@@ -1,0 +1,638 @@
+// The best move between the lists of different depots (`best_move` of local_search/cross_depot.rs).
+use crate::pair::Move;
+use crate::pair::Pair;
+use crate::pair::pair_at;
+use crate::price::Price;
+use crate::price::replaced_price;
+use lists::list_of;
+ghost use mathlib.Core.Path.{_≡_};
+ghost use mathlib.Core.Bool.{false};
+ghost use mathlib.Core.List.{[]};
+ghost use Prim.Native.Nat.{_+_, _≤_, _<_};
+ghost use lib.ListN.{length};
+ghost use Rattle.evaluation.specs.Columns.{columnsAt};
+ghost use Rattle.cross_depot.specs.declared.price.Price.the-variants.{Costs};
+ghost use Rattle.cross_depot.specs.CrossDepot.{allowed, replaced, stretchEnd, cuts, sameDepot};
+ghost use Rattle.cross_depot.specs.Scan.{Asked, Paired, Two, single, decided, relocateRow, exchangeRow, bestRelocation, bestSwap, bestTails};
+ghost use Rattle.cross_depot.specs.Scan.{bestBetween, Held, planOf, bestFrom, bestOf};
+ghost use Rattle.cross_depot.specs.Fleet.{fleetAt, Manned};
+
+// The best move so far, with its delta and what its two lists cost; while none is found, the delta is minus the floor.
+pub struct Choice {
+    pub found: bool,
+    pub chosen: Move,
+    pub delta: f64,
+    pub cost1: f64,
+    pub cost2: f64,
+}
+
+// Where a stretch of a swap or of a tail exchange ends: behind its one visit, or at the list's end.
+fn stretch_end(tails: bool, n: usize, k: usize) -> usize
+    requires { ⌜ k ≤ 65535 ⌝ }
+    ensures { λ r. ⌜ r ≡ stretchEnd tails n k ⌝ }
+{
+    if tails {
+        return n;
+    }
+    k + 1
+}
+
+// How many cuts of the second list go with the cut k of the first: nothing moves when both cut at the end.
+fn cuts_of(n1: usize, n2: usize, k: usize) -> usize
+    requires { ⌜ n2 ≤ 65535 ⌝ }
+    ensures { λ r. ⌜ r ≡ cuts n1 n2 k ⌝ }
+{
+    if k == n1 {
+        return n2;
+    }
+    n2 + 1
+}
+
+// The better of the best so far and a move between two lists that then cost `cost1` and `cost2`.
+fn better_of(pair: Pair, tried: Move, cost1: f64, cost2: f64, best: Choice) -> Choice
+    ensures { λ r. ⌜ r ≡ decided pair tried (Costs cost1) (Costs cost2) best ⌝ }
+{
+    let delta = cost1 + cost2 - pair.before;
+    if delta < best.delta {
+        return Choice {
+            found: true,
+            chosen: tried,
+            delta,
+            cost1,
+            cost2,
+        };
+    }
+    best
+}
+
+// Whether both vans start from one depot.
+fn is_same_depot(pair: Pair) -> bool
+    ensures { λ r. ⌜ r ≡ sameDepot pair ⌝ }
+{
+    pair.van1.depot == pair.van2.depot
+}
+
+// ---- two lists
+
+// The best after a visit of the first list, which then costs `cost1`, was tried at every place of the second.
+fn relocate_row(
+    l: usize,
+    flags: &[u8],
+    demand: &[i32],
+    service: &[f64],
+    ready: &[f64],
+    due: &[f64],
+    penalty: &[f64],
+    distances: &[f64],
+    times: &[f64],
+    pair: Pair,
+    one: &[u16],
+    other: &[u16],
+    position: usize,
+    cost1: f64,
+    best: Choice,
+) -> Choice
+    requires { ⌜ Asked (columnsAt l flags service ready due penalty distances times) (now demand) × Paired l pair × Two l (now one) (now other) ⌝ }
+    requires { ⌜ (position < length (now one))
+        × (Costs cost1 ≡ allowed (columnsAt l flags service ready due penalty distances times) (now demand) false (pair .van1)
+        (replaced (now one) position (position + 1) [])) ⌝ }
+    ensures { λ r.
+        ⌜ r ≡ relocateRow
+        (columnsAt l (flags .entry) (service .entry) (ready .entry) (due .entry) (penalty .entry) (distances .entry) (times .entry))
+        (now (demand .entry)) pair (now (one .entry)) (now (other .entry)) position best ⌝ }
+{
+    let behind = position + 1;
+    let mut found = best;
+    let mut next = 0;
+    while next <= other.len() {
+        let place = next;
+        next += 1;
+        let second = replaced_price(
+            l,
+            flags,
+            demand,
+            service,
+            ready,
+            due,
+            penalty,
+            distances,
+            times,
+            true,
+            pair.van2,
+            other,
+            place,
+            place,
+            one,
+            position,
+            behind,
+        );
+        let Price::Costs(cost2) = second else {
+            continue;
+        };
+        let tried = Move {
+            one: pair.one,
+            from1: position,
+            to1: behind,
+            other: pair.other,
+            from2: place,
+            to2: place,
+            tested: false,
+        };
+        found = better_of(pair, tried, cost1, cost2, found);
+    }
+    found
+}
+
+// The best after every visit of the first list was tried in the second.
+fn relocations(
+    l: usize,
+    flags: &[u8],
+    demand: &[i32],
+    service: &[f64],
+    ready: &[f64],
+    due: &[f64],
+    penalty: &[f64],
+    distances: &[f64],
+    times: &[f64],
+    pair: Pair,
+    one: &[u16],
+    other: &[u16],
+    best: Choice,
+) -> Choice
+    requires { ⌜ Asked (columnsAt l flags service ready due penalty distances times) (now demand) × Paired l pair × Two l (now one) (now other) ⌝ }
+    ensures { λ r.
+        ⌜ r ≡ bestRelocation
+        (columnsAt l (flags .entry) (service .entry) (ready .entry) (due .entry) (penalty .entry) (distances .entry) (times .entry))
+        (now (demand .entry)) pair (now (one .entry)) (now (other .entry)) best ⌝ }
+{
+    let mut found = best;
+    let mut next = 0;
+    while next < one.len() {
+        let position = next;
+        next += 1;
+        let first = replaced_price(
+            l,
+            flags,
+            demand,
+            service,
+            ready,
+            due,
+            penalty,
+            distances,
+            times,
+            false,
+            pair.van1,
+            one,
+            position,
+            next,
+            other,
+            0,
+            0,
+        );
+        let Price::Costs(cost1) = first else {
+            continue;
+        };
+        found = relocate_row(
+            l,
+            flags,
+            demand,
+            service,
+            ready,
+            due,
+            penalty,
+            distances,
+            times,
+            pair,
+            one,
+            other,
+            position,
+            cost1,
+            found,
+        );
+    }
+    found
+}
+
+// The best after the visit k1 of the first list, or its tail from k1 on, was tried with the first `count` of the second.
+fn exchange_row(
+    l: usize,
+    flags: &[u8],
+    demand: &[i32],
+    service: &[f64],
+    ready: &[f64],
+    due: &[f64],
+    penalty: &[f64],
+    distances: &[f64],
+    times: &[f64],
+    pair: Pair,
+    one: &[u16],
+    other: &[u16],
+    tails: bool,
+    k1: usize,
+    count: usize,
+    best: Choice,
+) -> Choice
+    requires { ⌜ Asked (columnsAt l flags service ready due penalty distances times) (now demand) × Paired l pair × Two l (now one) (now other) ⌝ }
+    requires { ⌜ (k1 + single tails ≤ length (now one)) × (count + single tails ≤ length (now other) + 1) ⌝ }
+    ensures { λ r.
+        ⌜ r ≡ exchangeRow
+        (columnsAt l (flags .entry) (service .entry) (ready .entry) (due .entry) (penalty .entry) (distances .entry) (times .entry))
+        (now (demand .entry)) pair (now (one .entry)) (now (other .entry)) tails k1 count best ⌝ }
+{
+    let end1 = stretch_end(tails, one.len(), k1);
+    let mut found = best;
+    let mut next = 0;
+    while next < count {
+        let k2 = next;
+        next += 1;
+        let end2 = stretch_end(tails, other.len(), k2);
+        let first = replaced_price(
+            l,
+            flags,
+            demand,
+            service,
+            ready,
+            due,
+            penalty,
+            distances,
+            times,
+            true,
+            pair.van1,
+            one,
+            k1,
+            end1,
+            other,
+            k2,
+            end2,
+        );
+        let Price::Costs(cost1) = first else {
+            continue;
+        };
+        let second = replaced_price(
+            l,
+            flags,
+            demand,
+            service,
+            ready,
+            due,
+            penalty,
+            distances,
+            times,
+            true,
+            pair.van2,
+            other,
+            k2,
+            end2,
+            one,
+            k1,
+            end1,
+        );
+        let Price::Costs(cost2) = second else {
+            continue;
+        };
+        let tried = Move {
+            one: pair.one,
+            from1: k1,
+            to1: end1,
+            other: pair.other,
+            from2: k2,
+            to2: end2,
+            tested: true,
+        };
+        found = better_of(pair, tried, cost1, cost2, found);
+    }
+    found
+}
+
+// The best after every swap of a visit of the first list and one of the second.
+fn swaps(
+    l: usize,
+    flags: &[u8],
+    demand: &[i32],
+    service: &[f64],
+    ready: &[f64],
+    due: &[f64],
+    penalty: &[f64],
+    distances: &[f64],
+    times: &[f64],
+    pair: Pair,
+    one: &[u16],
+    other: &[u16],
+    best: Choice,
+) -> Choice
+    requires { ⌜ Asked (columnsAt l flags service ready due penalty distances times) (now demand) × Paired l pair × Two l (now one) (now other) ⌝ }
+    ensures { λ r.
+        ⌜ r ≡ bestSwap
+        (columnsAt l (flags .entry) (service .entry) (ready .entry) (due .entry) (penalty .entry) (distances .entry) (times .entry))
+        (now (demand .entry)) pair (now (one .entry)) (now (other .entry)) best ⌝ }
+{
+    let mut found = best;
+    let mut k1 = 0;
+    while k1 < one.len() {
+        found = exchange_row(
+            l,
+            flags,
+            demand,
+            service,
+            ready,
+            due,
+            penalty,
+            distances,
+            times,
+            pair,
+            one,
+            other,
+            false,
+            k1,
+            other.len(),
+            found,
+        );
+        k1 += 1;
+    }
+    found
+}
+
+// The best after every exchange of a tail of the first list and one of the second.
+fn tail_exchanges(
+    l: usize,
+    flags: &[u8],
+    demand: &[i32],
+    service: &[f64],
+    ready: &[f64],
+    due: &[f64],
+    penalty: &[f64],
+    distances: &[f64],
+    times: &[f64],
+    pair: Pair,
+    one: &[u16],
+    other: &[u16],
+    best: Choice,
+) -> Choice
+    requires { ⌜ Asked (columnsAt l flags service ready due penalty distances times) (now demand) × Paired l pair × Two l (now one) (now other) ⌝ }
+    ensures { λ r.
+        ⌜ r ≡ bestTails
+        (columnsAt l (flags .entry) (service .entry) (ready .entry) (due .entry) (penalty .entry) (distances .entry) (times .entry))
+        (now (demand .entry)) pair (now (one .entry)) (now (other .entry)) best ⌝ }
+{
+    let mut found = best;
+    let mut k1 = 0;
+    while k1 <= one.len() {
+        let count = cuts_of(one.len(), other.len(), k1);
+        found = exchange_row(
+            l,
+            flags,
+            demand,
+            service,
+            ready,
+            due,
+            penalty,
+            distances,
+            times,
+            pair,
+            one,
+            other,
+            true,
+            k1,
+            count,
+            found,
+        );
+        k1 += 1;
+    }
+    found
+}
+
+// The best after every move between two lists; swaps and tail exchanges are tried once a pair.
+fn between_lists(
+    l: usize,
+    flags: &[u8],
+    demand: &[i32],
+    service: &[f64],
+    ready: &[f64],
+    due: &[f64],
+    penalty: &[f64],
+    distances: &[f64],
+    times: &[f64],
+    pair: Pair,
+    one: &[u16],
+    other: &[u16],
+    best: Choice,
+) -> Choice
+    requires { ⌜ Asked (columnsAt l flags service ready due penalty distances times) (now demand) × Paired l pair × Two l (now one) (now other) ⌝ }
+    ensures { λ r.
+        ⌜ r ≡ bestBetween
+        (columnsAt l (flags .entry) (service .entry) (ready .entry) (due .entry) (penalty .entry) (distances .entry) (times .entry))
+        (now (demand .entry)) pair (now (one .entry)) (now (other .entry)) best ⌝ }
+{
+    let relocated = relocations(
+        l,
+        flags,
+        demand,
+        service,
+        ready,
+        due,
+        penalty,
+        distances,
+        times,
+        pair,
+        one,
+        other,
+        best,
+    );
+    if pair.one >= pair.other {
+        return relocated;
+    }
+    let swapped = swaps(
+        l,
+        flags,
+        demand,
+        service,
+        ready,
+        due,
+        penalty,
+        distances,
+        times,
+        pair,
+        one,
+        other,
+        relocated,
+    );
+    tail_exchanges(
+        l,
+        flags,
+        demand,
+        service,
+        ready,
+        due,
+        penalty,
+        distances,
+        times,
+        pair,
+        one,
+        other,
+        swapped,
+    )
+}
+
+// ---- all pairs of lists
+
+// The best after every move between list a and another whose van starts from another depot.
+fn best_from(
+    l: usize,
+    flags: &[u8],
+    demand: &[i32],
+    service: &[f64],
+    ready: &[f64],
+    due: &[f64],
+    penalty: &[f64],
+    distances: &[f64],
+    times: &[f64],
+    van_ids: &[u32],
+    depots: &[usize],
+    capacities: &[i32],
+    distance_costs: &[f64],
+    fixed_costs: &[f64],
+    van_flags: &[u8],
+    max_distances: &[f64],
+    max_durations: &[f64],
+    earliest: &[f64],
+    latest: &[f64],
+    durations: &[f64],
+    visits: &[u16],
+    lengths: &[u16],
+    ids: &[u32],
+    costs: &[f64],
+    a: usize,
+    best: Choice,
+) -> Choice
+    requires { ⌜ Asked (columnsAt l flags service ready due penalty distances times) (now demand) ⌝ }
+    requires { ⌜ Manned l (fleetAt «van_ids» depots capacities «distance_costs» «fixed_costs» «van_flags» «max_distances» «max_durations» earliest latest durations) ⌝ }
+    requires { ⌜ Held l (now visits) (now lengths) × (length (now ids) ≡ length (now lengths)) × (length (now costs) ≡ length (now lengths)) ⌝ }
+    requires { ⌜ a < length (now lengths) ⌝ }
+    ensures { λ r.
+        ⌜ r ≡ bestFrom
+        (columnsAt l (flags .entry) (service .entry) (ready .entry) (due .entry) (penalty .entry) (distances .entry) (times .entry))
+        (now (demand .entry))
+        (fleetAt («van_ids» .entry) (depots .entry) (capacities .entry) («distance_costs» .entry) («fixed_costs» .entry) («van_flags» .entry)
+        («max_distances» .entry) («max_durations» .entry) (earliest .entry) (latest .entry) (durations .entry))
+        (planOf (now (visits .entry)) (now (lengths .entry)) (now (ids .entry)) (now (costs .entry))) a best ⌝ }
+{
+    let mut found = best;
+    let mut next = 0;
+    while next < lengths.len() {
+        let b = next;
+        next += 1;
+        let pair = pair_at(
+            van_ids,
+            depots,
+            capacities,
+            distance_costs,
+            fixed_costs,
+            van_flags,
+            max_distances,
+            max_durations,
+            earliest,
+            latest,
+            durations,
+            ids,
+            costs,
+            a,
+            b,
+        );
+        if is_same_depot(pair) {
+            continue;
+        }
+        let one = list_of(visits, lengths, a);
+        let other = list_of(visits, lengths, b);
+        found = between_lists(
+            l,
+            flags,
+            demand,
+            service,
+            ready,
+            due,
+            penalty,
+            distances,
+            times,
+            pair,
+            one,
+            other,
+            found,
+        );
+    }
+    found
+}
+
+// The best of all moves, from `best` on.
+pub fn best_move(
+    l: usize,
+    flags: &[u8],
+    demand: &[i32],
+    service: &[f64],
+    ready: &[f64],
+    due: &[f64],
+    penalty: &[f64],
+    distances: &[f64],
+    times: &[f64],
+    van_ids: &[u32],
+    depots: &[usize],
+    capacities: &[i32],
+    distance_costs: &[f64],
+    fixed_costs: &[f64],
+    van_flags: &[u8],
+    max_distances: &[f64],
+    max_durations: &[f64],
+    earliest: &[f64],
+    latest: &[f64],
+    durations: &[f64],
+    visits: &[u16],
+    lengths: &[u16],
+    ids: &[u32],
+    costs: &[f64],
+    best: Choice,
+) -> Choice
+    requires { ⌜ Asked (columnsAt l flags service ready due penalty distances times) (now demand) ⌝ }
+    requires { ⌜ Manned l (fleetAt «van_ids» depots capacities «distance_costs» «fixed_costs» «van_flags» «max_distances» «max_durations» earliest latest durations) ⌝ }
+    requires { ⌜ Held l (now visits) (now lengths) × (length (now ids) ≡ length (now lengths)) × (length (now costs) ≡ length (now lengths)) ⌝ }
+    ensures { λ r.
+        ⌜ r ≡ bestOf
+        (columnsAt l (flags .entry) (service .entry) (ready .entry) (due .entry) (penalty .entry) (distances .entry) (times .entry))
+        (now (demand .entry))
+        (fleetAt («van_ids» .entry) (depots .entry) (capacities .entry) («distance_costs» .entry) («fixed_costs» .entry) («van_flags» .entry)
+        («max_distances» .entry) («max_durations» .entry) (earliest .entry) (latest .entry) (durations .entry))
+        (planOf (now (visits .entry)) (now (lengths .entry)) (now (ids .entry)) (now (costs .entry))) best ⌝ }
+{
+    let mut found = best;
+    let mut a = 0;
+    while a < lengths.len() {
+        found = best_from(
+            l,
+            flags,
+            demand,
+            service,
+            ready,
+            due,
+            penalty,
+            distances,
+            times,
+            van_ids,
+            depots,
+            capacities,
+            distance_costs,
+            fixed_costs,
+            van_flags,
+            max_distances,
+            max_durations,
+            earliest,
+            latest,
+            durations,
+            visits,
+            lengths,
+            ids,
+            costs,
+            a,
+            found,
+        );
+        a += 1;
+    }
+    found
+}
