@@ -1,4 +1,4 @@
-//! Times the checks and the engines within a list against the published Rust in one run. run.sh puts this file beside the Rust's modules.
+//! Times the checks and the engines against the published Rust in one run. run.sh puts this file beside the Rust's modules.
 //! An entry of the planner also tests its whole input for refusals, which the Rust doesn't; so each row has the time of the
 //! entry, the time of the refusals alone (planner_refusal), and their difference, the work itself, against the Rust.
 //! Before an engine is timed, both sides run once from the same list, and list, distance bits, moves and end word are compared.
@@ -59,6 +59,37 @@ exports! {
     planner_two_opt_improve(*mut u16; limit: u32, settled: *mut u8, moves: *mut u32, distance: *mut f64);
     planner_or_opt_improve(*mut u16; limit: u32, settled: *mut u8, moves: *mut u32, distance: *mut f64);
     planner_three_opt_improve(*mut u16; limit: u32, settled: *mut u8, moves: *mut u32, distance: *mut f64);
+}
+
+macro_rules! exports_over_all {
+    ($($name:ident($($parameter:ident: $kind:ty),*);)*) => {
+        extern "C" {
+            $(fn $name(
+                l: usize, flags: *const u8, flags_count: usize, demand: *const i32, demand_count: usize,
+                service: *const f64, service_count: usize, ready: *const f64, ready_count: usize,
+                due: *const f64, due_count: usize, penalty: *const f64, penalty_count: usize,
+                distances: *const f64, distances_count: usize, times: *const f64, times_count: usize, van: Van,
+                visits: *mut u16, visits_count: usize, lengths: *mut u16, lengths_count: usize, limit: u32,
+                $($parameter: $kind),*
+            ) -> u8;)*
+        }
+    };
+}
+exports_over_all! {
+    planner_relocate_improve(pruning: u8, settled: *mut u8, moves: *mut u32, remaining: *mut usize);
+    planner_exchange_improve(settled: *mut u8, moves: *mut u32, remaining: *mut usize);
+}
+
+macro_rules! call_over_all {
+    ($name:ident, $d:expr, $visits:expr, $lengths:expr, $limit:expr, $($argument:expr),*) => {
+        // SAFETY: each pointer is a Vec's with its own length, or a local's.
+        unsafe {
+            $name($d.l, $d.flags.as_ptr(), $d.flags.len(), $d.demand.as_ptr(), $d.demand.len(), $d.service.as_ptr(), $d.service.len(),
+                $d.ready.as_ptr(), $d.ready.len(), $d.due.as_ptr(), $d.due.len(), $d.penalty.as_ptr(), $d.penalty.len(),
+                $d.distances.as_ptr(), $d.distances.len(), $d.times.as_ptr(), $d.times.len(), $d.van,
+                $visits.as_mut_ptr(), $visits.len(), $lengths.as_mut_ptr(), $lengths.len(), $limit, $($argument),*)
+        }
+    };
 }
 
 macro_rules! call {
@@ -181,6 +212,53 @@ impl Day {
             }
         }
         d
+    }
+
+    /// For the engines across lists: 62 offices dealt out to so many lists, with room for two more in each.
+    fn dealt(kind: Kind, lists: usize) -> Day {
+        let mut d = Day::new(62);
+        let mut random = Random(lists as u64);
+        d.van.capacity = (62 / lists + 3) as i32;
+        d.van.fixed_cost = 20.0;
+        let parts: Vec<Vec<u16>> = (0..lists).map(|r| (1..63u16).filter(|k| *k as usize % lists == r).collect()).collect();
+        d.lengths = parts.iter().map(|part| part.len() as u16).collect();
+        d.visits = parts.concat();
+        if kind == Kind::Free {
+            return d;
+        }
+        for part in &parts {
+            let (mut here, mut time) = (0, 0.0);
+            for &k in part {
+                let k = k as usize;
+                time += d.distances[here * d.l + k];
+                d.flags[k] = if kind == Kind::Hard { 2 } else { 6 };
+                d.ready[k] = f64::max(0.0, time - 100.0 * random.next());
+                d.due[k] = f64::max(d.ready[k], time + 200.0 * random.next() - if kind == Kind::Soft { 100.0 } else { 0.0 });
+                d.penalty[k] = 0.25 + random.next();
+                time += d.service[k];
+                here = k;
+            }
+        }
+        d
+    }
+
+    /// The lists as the Rust has them.
+    fn solution(&self) -> Solution {
+        let mut solution = Solution::new();
+        let mut start = 0;
+        for &n in &self.lengths {
+            let mut route = Route::new(0);
+            for &c in &self.visits[start..start + n as usize] {
+                route.push_visit(Visit { customer_id: c as usize, arrival_time: 0.0, departure_time: 0.0, load_after: 0 });
+            }
+            solution.add_route(route);
+            start += n as usize;
+        }
+        solution
+    }
+
+    fn vehicle(&self) -> Vehicle {
+        Vehicle::new(0, self.van.capacity).with_depot(0).with_cost_per_distance(self.van.cost_per_distance).with_fixed_cost(self.van.fixed_cost)
     }
 
     fn customers(&self) -> Vec<Customer> {
@@ -378,6 +456,54 @@ fn engines(bench: &Bench) {
     }
 }
 
+/// What a run over all lists answers: the lists, the moves, and whether it settled.
+type RanOver = (Vec<Vec<usize>>, u64, bool);
+
+macro_rules! engine_over_all {
+    ($bench:expr, $kind:expr, $kind_name:expr, $lists:expr, $name:expr, $rust:path, $port:ident $(, $more:expr)*) => {{
+        let d = Day::dealt($kind, $lists);
+        let (customers, dm, solution, vehicle) = (d.customers(), d.matrix(), d.solution(), d.vehicle());
+        let limit: u32 = 200;
+        let rust = || -> RanOver {
+            oracle::start(limit as u64, true);
+            let back = $rust(black_box(&solution), &customers, &dm, &vehicle);
+            (back.routes().iter().map(|r| r.customer_ids()).collect(), oracle::moves(), !oracle::halted())
+        };
+        let (mut visits, mut lengths) = (d.visits.clone(), d.lengths.clone());
+        let (mut settled, mut moves, mut remaining) = (0u8, 0u32, 0usize);
+        let expected = rust();
+        let refusal = call_over_all!($port, d, visits, lengths, limit, $($more,)* &mut settled, &mut moves, &mut remaining);
+        assert_eq!(refusal, 0, "{} refuses the day of {} lists, {}", $name, $lists, $kind_name);
+        let mut start = 0;
+        let mut got: RanOver = (Vec::new(), moves as u64, settled == 1);
+        for &n in &lengths[..remaining] {
+            got.0.push(visits[start..start + n as usize].iter().map(|&v| v as usize).collect());
+            start += n as usize;
+        }
+        assert_eq!(got, expected, "{} on {} lists, {}", $name, $lists, $kind_name);
+        $bench.row(&format!("{}, {}, lists", $name, $kind_name), $lists, [
+            &mut || { black_box(rust()); },
+            &mut || { black_box(call!(planner_refusal, black_box(&d), d.van, d.visits.as_ptr(),)); },
+            &mut || {
+                visits.copy_from_slice(&d.visits);
+                lengths.copy_from_slice(&d.lengths);
+                black_box(call_over_all!($port, black_box(&d), visits, lengths, limit, $($more,)* &mut settled, &mut moves, &mut remaining));
+            },
+        ]);
+    }};
+}
+
+fn engines_over_all(bench: &Bench) {
+    for (kind, kind_name) in [KINDS[0], KINDS[1], KINDS[4]] {
+        for lists in [4, 16] {
+            engine_over_all!(bench, kind, kind_name, lists, "relocate", local_search::relocate_improve, planner_relocate_improve, 1);
+        }
+        for lists in [2, 16] {
+            engine_over_all!(bench, kind, kind_name, lists, "tail exchange", local_search::exchange_improve, planner_exchange_improve);
+        }
+    }
+}
+
 fn main() {
     let mut bench = Bench { counting: false, instructions: HashMap::new() };
     match std::env::args().nth(1).as_deref() {
@@ -400,4 +526,5 @@ fn main() {
     }
     checks(&bench);
     engines(&bench);
+    engines_over_all(&bench);
 }

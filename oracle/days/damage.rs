@@ -190,7 +190,7 @@ fn lists(day: &mut Day, random: &mut Random) {
             }
         }
         _ => {
-            for run in day.runs.iter_mut().filter(|run| run.engine != "table") {
+            for run in day.runs.iter_mut().filter(|run| run.engine != "table" && !families::ACROSS.contains(&run.engine.as_str())) {
                 run.list = random.pick(&[count, count, count + 1, 16, 255, 256, 1 << 32, 1 << 63, u64::MAX]);
             }
         }
