@@ -10,3 +10,5 @@ pub mod Onward
 pub mod Choosing
 pub mod Sound
 pub mod Going
+pub mod Starting
+pub mod Ends

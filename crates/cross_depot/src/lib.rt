@@ -6,4 +6,5 @@ pub mod price; // what a list costs with its van
 pub mod pair; // two lists, and a move between them
 pub mod search; // the best move
 pub mod change; // what a move makes of the tables
+pub mod start; // the van and the cost of each list at the start
 pub mod run; // a whole run
