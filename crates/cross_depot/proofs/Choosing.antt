@@ -16,7 +16,7 @@ use Rattle.lists.specs.Edits.{at}
 use Rattle.evaluation.specs.Columns.{Columns}
 use Rattle.descent.specs.Order.{range, each}
 use Rattle.descent.specs.Search.{ok, taken}
-use Rattle.cross_depot.specs.Fleet.{Fleet}
+use Rattle.fleet.specs.Fleet.{Fleet}
 use Rattle.cross_depot.specs.CrossDepot.{Plan, relocation, exchange, cuts, relocations, swaps, tailExchanges, pairOf, sameDepot, betweenLists, ofPair, moves}
 use Rattle.cross_depot.specs.CrossDepot.{hasPrice, amount, firstPrice, secondPrice, searchOf, judgeOf}
 use Rattle.cross_depot.specs.Scan.{scan, decided, better, tryRelocation, tryExchange, relocateRow, exchangeRow, bestRelocation, bestSwap, bestTails}

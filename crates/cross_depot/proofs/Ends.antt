@@ -8,7 +8,7 @@ use lib.IntN.{ℤ}
 use Rattle.evaluation.specs.Columns.{Columns}
 use Rattle.descent.specs.Search.{settled, stopped, next}
 use Rattle.descent.proofs.Runs.{ran}
-use Rattle.cross_depot.specs.Fleet.{Fleet}
+use Rattle.fleet.specs.Fleet.{Fleet}
 use Rattle.cross_depot.specs.CrossDepot.{Plan, searchOf, judgeOf, runOf}
 
 module _ (c : Columns) (demand : List ℤ) (fleet : Fleet) (limit : ℕ) (p : Plan) where

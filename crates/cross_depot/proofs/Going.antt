@@ -23,7 +23,7 @@ use Rattle.descent.specs.Search.{Sweep, Outcome, settled, stopped, taken, first
 use Rattle.descent.proofs.Loops.{place-passed, place-moved, next-sweep, run-settles, run-stops, run-moves}
 use Rattle.engine.specs.Engine.{endedAs}
 use Rattle.engine.specs.declared.Ended.the-variants.{Settled, Stopped}
-use Rattle.cross_depot.specs.Fleet.{Fleet}
+use Rattle.fleet.specs.Fleet.{Fleet}
 use Rattle.cross_depot.specs.CrossDepot.{Plan, afterMove, moved, searchOf, judgeOf, runOf}
 use Rattle.cross_depot.specs.Scan.{Held, planOf, moveOf}
 use Rattle.cross_depot.specs.Tables.{Made, Chosen, Handed, crossedAs}

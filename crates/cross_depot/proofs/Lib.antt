@@ -1,4 +1,3 @@
-pub mod Numbered
 pub mod Loads
 pub mod Stretch
 pub mod Scanning

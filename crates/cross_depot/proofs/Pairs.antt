@@ -16,12 +16,12 @@ use Rattle.lists.specs.Table.{lists, startOf, listOf}
 use Rattle.lists.proofs.Tables.{at-lists, length-lists, length-list, list-at, start-later, start-within}
 use Rattle.evaluation.specs.Columns.{Columns}
 use Rattle.descent.specs.Order.{range}
-use Rattle.cross_depot.specs.Fleet.{Fleet, Manned}
+use Rattle.fleet.specs.Fleet.{Fleet, Manned}
 use Rattle.cross_depot.specs.CrossDepot.{pairOf, sameDepot}
 use Rattle.cross_depot.specs.Scan.{Two, Held, Paired, planOf, scan, bestBetween, bestOfPair, bestFrom, bestOf}
 use Rattle.cross_depot.specs.declared.pair.Pair.{Pair}
 use Rattle.cross_depot.specs.declared.search.Choice.{Choice}
-use Rattle.cross_depot.proofs.Numbered.{vehicle-driven}
+use Rattle.fleet.proofs.Numbered.{vehicle-driven}
 
 module _ (l : ℕ) (visits lengths : List ℕ) (held : Held l visits lengths) where
   below-of : (r k : ℕ) → k < length (listOf visits lengths r) → getD (listOf visits lengths r) k 0 < l

@@ -20,7 +20,7 @@ use Rattle.descent.specs.Order.{_∈_, range, each}
 use Rattle.descent.specs.Search.{ok, taken}
 use Rattle.descent.proofs.Members.{not-in, in-either, range-in, each-in, map-in}
 use Rattle.descent.proofs.Sweeps.{first-least-some}
-use Rattle.cross_depot.specs.Fleet.{Fleet}
+use Rattle.fleet.specs.Fleet.{Fleet}
 use Rattle.cross_depot.specs.CrossDepot.{Plan, relocation, stretchEnd, exchange, cuts, relocations, swaps, tailExchanges, pairOf, sameDepot}
 use Rattle.cross_depot.specs.CrossDepot.{betweenLists, ofPair, moves, moved, searchOf, judgeOf}
 use Rattle.cross_depot.specs.Scan.{planOf, nothing, moveOf, bestOf, single}

@@ -7,7 +7,7 @@ use native.Mathlib.Omega.{arith}
 use lib.ListN.{length, getD, set, take, drop, length-map, length-set, drop-of-length-le}
 use lib.Seq.{take-all, drop-cons, set-at, getD-at, length-take-le, append-snoc}
 use lib.Ieee.{Float, nan}
-use Rattle.cross_depot.specs.Fleet.{Fleet}
+use Rattle.fleet.specs.Fleet.{Fleet}
 use Rattle.cross_depot.specs.CrossDepot.{startingCost}
 use Rattle.cross_depot.specs.Tables.{startingCosts}
 

@@ -27,7 +27,7 @@ use Rattle.evaluation.specs.declared.route.Evaluation.the-variants.{Fails, Pass
 use Rattle.descent.specs.Order.{range, each}
 use Rattle.descent.specs.Search.{begins-again, Search, Judge, Sweep, Outcome, next, run}
 use Rattle.cross_depot.specs.Boxes.{boxesAt}
-use Rattle.cross_depot.specs.Fleet.{Fleet, fleetVehicle}
+use Rattle.fleet.specs.Fleet.{Fleet, fleetVehicle}
 use Rattle.cross_depot.specs.declared.price.Price.{Price}
 use Rattle.cross_depot.specs.declared.price.Price.the-variants.{Unallowed, Costs}
 use Rattle.cross_depot.specs.declared.pair.Pair.{Pair}

@@ -1,4 +1,3 @@
-pub mod Fleet
 pub mod Boxes
 pub mod CrossDepot
 pub mod Scan

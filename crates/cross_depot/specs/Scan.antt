@@ -17,7 +17,7 @@ use Rattle.lists.specs.Edits.{at}
 use Rattle.evaluation.specs.Columns.{Columns, Formed}
 use Rattle.descent.specs.Order.{range}
 use Rattle.cross_depot.specs.Boxes.{Loaded}
-use Rattle.cross_depot.specs.Fleet.{Fleet, Driven, Manned}
+use Rattle.fleet.specs.Fleet.{Fleet, Driven, Manned}
 use Rattle.cross_depot.specs.CrossDepot.{Plan, allowed, replaced, relocation, exchange, cuts, pairOf, sameDepot}
 use Rattle.cross_depot.specs.declared.price.Price.{Price}
 use Rattle.cross_depot.specs.declared.price.Price.the-variants.{Unallowed, Costs}

@@ -12,7 +12,7 @@ use Rattle.lists.specs.Table.{Laid, flat, lengthsOf}
 use Rattle.evaluation.specs.Columns.{Columns}
 use Rattle.descent.specs.Search.{Sweep, Outcome, taken}
 use Rattle.engine.specs.Engine.{endedAs}
-use Rattle.cross_depot.specs.Fleet.{Fleet, fleetVehicle}
+use Rattle.fleet.specs.Fleet.{Fleet, fleetVehicle}
 use Rattle.cross_depot.specs.CrossDepot.{Plan, ofFilled, afterMove, moved, startingCost, searchOf, judgeOf}
 use Rattle.cross_depot.specs.Scan.{planOf, moveOf}
 use Rattle.cross_depot.specs.declared.pair.Move.{Move}

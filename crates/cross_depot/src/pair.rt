@@ -1,10 +1,10 @@
 // Two lists of the plan, and a move between them.
-use crate::fleet::fleet_vehicle;
 use day::vehicle::Van;
+use fleet::vehicle::fleet_vehicle;
 ghost use mathlib.Core.Path.{_≡_};
 ghost use Prim.Native.Nat.{_≤_, _<_};
 ghost use lib.ListN.{length};
-ghost use Rattle.cross_depot.specs.Fleet.{fleetAt, Fitted};
+ghost use Rattle.fleet.specs.Fleet.{fleetAt, Fitted};
 ghost use Rattle.cross_depot.specs.CrossDepot.{pairOf};
 
 // Two lists by number, their vans, and what they cost together.

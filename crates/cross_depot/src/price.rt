@@ -14,7 +14,7 @@ ghost use lib.Seq.{slice};
 ghost use Rattle.edits.specs.Total.{total};
 ghost use Rattle.evaluation.specs.Columns.{columnsAt, Formed, Visits};
 ghost use Rattle.cross_depot.specs.Boxes.{boxesAt, Loaded};
-ghost use Rattle.cross_depot.specs.Fleet.{Driven};
+ghost use Rattle.fleet.specs.Fleet.{Driven};
 ghost use Rattle.cross_depot.specs.CrossDepot.{priceOf, pricedAs, holds, allowed, replaced};
 ghost use Rattle.cross_depot.specs.Scan.{Asked, Two};
 

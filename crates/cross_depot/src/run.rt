@@ -1,12 +1,12 @@
 // A whole run of cross-depot (`cross_depot_improve` of local_search/cross_depot.rs): from the lent prices on, move after move until none gains or the limit is
 // used up.
 use crate::change::make_move;
-use crate::fleet::fleet_vehicle;
 use crate::pair::Move;
 use crate::search::Choice;
 use crate::search::best_move;
 use day::matrix::scale;
 use engine::Ended;
+use fleet::vehicle::fleet_vehicle;
 use numbers::gain_floor;
 ghost use mathlib.Core.Path.{_≡_};
 ghost use mathlib.Core.List.{map};
@@ -15,7 +15,7 @@ ghost use lib.ListN.{length};
 ghost use Rattle.numbers.specs.Floor.{gainFloor};
 ghost use Rattle.day.specs.Matrix.{scaleOf};
 ghost use Rattle.evaluation.specs.Columns.{columnsAt};
-ghost use Rattle.cross_depot.specs.Fleet.{fleetAt, Fitted, Manned};
+ghost use Rattle.fleet.specs.Fleet.{fleetAt, Fitted, Manned};
 ghost use Rattle.cross_depot.specs.CrossDepot.{runOf};
 ghost use Rattle.cross_depot.specs.Scan.{Asked, Held, planOf, nothing};
 ghost use Rattle.cross_depot.specs.Tables.{Chosen, Handed, crossedAs, foundIds, startingCosts, lentPlan};

@@ -15,7 +15,7 @@ ghost use Rattle.cross_depot.specs.declared.price.Price.the-variants.{Co
 ghost use Rattle.cross_depot.specs.CrossDepot.{allowed, replaced, stretchEnd, cuts, sameDepot};
 ghost use Rattle.cross_depot.specs.Scan.{Asked, Paired, Two, single, decided, relocateRow, exchangeRow, bestRelocation, bestSwap, bestTails};
 ghost use Rattle.cross_depot.specs.Scan.{bestBetween, Held, planOf, bestFrom, bestOf};
-ghost use Rattle.cross_depot.specs.Fleet.{fleetAt, Manned};
+ghost use Rattle.fleet.specs.Fleet.{fleetAt, Manned};
 
 // The best move so far, with its delta and what its two lists cost; while none is found, the delta is minus the floor.
 pub struct Choice {

@@ -1,9 +1,9 @@
 // The start of a run: the van of each list, and what each list costs by the price that is lent.
-use crate::fleet::fleet_vehicle;
+use fleet::vehicle::fleet_vehicle;
 ghost use mathlib.Core.Path.{_≡_};
 ghost use Prim.Native.Nat.{_≤_, _<_};
 ghost use lib.ListN.{length};
-ghost use Rattle.cross_depot.specs.Fleet.{fleetAt, Fitted};
+ghost use Rattle.fleet.specs.Fleet.{fleetAt, Fitted};
 ghost use Rattle.cross_depot.specs.Tables.{foundIds, startingCosts};
 
 // Puts the id of the van that is found in the place of each list's.

@@ -6,7 +6,7 @@ use native.Mathlib.Omega.{arith}
 use lib.ListN.{length}
 use Rattle.evaluation.specs.Columns.{columns}
 use Rattle.descent.specs.Order.{range}
-use Rattle.cross_depot.specs.Fleet.{fleetOf}
+use Rattle.fleet.specs.Fleet.{fleetOf}
 use Rattle.cross_depot.specs.Scan.{scan, planOf, bestFrom, bestOf}
 use Rattle.cross_depot.proofs.Scanning.{scan-turn, scan-done}
 use Rattle.cross_depot.proofs.Pairs.{all-start}

@@ -5,7 +5,7 @@ use Prim.Native.Nat.{_-_}
 use native.Mathlib.Omega.{arith}
 use lib.ListN.{length}
 use Rattle.day.specs.declared.vehicle.Van.{Van}
-use Rattle.cross_depot.specs.Fleet.{fleetOf, fleetVehicle}
+use Rattle.fleet.specs.Fleet.{fleetOf, fleetVehicle}
 use Rattle.cross_depot.proofs.Starting.{Mapping, mapping-starts, mapping-turns, mapping-ends}
 use Rattle.cross_depot.proofs.start.found_ids.Statement.{statement}
 use Rattle.cross_depot.proofs.start.found_ids.Tie as tie

@@ -7,7 +7,7 @@ use lib.ListN.{length, getD}
 use lib.Ieee.{nan}
 use Rattle.day.specs.declared.vehicle.Van.{Van}
 use Rattle.day.specs.Vehicle.{routeCost}
-use Rattle.cross_depot.specs.Fleet.{fleetOf}
+use Rattle.fleet.specs.Fleet.{fleetOf}
 use Rattle.cross_depot.proofs.Starting.{Costing, costing-starts, costing-turns, costing-ends}
 use Rattle.cross_depot.proofs.start.starting_costs.Statement.{statement}
 use Rattle.cross_depot.proofs.start.starting_costs.Tie as tie

@@ -10,7 +10,7 @@ use borrow.Author.Tests.{eq-eqb, ne-eqb}
 use lib.Dec.{eqb}
 use lib.ListN.{length, getD, drop, drop-of-length-le}
 use lib.Seq.{drop-cons}
-use Rattle.cross_depot.specs.Fleet.{Fleet, vanAt, numberFrom, fleetVehicle, Driven, Manned}
+use Rattle.fleet.specs.Fleet.{Fleet, vanAt, numberFrom, fleetVehicle, Driven, Manned}
 
 module _ (id : ℕ) (ids : List ℕ) (k : ℕ) where
   pub number-here : k < length ids → getD ids k 0 ≡ id → numberFrom id (drop k ids) k ≡ k

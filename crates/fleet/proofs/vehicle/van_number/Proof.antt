@@ -4,10 +4,10 @@ use mathlib.Core.Path.{_≡_, refl, sym, _∙_}
 use Prim.Native.Nat.{_-_, _≤_}
 use native.Mathlib.Omega.{arith}
 use lib.ListN.{length, drop}
-use Rattle.cross_depot.specs.Fleet.{numberFrom}
-use Rattle.cross_depot.proofs.Numbered.{number-here, number-later, number-none}
-use Rattle.cross_depot.proofs.fleet.van_number.Statement.{statement}
-use Rattle.cross_depot.proofs.fleet.van_number.Tie as tie
+use Rattle.fleet.specs.Fleet.{numberFrom}
+use Rattle.fleet.proofs.Numbered.{number-here, number-later, number-none}
+use Rattle.fleet.proofs.vehicle.van_number.Statement.{statement}
+use Rattle.fleet.proofs.vehicle.van_number.Tie as tie
 
 abbrev Inv-loop : tie.InvT-loop
 Inv-loop ids id k₀ k = (k ≤ length ids) × (numberFrom id (drop k ids) k ≡ numberFrom id ids 0)

@@ -1,9 +1,9 @@
-// The fleet, lent as columns, and the van of a list by its id (`fleet_vehicle` of constructive/nearest_neighbor.rs).
+// The van of a list, by its id (`fleet_vehicle` of constructive/nearest_neighbor.rs).
 use day::vehicle::Van;
 ghost use mathlib.Core.Path.{_≡_};
 ghost use Prim.Native.Nat.{_≤_, _<_};
 ghost use lib.ListN.{length};
-ghost use Rattle.cross_depot.specs.Fleet.{fleetAt, vanAt, numberFrom, fleetVehicle, Fitted};
+ghost use Rattle.fleet.specs.Fleet.{fleetAt, vanAt, numberFrom, fleetVehicle, Fitted};
 
 // The number of the first van with an id, and 0 where there is none.
 fn van_number(ids: &[u32], id: u32) -> usize

@@ -5,9 +5,9 @@ use lib.IntN.{pos}
 use lib.ListN.{getD}
 use mir.Syntax.{w32}
 use mir.ValLaws.{toZ-ofZ}
-use Rattle.cross_depot.specs.Fleet.{vanAt}
-use Rattle.cross_depot.proofs.fleet.van_at.Statement.{statement}
-use Rattle.cross_depot.proofs.fleet.van_at.Tie as tie
+use Rattle.fleet.specs.Fleet.{vanAt}
+use Rattle.fleet.proofs.vehicle.van_at.Statement.{statement}
+use Rattle.fleet.proofs.vehicle.van_at.Tie as tie
 
 mul-t13 : tie.Need-mul-t13
 mul-t13 c = search needs

@@ -1,4 +1,4 @@
--- A fleet as it is lent, a column for each field of a van, and the van of a list by its id. For every contract of this crate. Assumes nothing.
+-- A fleet as it is lent, a column for each field of a van, and the van of a list by its id. For every contract over a fleet. Assumes nothing.
 use mathlib.Core.Path.{_≡_}
 use mathlib.Core.Bool.{true, false}
 use mathlib.Core.List.{List, [], _∷_}

@@ -1,10 +1,10 @@
 -- `fleet_vehicle`: the number that was found is one of the fleet's.
 use borrow.Author.Needs.{needs}
 use mathlib.Core.Path.{ap, _∙_}
-use Rattle.cross_depot.specs.Fleet.{vanAt}
-use Rattle.cross_depot.proofs.Numbered.{number-below}
-use Rattle.cross_depot.proofs.fleet.fleet_vehicle.Statement.{statement}
-use Rattle.cross_depot.proofs.fleet.fleet_vehicle.Tie as tie
+use Rattle.fleet.specs.Fleet.{vanAt}
+use Rattle.fleet.proofs.Numbered.{number-below}
+use Rattle.fleet.proofs.vehicle.fleet_vehicle.Statement.{statement}
+use Rattle.fleet.proofs.vehicle.fleet_vehicle.Tie as tie
 
 van-number-requires : tie.Need-van-number-requires
 van-number-requires c κs = search needs
