@@ -1,5 +1,5 @@
-// The entries across lists, which change all lists in place: relocate and tail exchange. Each contract says, in this order: what is answered; what the two tables hold
-// then; that they hold the same visits as before, whatever the numbers; and, where demand 3's premises hold, its claim about this run.
+// The entries across lists, which change all lists in place: relocate and tail exchange. Each contract says, in this order: what is answered; what the
+// two tables hold then; that they hold the same visits as before, whatever the numbers; and, where demand 3's premises hold, its claim about this run.
 use crate::refusal::refusal_of_lists;
 use day::vehicle::RouteLimits;
 use day::vehicle::Van;
