@@ -11,3 +11,4 @@ pub mod Sound
 pub mod Going
 pub mod Starting
 pub mod Ends
+pub mod Carrying

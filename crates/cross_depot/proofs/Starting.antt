@@ -8,8 +8,7 @@ use lib.ListN.{length, getD, set, take, drop, length-map, length-set, drop-of-le
 use lib.Seq.{take-all, drop-cons, set-at, getD-at, length-take-le, append-snoc}
 use lib.Ieee.{Float, nan}
 use Rattle.fleet.specs.Fleet.{Fleet}
-use Rattle.cross_depot.specs.CrossDepot.{startingCost}
-use Rattle.cross_depot.specs.Tables.{startingCosts}
+use Rattle.cross_depot.specs.CrossDepot.{startingCost, startingCosts}
 
 -- ---- a column in the place of which another is written
 

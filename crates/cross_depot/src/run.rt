@@ -6,19 +6,17 @@ use crate::search::Choice;
 use crate::search::best_move;
 use day::matrix::scale;
 use engine::Ended;
-use fleet::vehicle::fleet_vehicle;
 use numbers::gain_floor;
 ghost use mathlib.Core.Path.{_≡_};
-ghost use mathlib.Core.List.{map};
-ghost use Prim.Native.Nat.{_≤_, _<_};
 ghost use lib.ListN.{length};
 ghost use Rattle.numbers.specs.Floor.{gainFloor};
 ghost use Rattle.day.specs.Matrix.{scaleOf};
+ghost use Rattle.edits.specs.Total.{SameVisits};
 ghost use Rattle.evaluation.specs.Columns.{columnsAt};
-ghost use Rattle.fleet.specs.Fleet.{fleetAt, Fitted, Manned};
-ghost use Rattle.cross_depot.specs.CrossDepot.{runOf};
+ghost use Rattle.fleet.specs.Fleet.{fleetAt, Manned};
+ghost use Rattle.cross_depot.specs.CrossDepot.{runOf, ranOf};
 ghost use Rattle.cross_depot.specs.Scan.{Asked, Held, planOf, nothing};
-ghost use Rattle.cross_depot.specs.Tables.{Chosen, Handed, crossedAs, foundIds, startingCosts, lentPlan};
+ghost use Rattle.cross_depot.specs.Tables.{Chosen, Handed, crossedOf};
 
 // How a run ended, and how many lists remain.
 pub struct Crossed {
@@ -149,13 +147,15 @@ fn descend(
     requires { ⌜ Manned l (fleetAt «van_ids» depots capacities «distance_costs» «fixed_costs» «van_flags» «max_distances» «max_durations» earliest latest durations) ⌝ }
     requires { ⌜ Held l (now visits) (now lengths) × (length (now ids) ≡ length (now lengths)) × (length (now costs) ≡ length (now lengths)) ⌝ }
     ensures { λ r.
-        ⌜ (let run = runOf
+        ⌜ (let ran = ranOf (runOf
         (columnsAt l (flags .entry) (service .entry) (ready .entry) (due .entry) (penalty .entry) (distances .entry) (times .entry))
         (now (demand .entry))
         (fleetAt («van_ids» .entry) (depots .entry) (capacities .entry) («distance_costs» .entry) («fixed_costs» .entry) («van_flags» .entry)
         («max_distances» .entry) («max_durations» .entry) (earliest .entry) (latest .entry) (durations .entry))
-        limit (planOf (now (visits .entry)) (now (lengths .entry)) (now (ids .entry)) (now (costs .entry)))
-        in (r ≡ crossedAs run) × Handed (run .last .now) (length (now (lengths .entry))) (now (visits .exit)) (now (lengths .exit)) (now (ids .exit))) ⌝ }
+        limit (planOf (now (visits .entry)) (now (lengths .entry)) (now (ids .entry)) (now (costs .entry))))
+        in (r ≡ crossedOf ran)
+        × Handed (ran .lists) (ran .ids) (length (now (lengths .entry))) (now (visits .exit)) (now (lengths .exit)) (now (ids .exit))
+        × SameVisits (now (visits .entry)) (now (visits .exit))) ⌝ }
 {
     let mut n = lengths.len();
     let mut moves = 0;
