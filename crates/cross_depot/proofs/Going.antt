@@ -84,6 +84,9 @@ module _ {S : Type 0} (step : S → Option S) (limit : ℕ) (first : S) where
 pub part : {A : Type 0} (n : ℕ) (xs : List A) → take (n - 0) (drop 0 xs) ≡ take n xs
 part n xs = ap (λ k. take k xs) (sub-zero n)
 
+pub length-part : {A : Type 0} (n : ℕ) (xs : List A) → n ≤ length xs → length (take (n - 0) (drop 0 xs)) ≡ n
+length-part n xs h = ap length (part n xs) ∙ length-take-le n xs h
+
 -- and given back as `new`
 pub put : {A : Type 0} (n : ℕ) (xs new : List A) → putMid 0 (n - 0) xs new ≡ new ++ drop n xs
 put n xs new = ap (λ k. new ++ drop k xs) (sub-zero n)

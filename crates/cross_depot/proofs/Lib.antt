@@ -12,3 +12,4 @@ pub mod Going
 pub mod Starting
 pub mod Ends
 pub mod Carrying
+pub mod Answering
