@@ -36,7 +36,8 @@ fn drop_lists(lengths: &mut [u16]) -> usize
     drop_empty(lengths)
 }
 
-fn rearranged_of(ended: Ended, remaining: usize) -> Rearranged
+// What is answered where a run ended so, and so many lists remain.
+pub fn rearranged_of(ended: Ended, remaining: usize) -> Rearranged
     ensures { λ r. ⌜ r ≡ rearrangedOf ended remaining ⌝ }
 {
     match ended {
