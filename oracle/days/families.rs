@@ -422,7 +422,7 @@ fn limits(day: &mut Day, van: usize, list: usize, random: &mut Random) {
 }
 
 /// Numbers that aren't plain where a flag is off.
-fn unread(day: &mut Day, random: &mut Random) {
+pub fn unread(day: &mut Day, random: &mut Random) {
     let odd = [f64::NAN, -f64::NAN, -1.0, -0.0, f64::INFINITY, f64::NEG_INFINITY, MOST.next_up()];
     for place in 0..day.locations() {
         if day.flags[place] & 2 == 0 {
