@@ -48,4 +48,4 @@ for part; do
     esac
 done
 awk '/ runs, / { runs += $1; differences += $3 } / refused [0-9]+$/ { refused += $1 }
-    END { print "all: " runs " runs, " refused " of them refused, " differences " differences"; exit differences > 0 }' "$log"
+    END { print "all: " runs " runs, " refused + 0 " of them refused, " differences " differences"; exit differences > 0 }' "$log"

@@ -465,7 +465,8 @@ fn runs(day: &mut Day, engines: &[&str], random: &mut Random) {
     }
 }
 
-/// The families named, parted by commas: `all`, `vans` (those for cross-depot), names, and `-NAME` for one that is left out of those before.
+/// The families named, parted by commas: `all`, `vans` (those for cross-depot), `one-van` (the others), names, and `-NAME` for
+/// one that is left out of those before.
 pub fn families_named(names: &str) -> Vec<usize> {
     let number = |name: &str| FAMILIES.iter().position(|family| *family == name);
     let known = |name: &str| number(name).unwrap_or_else(|| fail(&format!("no family {name}; there are {}", FAMILIES.join(", "))));
@@ -474,6 +475,7 @@ pub fn families_named(names: &str) -> Vec<usize> {
         match name.strip_prefix('-') {
             Some(left_out) => families.retain(|family| *family != known(left_out)),
             None if name == "all" => families.extend(0..FAMILIES.len()),
+            None if name == "one-van" => families.extend(0..FOR_FLEETS),
             None if name == "vans" => families.extend(FOR_FLEETS..FAMILIES.len()),
             None => families.push(known(name)),
         }
