@@ -33,7 +33,8 @@ use Rattle.deltas.specs.Deltas.{stopAt, removalDelta, insertionDelta, relocateD
 use Rattle.deltas.proofs.Stops.{getD-any}
 use Rattle.engine.specs.Engine.{passing}
 use Rattle.pairs.specs.Scan.{figure, Counted}
-use Rattle.relocate.specs.Relocate.{boxesOf, Held, Prepared, searchOf, judgeOf, bound, intoList, inserted}
+use Rattle.insertions.specs.Cache.{inserted}
+use Rattle.relocate.specs.Relocate.{boxesOf, Held, Prepared, searchOf, judgeOf, bound, intoList}
 use Rattle.relocate.specs.Relocate.{taken-at, offerDelta, better, bestAmong, scan, Best, Scanned}
 use Rattle.relocate.specs.declared.pair.Setup.{Setup}
 use Rattle.relocate.specs.declared.pair.Offer.{Offer}

@@ -33,14 +33,14 @@ use Rattle.pairs.specs.Pairs.{moveOf, nothing, IsBest}
 use Rattle.pairs.specs.declared.Choice.{Choice}
 use Rattle.pairs.proofs.Scanning.{onward-stays, onward-end}
 use Rattle.pairs.proofs.Taken.{best-same-list, best-across}
-use Rattle.relocate.specs.Cache.{LeastAt, cell, knownAt, leastBelow}
+use Rattle.insertions.specs.Cache.{LeastAt, cell, knownAt, leastBelow}
 use Rattle.relocate.specs.Relocate.{boxesOf, Held, Prepared, searchOf, judgeOf, bound, intoList}
 use Rattle.relocate.specs.Relocate.{costOf, Cached, ruledOut, offerOf, bestAmong, tried, Best, Scanned}
 use Rattle.relocate.specs.declared.pair.Setup.{Setup}
 use Rattle.relocate.specs.declared.pair.Tried.{Tried}
-use Rattle.relocate.specs.declared.cache.Least.{Least}
-use Rattle.relocate.proofs.Reached.{scan-reaches}
-use Rattle.relocate.proofs.Cached.{noted}
+use Rattle.insertions.specs.declared.Least.{Least}
+use Rattle.insertions.proofs.Reached.{scan-reaches}
+use Rattle.insertions.proofs.Cached.{noted}
 use Rattle.relocate.proofs.Choosing.{visit-below, refused-as, offered-as, none-yet}
 use Rattle.relocate.proofs.Choosing.{Scanning, scanning-start, scanning-turn, scanning-end}
 

@@ -32,8 +32,8 @@ use Rattle.pairs.specs.declared.Choice.{Choice}
 use Rattle.relocate.specs.declared.pair.Setup.{Setup}
 use Rattle.relocate.specs.declared.pair.Offer.{Offer}
 use Rattle.relocate.specs.declared.pair.Tried.{Tried}
-use Rattle.relocate.specs.declared.cache.Least.{Least}
-use Rattle.relocate.specs.Cache.{Known, leastBelow}
+use Rattle.insertions.specs.declared.Least.{Least}
+use Rattle.insertions.specs.Cache.{inserted, Known, leastBelow}
 
 -- ---- boxes
 
@@ -87,10 +87,6 @@ bound c = neg (gainFloor (scaleOf (c .distances)))
 unfoldable pub intoList : List (List ℕ) → ℕ → ℕ → ℕ → List Relocation
 intoList ls from position to =
     map (λ place. record { from = from; position = position; to = to; place = place }) (range 0 (suc (length (at ls to))))
-
--- a list with a visit put in at a place
-abbrev pub inserted : List ℕ → ℕ → ℕ → List ℕ
-inserted list visit place = take place list ++ visit ∷ drop place list
 
 -- ---- the best so far
 

@@ -4,15 +4,15 @@
 //
 // The Rust collects the moves that gain, sorts them and takes the first that passes; here the best so far is kept, and a candidate is checked only where
 // it is better.
-use crate::cache::Least;
-use crate::cache::lesser_of;
-use crate::cache::wide;
 use day::vehicle::RouteLimits;
 use deltas::insertion_delta;
 use deltas::removal_delta;
 use edits::append_one;
 use edits::append_stretch;
 use engine::passes;
+use insertions::Least;
+use insertions::lesser_of;
+use insertions::wide;
 use lists::list_of;
 use numbers::infinite;
 use numbers::is_finite;
@@ -31,9 +31,9 @@ ghost use Rattle.descent.specs.Order.{range};
 ghost use Rattle.deltas.specs.Deltas.{insertionDelta};
 ghost use Rattle.engine.specs.Engine.{passing};
 ghost use Rattle.pairs.specs.Pairs.{IsBest};
-ghost use Rattle.relocate.specs.Cache.{leastBelow, cell, knownAt};
+ghost use Rattle.insertions.specs.Cache.{inserted, leastBelow, cell, knownAt};
 ghost use Rattle.relocate.specs.Relocate.{boxesOf, Boxed, Held, Prepared, searchOf, judgeOf, bound, Cached};
-ghost use Rattle.relocate.specs.Relocate.{inserted, better, bestAmong, ruledOut, tried};
+ghost use Rattle.relocate.specs.Relocate.{better, bestAmong, ruledOut, tried};
 
 // What is worked out once before the first move.
 pub struct Setup {

@@ -8,9 +8,9 @@ use Rattle.day.specs.Matrix.{leg}
 use Rattle.evaluation.specs.Columns.{columns}
 use Rattle.descent.specs.Order.{range}
 use Rattle.deltas.specs.Deltas.{insertionDelta}
-use Rattle.relocate.specs.Cache.{leastBelow}
+use Rattle.insertions.specs.Cache.{leastBelow}
 use Rattle.relocate.specs.Relocate.{bestAmong}
-use Rattle.relocate.proofs.Reached.{least-start, least-turn, least-end}
+use Rattle.insertions.proofs.Reached.{least-start, least-turn, least-end}
 use Rattle.relocate.proofs.Choosing.{among-turn, among-end}
 use Rattle.relocate.proofs.pair.best_place.Statement.{statement}
 use Rattle.relocate.proofs.pair.best_place.Tie as tie
