@@ -12,11 +12,11 @@ use Rattle.insertions.specs.declared.Least.{Least}
 
 -- ---- the least of some costs
 
--- the least so far, or one place more where that costs less
+-- `if insertion_delta < least { least = insertion_delta; least_at = to_pos; }`: the least so far, or one place more where that costs less
 unfoldable pub lesser : Least → Float → ℕ → Least
 lesser least cost place = cond (lt cost (least .figure)) (record { figure = cost; place = place }) least
 
--- the scan of m places, from infinity on
+-- `let mut least = f64::INFINITY; .. for to_pos in 0..=to_route.len()`: the scan of m places
 unfoldable pub leastBelow : (ℕ → Float) → ℕ → Least
 leastBelow cost zero = record { figure = inf false; place = 0 }
 leastBelow cost (suc m) = lesser (leastBelow cost m) (cost m) m
@@ -31,25 +31,28 @@ pub record LeastAt (cost : ℕ → Float) (m : ℕ) (figure : Float) (place : �
 
 -- ---- what is known, after a list changed
 
--- not known any more
+-- `least_insertion[slot] = f64::NAN`: not known any more
 abbrev pub forgotten : Least → Least
 forgotten known = record { figure = nan; place = known .place }
 
--- the lesser of two, and of equal ones the one that stands first (the Rust keeps the known one then; what is known keeps the first place this way)
+-- `joined < known`, `split < known`: a new leg that is lower, or as low and stands first (the Rust keeps the known one then; what is known keeps the first
+-- place this way)
 unfoldable pub wins : Least → Least → Bool
 wins new known = cond (ltb (new .place) (known .place)) (le (new .figure) (known .figure)) (lt (new .figure) (known .figure))
 
+-- `least_insertion[slot]` and `argmin[slot]` once a new leg was tried
 unfoldable pub firstOf : Least → Least → Least
 firstOf known new = cond (wins new known) new known
 
--- the two places around a visit vanish with it
+-- `at == pos || at == pos + 1`: 'the two around the customer vanish'
 unfoldable pub vanished : ℕ → ℕ → Bool
 vanished place position = eqb place position || eqb place (position + 1)
 
--- where a place stands when the visit at `position` has left, or one has come in there
+-- `else if at > pos + 1 { argmin[slot] = at - 1 }`: where a place stands when the visit at `position` has left
 unfoldable pub movedDown : ℕ → ℕ → ℕ
 movedDown place position = cond (ltb position place) (place - 1) place
 
+-- `else if at > pos { argmin[slot] = at + 1 }`: where it stands when a visit has come in at `position`
 unfoldable pub movedUp : ℕ → ℕ → ℕ
 movedUp place position = cond (ltb position place) (place + 1) place
 
@@ -70,11 +73,11 @@ leastCame known position before behind =
     (record { figure = behind; place = position + 1 })))
     known
 
--- a list with a visit put in at a place
+-- `routes[mv.to_route].insert(mv.to_pos, customer_id)`: a list with a visit put in at a place
 abbrev pub inserted : List ℕ → ℕ → ℕ → List ℕ
 inserted list visit place = take place list ++ visit ∷ drop place list
 
--- the list that a visit has left
+-- `routes[mv.from_route].remove(mv.from_pos)`: the list that a visit has left
 abbrev pub without : List ℕ → ℕ → List ℕ
 without list position = take position list ++ drop (suc position) list
 
@@ -84,6 +87,7 @@ without list position = take position list ++ drop (suc position) list
 abbrev pub cell : ℕ → ℕ → ℕ
 cell visit list = 16 * visit + list
 
+-- `least_insertion[slot]`, `argmin[slot]`: what the tables say of a visit and a list
 abbrev pub knownAt : List Float → List ℕ → ℕ → ℕ → Least
 knownAt figures places visit list = record { figure = getD figures (cell visit list) nan; place = getD places (cell visit list) 0 }
 
@@ -92,10 +96,11 @@ unfoldable pub column : {A : Type 0} → (ℕ → A) → ℕ → ℕ → List A 
 column f list zero xs = xs
 column f list (suc visit) xs = set (column f list visit xs) (cell visit list) (f visit)
 
--- what is known of a visit, after one left the list, which is now Y, and after one came into it
+-- `after_removal`, one turn of its loop: what is known of a visit after one left the list, which is now Y
 unfoldable pub leftAt : (List ℕ → ℕ → ℕ → Float) → ℕ → ℕ → List ℕ → List Float → List ℕ → ℕ → Least
 leftAt cost list position Y figures places visit = leastLeft (knownAt figures places visit list) position (cost Y visit position)
 
+-- `after_insertion`, one turn of its loop: the same after one came into the list
 unfoldable pub cameAt : (List ℕ → ℕ → ℕ → Float) → ℕ → ℕ → List ℕ → List Float → List ℕ → ℕ → Least
 cameAt cost list position Y figures places visit =
     leastCame (knownAt figures places visit list) position (cost Y visit position) (cost Y visit (position + 1))

@@ -3,12 +3,8 @@
 // pass, the giver isn't tested.
 //
 // As in the Rust the best move of every pair of lists is kept in a table (crate `pairs`), and so is what it costs at least to insert a visit into a list
-// (crate `insertions`), by which most visits need not be offered (pair.rt). A move changes two lists, so that only the pairs with one of them in it are
+// (crate `insertions`), by which most visits need not be offered (crate `offers`). A move changes two lists, so that only the pairs with one of them in it are
 // searched again. The move taken is the one that a scan of all candidates takes, which is the definition.
-pub mod pair;
-
-use crate::pair::Setup;
-use crate::pair::best_between;
 use day::matrix::scale;
 use day::vehicle::RouteLimits;
 use engine::Ended;
@@ -21,6 +17,8 @@ use lists::list_of;
 use lists::move_visit;
 use numbers::gain_floor;
 use numbers::unknown;
+use offers::Setup;
+use offers::best_between;
 use pairs::best_pair;
 use pairs::put_pair;
 ghost use mathlib.Core.Path.{_≡_};
@@ -40,8 +38,8 @@ ghost use Rattle.deltas.specs.Judged.{float-judge};
 ghost use Rattle.engine.specs.Engine.{checksOf, mapOf, endedAs};
 ghost use Rattle.pairs.specs.Pairs.{Sized, Before, Renewed, tableAt};
 ghost use Rattle.insertions.specs.Cache.{Known};
-ghost use Rattle.relocate.specs.Relocate.{boxes, measureOf, Boxed, Held, Prepared, Cached, Searched, SearchedBoth};
-ghost use Rattle.relocate.specs.Relocate.{PairsRight, Every};
+ghost use Rattle.offers.specs.Offers.{boxes, measureOf, Boxed, Held, Prepared, Cached};
+ghost use Rattle.relocate.specs.Relocate.{Searched, SearchedBoth, PairsRight, Every};
 
 // ---- the table of pairs
 
