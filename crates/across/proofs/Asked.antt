@@ -4,7 +4,7 @@ use Prim.Native.Nat.{ℕ}
 use lib.IntN.{ℤ}
 use Rattle.exchange.specs.Boxes.{Loaded}
 use Rattle.exchange.specs.Exchange as exchange
-use Rattle.relocate.specs.Relocate as relocate
+use Rattle.offers.specs.Offers as relocate
 use Rattle.soft_relocate.specs.Offers as soft
 
 module _ (l : ℕ) where

@@ -22,8 +22,9 @@ use Rattle.deltas.specs.Judged.{float-judge}
 use Rattle.engine.specs.Engine.{checksOf, mapOf, endedAs}
 use Rattle.engine.specs.declared.Ended.{Ended}
 use Rattle.engine.specs.declared.Ended.the-variants.{Settled, Stopped}
-use Rattle.relocate.specs.Relocate.{measureOf, boxes, Held, Prepared, searchOf, judgeOf, bound, PairsRight, Every}
-use Rattle.relocate.specs.declared.pair.Setup.{Setup}
+use Rattle.offers.specs.Offers.{measureOf, boxes, Held, Prepared, searchOf, judgeOf, bound}
+use Rattle.relocate.specs.Relocate.{PairsRight, Every}
+use Rattle.offers.specs.declared.Setup.{Setup}
 use Rattle.pairs.specs.declared.Choice.{Choice}
 use Rattle.pairs.specs.Pairs.{Moves, moveOf, Table, leastEntry}
 use Rattle.pairs.proofs.Taken.{Relocating, relocate-relocating, table-taken, taken-there}

@@ -3,7 +3,7 @@ use borrow.Author.Needs.{needs}
 use Rattle.across.proofs.Asked.{relocate-boxed, soft-boxed, relocate-held, soft-held}
 use Rattle.across.specs.Across.{relocateRan, hardRelocate}
 use Rattle.soft_relocate.specs.SoftRelocate as soft
-use Rattle.relocate.specs.Relocate.{boxesOf}
+use Rattle.offers.specs.Offers.{boxesOf}
 use mir.ValLaws.{toZ-ofZ}
 use mir.Syntax.{w32}
 use Rattle.across.proofs.relocate_visits.Statement.{statement}

@@ -10,7 +10,8 @@ use Rattle.lists.proofs.Tables.{length-lists}
 use Rattle.evaluation.specs.Columns.{columns}
 use Rattle.pairs.specs.Pairs.{table}
 use Rattle.pairs.proofs.Taken.{relocates}
-use Rattle.relocate.specs.Relocate.{Held, Cached, PairsRight, Every}
+use Rattle.offers.specs.Offers.{Held, Cached}
+use Rattle.relocate.specs.Relocate.{PairsRight, Every}
 use Rattle.relocate.proofs.Searching.{moved-right}
 use Rattle.pairs.proofs.Going.{going-start, unedited, edited-again}
 use Rattle.relocate.proofs.Going.{Running, table-choice, choice-there, answers-settled, answers-stopped, goes-on}
