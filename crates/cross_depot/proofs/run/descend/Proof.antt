@@ -16,19 +16,22 @@ use Rattle.cross_depot.proofs.run.descend.Statement.{statement}
 use Rattle.cross_depot.proofs.run.descend.Tie as tie
 
 abbrev Inv-loop : tie.InvT-loop
-Inv-loop l flags demand service ready due penalty distances times van-ids depots capacities distance-costs fixed-costs van-flags max-distances max-durations earliest latest durations floor visits₀ lengths₀ ids₀ costs₀ limit n₀ moves₀ visits lengths ids costs n moves =
+Inv-loop l flags demand service ready due penalty distances times van-ids depots capacities distance-costs fixed-costs van-flags max-distances
+    max-durations earliest latest durations floor visits₀ lengths₀ ids₀ costs₀ limit n₀ moves₀ visits lengths ids costs n moves =
     Running (columns l flags service ready due penalty distances times) demand
     (fleetOf van-ids depots capacities distance-costs fixed-costs van-flags max-distances max-durations earliest latest durations)
     limit (planOf visits₀ lengths₀ ids₀ costs₀) moves (planOf visits (take n lengths) (take n ids) (take n costs))
     × Live l visits₀ visits lengths ids costs n (length lengths₀)
 
 abbrev μ-loop : tie.MeasureT-loop
-μ-loop l flags demand service ready due penalty distances times van-ids depots capacities distance-costs fixed-costs van-flags max-distances max-durations earliest latest durations floor visits₀ lengths₀ ids₀ costs₀ limit n₀ moves₀ visits lengths ids costs n moves =
+μ-loop l flags demand service ready due penalty distances times van-ids depots capacities distance-costs fixed-costs van-flags max-distances
+    max-durations earliest latest durations floor visits₀ lengths₀ ids₀ costs₀ limit n₀ moves₀ visits lengths ids costs n moves =
     limit - moves
 
 loop-holds : tie.Need-loop-holds Inv-loop μ-loop
 loop-holds c =
-    let further = c .before .before .before .before .before .before .before .before .before .before .before .before .before .before .before .before .before .before .before .before in
+    let nearer = c .before .before .before .before .before .before .before .before .before .before .before .before in
+    let further = nearer .before .before .before .before .before .before .before .before in
     let start = further .before in
     begins _ _ _ _ _ _ _ _ _ (start .pre .1 .1 .0) (start .pre .1 .1 .1) (start .pre .1 .1 .2)
 
@@ -181,7 +184,8 @@ make-move-requires c κs =
 add-moves : tie.Need-add-moves Inv-loop μ-loop
 add-moves c =
     let at-if2 = c .before .before .before .before .before .before .before .before .before .before .before .before .before in
-    let further = at-if2 .before .before .before .before .before .before .before .before .before .before .before .before .before .before .before .before .before .before .before .before in
+    let nearer = at-if2 .before .before .before .before .before .before .before .before .before .before .before .before in
+    let further = nearer .before .before .before .before .before .before .before .before in
     let start = further .before .before .before .before .before .before .before .before .before .before .before .before .before in
     omega (arith, start .fits .limit, at-if2 .if2 .left)
 
