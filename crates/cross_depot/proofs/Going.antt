@@ -294,7 +294,8 @@ module _ (c : Columns) (demand : List ℤ) (fleet : Fleet) (limit : ℕ) (first 
 
     pub goes-on : r .found ≡ true → moves < limit → (q : Plan)
         → q ≡ afterMove (planOf visits (take n lengths) (take n ids) (take n costs)) (r .chosen) (r .cost1) (r .cost2)
-        → Going (next (searchOf c demand fleet) (judgeOf c demand fleet)) limit (record { now = first; ahead = [] }) (moves + 1) (record { now = q; ahead = [] })
+        → Going (next (searchOf c demand fleet) (judgeOf c demand fleet)) limit (record { now = first; ahead = [] }) (moves + 1)
+        (record { now = q; ahead = [] })
     goes-on e room q is =
         rw is (going-on _ _ _ moves _ running _ (a-next c demand fleet visits (take n lengths) (take n ids) (take n costs) r chosen-now e) room)
 

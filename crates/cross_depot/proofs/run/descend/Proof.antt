@@ -106,7 +106,8 @@ returns c =
     let at-next-move = at-if1 .before .before in
     let at-loop = at-next-move .before .before .before .before .before .before .before .before in
     rw (c .ended-with .ensures)
-    (answers-settled _ _ _ _ _ _ _ _ _ _ _ _ _ _ (at-loop .loop .inv .1) (at-loop .loop .inv .0) _ (at-next-move .next-move .ensures) (not-true _ (at-if1 .if1 .taken)))
+    (answers-settled _ _ _ _ _ _ _ _ _ _ _ _ _ _ (at-loop .loop .inv .1) (at-loop .loop .inv .0) _ (at-next-move .next-move .ensures)
+    (not-true _ (at-if1 .if1 .taken)))
 
 ended-with-requires-2 : tie.Need-ended-with-requires-2 Inv-loop μ-loop
 ended-with-requires-2 c κs = search needs
@@ -143,7 +144,8 @@ returns-2 c =
     let at-next-move = at-if1 .before .before in
     let at-loop = at-next-move .before .before .before .before .before .before .before .before in
     rw (c .ended-with2 .ensures)
-    (answers-stopped _ _ _ _ _ _ _ _ _ _ _ _ _ _ (at-loop .loop .inv .1) (at-loop .loop .inv .0) _ (at-next-move .next-move .ensures) (not-false _ (at-if1 .if1 .left)) (at-if2 .if2 .taken))
+    (answers-stopped _ _ _ _ _ _ _ _ _ _ _ _ _ _ (at-loop .loop .inv .1) (at-loop .loop .inv .0) _ (at-next-move .next-move .ensures)
+    (not-false _ (at-if1 .if1 .left)) (at-if2 .if2 .taken))
 
 make-best-requires : tie.Need-make-best-requires Inv-loop μ-loop
 make-best-requires c κs =
@@ -151,9 +153,10 @@ make-best-requires c κs =
     let at-next-move = at-if1 .before .before in
     let at-loop = at-next-move .before .before .before .before .before .before .before .before in
     let live = at-loop .loop .inv .1 in
-    let makes = at-next-move .next-move .ensures .makes (not-false _ (at-if1 .if1 .left)) in
-    ((rw (part _ (at-loop .loop .lengths)) at makes, omega (arith, live .few, live .many-lengths)),
-    (live .many-ids ∙ sym (live .many-lengths), live .many-costs ∙ sym (live .many-lengths)))
+    let makes = at-next-move .next-move .ensures .makes (not-false _ (at-if1 .if1 .left)) in (
+      (rw (part _ (at-loop .loop .lengths)) at makes, omega (arith, live .few, live .many-lengths)),
+      (live .many-ids ∙ sym (live .many-lengths), live .many-costs ∙ sym (live .many-lengths)),
+    )
 
 add-moves : tie.Need-add-moves Inv-loop μ-loop
 add-moves c =
@@ -174,8 +177,10 @@ loop-again c =
     let at-if1 = at-if2 .before in
     let at-next-move = at-if1 .before .before in
     let at-loop = at-next-move .before .before .before .before .before .before .before .before in
-    goes-on-made _ _ _ _ _ _ _ _ _ _ _ _ _ _ (at-loop .loop .inv .1) (at-loop .loop .inv .0) _ (at-next-move .next-move .ensures) (not-false _ (at-if1 .if1 .left)) (at-if2 .if2 .left) _ _ _ _ _
-    (at-make-best .make-best .ensures) (at-make-best .make-best .kept .1 .0) (at-make-best .make-best .kept .1 .1 .0) (at-make-best .make-best .kept .1 .1 .1 .0)
+    goes-on-made _ _ _ _ _ _ _ _ _ _ _ _ _ _ (at-loop .loop .inv .1) (at-loop .loop .inv .0) _ (at-next-move .next-move .ensures)
+    (not-false _ (at-if1 .if1 .left)) (at-if2 .if2 .left) _ _ _ _ _
+    (at-make-best .make-best .ensures) (at-make-best .make-best .kept .1 .0) (at-make-best .make-best .kept .1 .1 .0)
+    (at-make-best .make-best .kept .1 .1 .1 .0)
 
 pub descend-spec : {M : Type 1} → statement M
 descend-spec =

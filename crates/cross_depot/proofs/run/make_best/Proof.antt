@@ -37,8 +37,13 @@ part-make-move-end-3 c =
 
 make-move-requires : tie.Need-make-move-requires
 make-move-requires c κs =
-    let start = c .before .before .before .before .before .before .before .before in
-    (rw (part _ (start .args .lengths .now)) (start .pre .0 .0), (parts-even _ _ _ (start .pre .0 .1) (start .pre .1 .0), parts-even _ _ _ (start .pre .0 .1) (start .pre .1 .1)))
+    let start = c .before .before .before .before .before .before .before .before in (
+      rw (part _ (start .args .lengths .now)) (start .pre .0 .0),
+      (
+        parts-even _ _ _ (start .pre .0 .1) (start .pre .1 .0),
+        parts-even _ _ _ (start .pre .0 .1) (start .pre .1 .1),
+      ),
+    )
 
 same-length : tie.Need-same-length
 same-length c = search needs

@@ -69,7 +69,8 @@ loop-again c =
     let at-pair-at = at-is-same-depot .before in
     let at-loop-test = at-pair-at .before in
     let at-loop = at-loop-test .before in
-    scan-turn _ _ _ _ _ (at-loop-test .loop-test .taken) (pair-same _ _ _ _ _ _ _ _ _ _ _ (at-pair-at .pair-at .ensures) _ (at-is-same-depot .is-same-depot .ensures) (c .if1 .taken))
+    scan-turn _ _ _ _ _ (at-loop-test .loop-test .taken) (pair-same _ _ _ _ _ _ _ _ _ _ _ (at-pair-at .pair-at .ensures) _
+    (at-is-same-depot .is-same-depot .ensures) (c .if1 .taken))
     ∙ at-loop .loop .inv
 
 list-of-requires : tie.Need-list-of-requires Inv-loop μ-loop
@@ -116,7 +117,8 @@ loop-again-2 c =
     let at-pair-at = at-is-same-depot .before in
     let at-loop-test = at-pair-at .before in
     let at-loop = at-loop-test .before in
-    scan-turn _ _ _ _ _ (at-loop-test .loop-test .taken) (pair-other _ _ _ _ _ _ _ _ _ _ _ (at-pair-at .pair-at .ensures) _ (at-is-same-depot .is-same-depot .ensures) _ _ _ (at-if1 .if1 .left)
+    scan-turn _ _ _ _ _ (at-loop-test .loop-test .taken) (pair-other _ _ _ _ _ _ _ _ _ _ _ (at-pair-at .pair-at .ensures) _
+    (at-is-same-depot .is-same-depot .ensures) _ _ _ (at-if1 .if1 .left)
     (at-list-of .list-of .ensures) (at-list-of2 .list-of2 .ensures) (c .between-lists .ensures)) ∙ at-loop .loop .inv
 
 returns : tie.Need-returns Inv-loop μ-loop

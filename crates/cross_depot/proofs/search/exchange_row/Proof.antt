@@ -38,8 +38,11 @@ first-price-requires : tie.Need-first-price-requires Inv-loop μ-loop
 first-price-requires c κs =
     let at-loop-test = c .before in
     let at-loop = at-loop-test .before in
-    let start = at-loop .before .before .before .before .before .before .before .before .before .before in
-    (start .pre .0, exchange-inside (start .args .pair) _ _ (start .args .tails) (start .args .k1) (at-loop .loop .next) _ (c .exchange-of .ensures) (start .pre .1 .0) (omega (arith, at-loop-test .loop-test .taken, start .pre .1 .1)))
+    let start = at-loop .before .before .before .before .before .before .before .before .before .before in (
+      start .pre .0,
+      exchange-inside (start .args .pair) _ _ (start .args .tails) (start .args .k1) (at-loop .loop .next) _ (c .exchange-of .ensures)
+          (start .pre .1 .0) (omega (arith, at-loop-test .loop-test .taken, start .pre .1 .1)),
+    )
 
 enum-known-first : tie.Need-enum-known-first Inv-loop μ-loop
 enum-known-first c = search needs
@@ -71,7 +74,8 @@ try-move-requires c κs =
     let start = at-loop .before .before .before .before .before .before .before .before .before .before in (
       start .pre .0,
       (
-        exchange-inside (start .args .pair) _ _ (start .args .tails) (start .args .k1) (at-loop .loop .next) _ (at-exchange-of .exchange-of .ensures) (start .pre .1 .0) (omega (arith, at-loop-test .loop-test .taken, start .pre .1 .1)),
+        exchange-inside (start .args .pair) _ _ (start .args .tails) (start .args .k1) (at-loop .loop .next) _ (at-exchange-of .exchange-of .ensures)
+            (start .pre .1 .0) (omega (arith, at-loop-test .loop-test .taken, start .pre .1 .1)),
         sym (at-first .first .given .1) ∙ at-first-price .first-price .ensures,
       ),
     )
@@ -86,7 +90,8 @@ loop-again-2 c =
     let at-loop-test = at-exchange-of .before in
     let at-loop = at-loop-test .before in
     let start = at-loop .before .before .before .before .before .before .before .before .before .before in
-    scan-turn _ _ _ _ _ (at-loop-test .loop-test .taken) (exchange-tried (start .args .pair) _ _ _ _ _ _ (at-exchange-of .exchange-of .ensures) _ _ _ _ (c .try-move .ensures)) ∙ at-loop .loop .inv
+    scan-turn _ _ _ _ _ (at-loop-test .loop-test .taken) (exchange-tried (start .args .pair) _ _ _ _ _ _ (at-exchange-of .exchange-of .ensures) _ _ _ _
+    (c .try-move .ensures)) ∙ at-loop .loop .inv
 
 returns : tie.Need-returns Inv-loop μ-loop
 returns c =

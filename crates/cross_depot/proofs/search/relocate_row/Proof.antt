@@ -34,7 +34,8 @@ try-move-requires c κs =
     let start = at-loop .before .before .before .before .before .before .before .before .before .before in (
       start .pre .0,
       (
-        relocation-inside (start .args .pair) _ _ (start .args .position) (at-loop .loop .place) _ (c .relocation-of .ensures) (start .pre .1 .0) (at-loop-test .loop-test .taken),
+        relocation-inside (start .args .pair) _ _ (start .args .position) (at-loop .loop .place) _ (c .relocation-of .ensures) (start .pre .1 .0)
+            (at-loop-test .loop-test .taken),
         relocation-left (start .args .pair) _ _ _ _ _ (c .relocation-of .ensures) _ _ _ (start .pre .1 .1),
       ),
     )

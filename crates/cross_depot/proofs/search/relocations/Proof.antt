@@ -56,7 +56,8 @@ loop-again c =
     let at-loop-test = at-relocation-of .before in
     let at-loop = at-loop-test .before in
     let start = at-loop .before .before .before .before .before .before .before .before .before .before in
-    let left = left-told (start .args .pair) _ _ (at-loop .loop .next) 0 _ (at-relocation-of .relocation-of .ensures) _ _ _ (at-first-price .first-price .ensures) in
+    let left = left-told (start .args .pair) _ _ (at-loop .loop .next) 0 _ (at-relocation-of .relocation-of .ensures) _ _ _
+    (at-first-price .first-price .ensures) in
     scan-turn _ _ _ _ _ (at-loop-test .loop-test .taken) (row-unallowed _ _ (start .args .pair) _ _ _ _ left (c .enum-told .given .1) _) ∙ at-loop .loop .inv
 
 relocate-row-requires : tie.Need-relocate-row-requires Inv-loop μ-loop
@@ -67,7 +68,8 @@ relocate-row-requires c κs =
     let at-loop-test = at-relocation-of .before in
     let at-loop = at-loop-test .before in
     let start = at-loop .before .before .before .before .before .before .before .before .before .before in
-    let left = left-told (start .args .pair) _ _ (at-loop .loop .next) 0 _ (at-relocation-of .relocation-of .ensures) _ _ _ (at-first-price .first-price .ensures) in
+    let left = left-told (start .args .pair) _ _ (at-loop .loop .next) 0 _ (at-relocation-of .relocation-of .ensures) _ _ _
+    (at-first-price .first-price .ensures) in
     (start .pre, (at-loop-test .loop-test .taken, sym (at-first .first .given .1) ∙ left))
 
 loop-less-2 : tie.Need-loop-less-2 Inv-loop μ-loop
