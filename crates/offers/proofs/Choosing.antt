@@ -1,29 +1,25 @@
 -- One visit offered to one list at all its places comes to the definition's scan over these candidates, or changes nothing where the list has no room;
 -- and a loop puts such scans one after another. Assumes nothing.
 use mathlib.Core.Path.{_≡_, refl, sym, ap, _∙_}
-use mathlib.Core.Logic.{_≢_}
-use mathlib.Core.Bool.{Bool, true, false, cond, not, _&&_, false≢true}
+use mathlib.Core.Bool.{Bool, true, false, cond, not, _&&_}
 use mathlib.Core.Option.{Option, none, some}
 use mathlib.Core.List.{List, [], _∷_, _++_, map, append-assoc}
 use Prim.Native.Nat.{ℕ, zero, suc, _+_, _-_, _≤_, _<_}
 use native.Mathlib.Nat.{sub-zero}
 use native.Mathlib.Numerals.{add-one}
 use native.Mathlib.Omega.{arith}
-use borrow.Author.Tests.{le-leb, lt-ltb, ltb-true, leb-true, ltb-false}
-use lib.Dec.{T, leb, ltb}
-use lib.IntN.{ℤ, pos, negsuc, natAbs}
-use lib.Signed.{leZ, nonNeg}
+use borrow.Author.Tests.{le-leb, lt-ltb, ltb-true, leb-true}
+use lib.Dec.{leb, ltb}
+use lib.IntN.{ℤ}
 use lib.ListN.{length, getD, take, drop, take-append-drop}
-use lib.Seq.{slice, take-suc}
+use lib.Seq.{slice}
 use lib.Ieee.{Float, lt, neg}
 use Rattle.numbers.specs.Operations.{_⊕_}
 use Rattle.day.specs.Matrix.{leg}
-use Rattle.tests.specs.All.{and-second}
-use Rattle.day.specs.Refusal.{demandOk, capacityOk}
 use Rattle.edits.specs.Total.{total, bit, total-append, total-none, total-one, part-le}
 use Rattle.edits.proofs.Cuts.{to-end, lent}
 use Rattle.lists.specs.Table.{lists, listOf}
-use Rattle.lists.proofs.Tables.{at-lists, length-list, list-at, start-later, start-within}
+use Rattle.lists.proofs.Tables.{at-lists, length-list}
 use Rattle.evaluation.specs.Columns.{Columns, Visits}
 use Rattle.descent.specs.Order.{from-on, range, each}
 use Rattle.descent.specs.Across.{at, Relocation}
@@ -32,9 +28,10 @@ use Rattle.descent.proofs.Loops.{range-step, range-done}
 use Rattle.deltas.specs.Deltas.{stopAt, removalDelta, insertionDelta, relocateDelta}
 use Rattle.deltas.proofs.Stops.{getD-any}
 use Rattle.engine.specs.Engine.{passing}
+use Rattle.loads.specs.Loads.{boxesOf, Held}
 use Rattle.pairs.specs.Scan.{figure, Counted}
 use Rattle.insertions.specs.Cache.{inserted}
-use Rattle.offers.specs.Offers.{boxesOf, Held, Prepared, searchOf, judgeOf, bound, intoList}
+use Rattle.offers.specs.Offers.{Prepared, searchOf, judgeOf, bound, intoList}
 use Rattle.offers.specs.Offers.{taken-at, offerDelta, better, bestAmong, scan, Best, Scanned}
 use Rattle.offers.specs.declared.Setup.{Setup}
 use Rattle.offers.specs.declared.Offer.{Offer}
@@ -74,58 +71,6 @@ built xs visit place e f g = rw (g, f, e, to-end place xs) (append-assoc (take p
 -- a buffer's front, lent
 pub front : (end : ℕ) (buffer ys : List ℕ) → take end buffer ≡ ys → take (end - 0) (drop 0 buffer) ≡ ys
 front end buffer ys e = lent 0 end buffer (omega arith) ∙ e
-
--- ---- boxes
-
--- a number from 0 to n
-pub between : (z : ℤ) (n : ℕ) → (leZ (pos 0) z && leZ z (pos n)) ≡ true → T (nonNeg z) × (natAbs z ≤ n)
-between (pos a) n e = (tt, leb-true a n (and-second (leb 0 a) (leb a n) e))
-between (negsuc a) n e = absurd (false≢true e)
-
-pub demand-plain : (z : ℤ) → demandOk z ≡ true → T (nonNeg z) × (natAbs z ≤ 1000000)
-unfolding demandOk
-demand-plain z e = between z 1000000 e
-
-pub capacity-plain : (z : ℤ) → capacityOk z ≡ true → T (nonNeg z) × (natAbs z ≤ 2000000000)
-unfolding capacityOk
-capacity-plain z e = between z 2000000000 e
-
--- one visit more is loaded
-pub load-turn : (f : ℕ → ℕ) (xs : List ℕ) (i : ℕ) → i < length xs → total f (take (i + 1) xs) ≡ total f (take i xs) + f (getD xs i 0)
-load-turn f xs i h = rw (add-one i, take-suc xs i 0 h, total-append f (take i xs) (getD xs i 0 ∷ [])) (omega arith)
-
--- ---- the lists of a table
-
-module _ (l : ℕ) (visits lengths : List ℕ) (held : Held l visits lengths) where
-  -- each list has at most 63 visits, and these are locations
-  pub list-visits : (r : ℕ) → Visits l (listOf visits lengths r)
-  list-visits r =
-      let add-up = held .laid .add-up in
-      let inside = start-within lengths r in
-      record {
-        few = rw (length-list visits lengths add-up r) (omega (arith, held .few));
-        below = λ k h.
-            let there : k < getD lengths r 0 = rw (length-list visits lengths add-up r) at h in
-            rw (list-at visits lengths add-up r k there) (held .below _ (omega arith));
-      }
-
-  pub lent-visits : (r : ℕ) (xs : List ℕ) → xs ≡ listOf visits lengths r → Visits l xs
-  lent-visits r xs e = rw e (list-visits r)
-
-  -- and one that another list can give a visit has room for it
-  pub one-more : (from to : ℕ) → from ≢ to → 0 < getD lengths from 0 → getD lengths to 0 < 63
-  one-more from to apart some-there = by-order (ltb from to) refl
-    where
-      by-order : (b : Bool) → ltb from to ≡ b → getD lengths to 0 < 63
-      by-order true e =
-          omega (arith, start-later lengths from to (ltb-true from to e), start-within lengths to, held .laid .add-up, held .few)
-      by-order false e =
-          let before : to < from = omega (arith, ltb-false from to e, apart) in
-          omega (arith, start-later lengths to from before, start-within lengths from, held .laid .add-up, held .few)
-
-  -- a visit of a list is a location
-  pub visit-below : (r k : ℕ) → k < getD lengths r 0 → getD (listOf visits lengths r) k 0 < l
-  visit-below r k h = list-visits r .below k (rw (length-list visits lengths (held .laid .add-up) r) h)
 
 -- ---- one place more, as the code tries it
 

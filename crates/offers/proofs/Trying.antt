@@ -28,20 +28,22 @@ use Rattle.descent.specs.Across.{at, Relocation}
 use Rattle.descent.proofs.Members.{T-true, true-T, and-parts, map-in, range-in}
 use Rattle.deltas.specs.Deltas.{stopAt, removalDelta, relocateDelta}
 use Rattle.deltas.proofs.Stops.{getD-any}
+use Rattle.loads.specs.Loads.{boxesOf, Held}
+use Rattle.loads.proofs.Tables.{visit-below}
 use Rattle.pairs.specs.Scan.{onward, figure, Counted}
 use Rattle.pairs.specs.Pairs.{moveOf, nothing, IsBest}
 use Rattle.pairs.specs.declared.Choice.{Choice}
 use Rattle.pairs.proofs.Scanning.{onward-stays, onward-end}
 use Rattle.pairs.proofs.Taken.{best-same-list, best-across}
 use Rattle.insertions.specs.Cache.{LeastAt, cell, knownAt, leastBelow}
-use Rattle.offers.specs.Offers.{boxesOf, Held, Prepared, searchOf, judgeOf, bound, intoList}
+use Rattle.offers.specs.Offers.{Prepared, searchOf, judgeOf, bound, intoList}
 use Rattle.offers.specs.Offers.{costOf, Cached, ruledOut, offerOf, bestAmong, tried, Best, Scanned}
 use Rattle.offers.specs.declared.Setup.{Setup}
 use Rattle.offers.specs.declared.Tried.{Tried}
 use Rattle.insertions.specs.declared.Least.{Least}
 use Rattle.insertions.proofs.Reached.{scan-reaches}
 use Rattle.insertions.proofs.Cached.{noted}
-use Rattle.offers.proofs.Choosing.{visit-below, refused-as, offered-as, none-yet}
+use Rattle.offers.proofs.Choosing.{refused-as, offered-as, none-yet}
 use Rattle.offers.proofs.Choosing.{Scanning, scanning-start, scanning-turn, scanning-end}
 
 -- ---- candidates that don't count

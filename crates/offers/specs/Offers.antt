@@ -1,31 +1,31 @@
--- The moves out of one list into another as the code goes about them: the boxes as a measure, what a run asks, the candidates of one visit and one list
--- and the best of them, and what is tried of a visit of which something is known. For the contracts of src/ and of `relocate`; the engine's own definition
--- is `relocate false` of descent. Assumes nothing.
+-- The moves out of one list into another as the code goes about them: what a run asks, the candidates of one visit and one list and the best of them, and
+-- what is tried of a visit of which something is known. For the contracts of src/ and of `relocate`; the engine's own definition is `relocate false` of
+-- descent. Assumes nothing.
 use mathlib.Core.Path.{_≡_}
 use mathlib.Core.Bool.{Bool, true, false, cond, _&&_}
 use mathlib.Core.Option.{Option}
-use mathlib.Core.List.{List, [], _∷_, _++_, map}
-use Prim.Native.Nat.{ℕ, suc, _+_, _≤_, _<_}
+use mathlib.Core.List.{List, [], _∷_, map}
+use Prim.Native.Nat.{ℕ, suc, _+_, _<_}
 use lib.Dec.{ltb}
-use lib.IntN.{ℤ, pos, natAbs}
-use lib.ListN.{length, getD, take, drop}
+use lib.IntN.{ℤ}
+use lib.ListN.{length, getD}
 use lib.Ieee.{Float, lt, le, neg}
 use lib.Ieee.Scale.{finite}
 use Rattle.numbers.specs.Operations.{_⊕_}
 use Rattle.numbers.specs.Floor.{gainFloor}
 use Rattle.day.specs.Matrix.{leg, scaleOf}
-use Rattle.day.specs.Refusal.{demandOk}
-use Rattle.lists.specs.Table.{Laid, lists}
+use Rattle.lists.specs.Table.{lists}
 use Rattle.evaluation.specs.Columns.{Columns, Formed}
 use Rattle.evaluation.specs.Route.{checksNeeded}
 use Rattle.descent.specs.Order.{range}
-use Rattle.descent.specs.Permitted.{Measure, relocate}
+use Rattle.descent.specs.Permitted.{relocate}
 use Rattle.descent.specs.Search.{Search, Judge}
 use Rattle.descent.specs.Across.{at, Relocation}
 use Rattle.descent.specs.Engines.{search-of}
 use Rattle.deltas.specs.Deltas.{removalDelta, insertionDelta}
 use Rattle.deltas.specs.Judged.{float-judge}
 use Rattle.engine.specs.Engine.{passing, checksOf, mapOf}
+use Rattle.loads.specs.Loads.{boxesOf, measureOf}
 use Rattle.pairs.specs.Scan.{onward, figure, Counted}
 use Rattle.pairs.specs.Pairs.{moveOf}
 use Rattle.pairs.specs.declared.Choice.{Choice}
@@ -35,32 +35,7 @@ use Rattle.offers.specs.declared.Tried.{Tried}
 use Rattle.insertions.specs.declared.Least.{Least}
 use Rattle.insertions.specs.Cache.{inserted, Known, leastBelow}
 
--- ---- boxes
-
--- the boxes of a visit: a demand isn't below 0
-unfoldable pub boxesOf : List ℤ → ℕ → ℕ
-boxesOf demand visit = natAbs (getD demand visit (pos 0))
-
--- boxes against so many
-abbrev pub measureOf : List ℤ → ℕ → Measure
-measureOf demand capacity = record { demand = boxesOf demand; capacity = capacity }
-
--- 01: 'a list's load, its visits' demands added up', and the van's capacity
-abbrev pub boxes : List ℤ → ℤ → Measure
-boxes demand capacity = measureOf demand (natAbs capacity)
-
--- a demand a location, 'Demands 0 to 1,000,000'
-pub record Boxed (l : ℕ) (demand : List ℤ) : Type 0 where
-  pub size : length demand ≡ l
-  pub each : (k : ℕ) → k < l → demandOk (getD demand k (pos 0)) ≡ true
-
 -- ---- what a run asks
-
--- the lists lie in the table, each visit is a location, and all lists together are no longer than one may be
-pub record Held (l : ℕ) (visits lengths : List ℕ) : Type 0 where
-  pub laid : Laid visits lengths
-  pub below : (k : ℕ) → k < length visits → getD visits k 0 < l
-  pub few : length visits ≤ 63
 
 -- what was worked out before the first move is right
 pub record Prepared (s : Setup) (c : Columns) : Type 0 where

@@ -14,25 +14,25 @@ use insertions::Least;
 use insertions::lesser_of;
 use insertions::wide;
 use lists::list_of;
+use loads::boxes_of;
+use loads::load_of;
 use numbers::infinite;
 use numbers::is_finite;
 use pairs::Choice;
 ghost use mathlib.Core.Path.{_≡_};
 ghost use mathlib.Core.Bool.{true};
 ghost use Prim.Native.Nat.{suc, _+_, _<_, _≤_};
-ghost use lib.IntN.{pos};
 ghost use lib.ListN.{length, take, getD, set};
 ghost use Rattle.day.specs.Matrix.{leg};
-ghost use Rattle.day.specs.Refusal.{demandOk};
-ghost use Rattle.edits.specs.Total.{total};
 ghost use Rattle.lists.specs.Table.{lists};
 ghost use Rattle.evaluation.specs.Columns.{columnsAt, Visits};
 ghost use Rattle.descent.specs.Order.{range};
 ghost use Rattle.deltas.specs.Deltas.{insertionDelta};
 ghost use Rattle.engine.specs.Engine.{passing};
+ghost use Rattle.loads.specs.Loads.{Loaded, Held};
 ghost use Rattle.pairs.specs.Pairs.{IsBest};
 ghost use Rattle.insertions.specs.Cache.{inserted, leastBelow, cell, knownAt};
-ghost use Rattle.offers.specs.Offers.{boxesOf, Boxed, Held, Prepared, searchOf, judgeOf, bound, Cached};
+ghost use Rattle.offers.specs.Offers.{Prepared, searchOf, judgeOf, bound, Cached};
 ghost use Rattle.offers.specs.Offers.{better, bestAmong, ruledOut, tried};
 
 // What is worked out once before the first move.
@@ -63,32 +63,6 @@ pub struct Offer {
 pub struct Tried {
     pub best: Choice,
     pub least: Least,
-}
-
-// ---- boxes
-
-// The boxes of a visit.
-fn boxes_of(demand: &[i32], visit: usize) -> usize
-    requires { ⌜ visit < length (now demand) ⌝ }
-    requires { ⌜ demandOk (getD (now demand) visit (pos 0)) ≡ true ⌝ }
-    ensures { λ r. ⌜ (r ≡ boxesOf (now (demand .entry)) visit) × (r ≤ 1000000) ⌝ }
-{
-    let boxes = demand[visit];
-    boxes as usize
-}
-
-// The load of a list.
-fn load_of(l: usize, demand: &[i32], list: &[u16]) -> usize
-    requires { ⌜ Boxed l (now demand) × Visits l (now list) ⌝ }
-    ensures { λ r. ⌜ (r ≡ total (boxesOf (now (demand .entry))) (now (list .entry))) × (r ≤ 63000000) ⌝ }
-{
-    let mut load = 0;
-    let mut i = 0;
-    while i < list.len() {
-        load += boxes_of(demand, wide(list[i]));
-        i += 1;
-    }
-    load
 }
 
 // ---- an offer to a list
@@ -302,7 +276,7 @@ fn try_visit(
     best: Choice,
 ) -> Tried
     requires { ⌜ Prepared setup (columnsAt (setup .l) flags service ready due penalty distances times) ⌝ }
-    requires { ⌜ Boxed (setup .l) (now demand) × (64 ≤ length (now buffer)) × (load ≤ 63000000) ⌝ }
+    requires { ⌜ Loaded (setup .l) (now demand) × (64 ≤ length (now buffer)) × (load ≤ 63000000) ⌝ }
     requires { ⌜ Visits (setup .l) (now giver) × (position < length (now giver)) ⌝ }
     requires { ⌜ Visits (setup .l) (now receiver) × (length (now receiver) < 63) ⌝ }
     ensures { λ r.
@@ -366,7 +340,7 @@ fn offer_visit(
     best: Choice,
 ) -> Choice
     requires { ⌜ Prepared setup (columnsAt (setup .l) flags service ready due penalty distances times) ⌝ }
-    requires { ⌜ Boxed (setup .l) (now demand) × (64 ≤ length (now buffer)) × (load ≤ 63000000) ⌝ }
+    requires { ⌜ Loaded (setup .l) (now demand) × (64 ≤ length (now buffer)) × (load ≤ 63000000) ⌝ }
     requires { ⌜ Visits (setup .l) (now giver) × (position < length (now giver)) ⌝ }
     requires { ⌜ Visits (setup .l) (now receiver) × (length (now receiver) < 63) ⌝ }
     requires { ⌜ (length (now figures) ≡ 1024) × (length (now places) ≡ 1024) × (to < 16) ⌝ }
@@ -434,7 +408,7 @@ pub fn best_between(
     to: usize,
 ) -> Choice
     requires { ⌜ Prepared setup (columnsAt (setup .l) flags service ready due penalty distances times) ⌝ }
-    requires { ⌜ Boxed (setup .l) (now demand) × Held (setup .l) (now visits) (now lengths) ⌝ }
+    requires { ⌜ Loaded (setup .l) (now demand) × Held (setup .l) (now visits) (now lengths) ⌝ }
     requires { ⌜ (64 ≤ length (now buffer)) × (from < length (now lengths)) × (to < length (now lengths)) ⌝ }
     requires { ⌜ Cached (columnsAt (setup .l) flags service ready due penalty distances times) setup (lists (now visits) (now lengths))
         (now figures) (now places) ⌝ }

@@ -5,15 +5,11 @@ use mathlib.Core.Bool.{true, false}
 use mathlib.Core.List.{List, [], _∷_}
 use Prim.Native.Nat.{ℕ, _+_, _≤_, _<_}
 use native.Mathlib.Omega.{arith}
-use borrow.Author.Tests.{lt-ltb, ltb-true}
-use lib.Dec.{ltb}
 use lib.IntN.{ℤ}
 use lib.ListN.{length}
 use lib.Ieee.{Float, neg}
 use Rattle.day.specs.declared.vehicle.RouteLimits.{RouteLimits}
-use Rattle.edits.proofs.Kept.{same-each, same-length}
 use Rattle.lists.specs.Edits.{Edited, relocated}
-use Rattle.lists.specs.Refused.{TableFine}
 use Rattle.evaluation.specs.Columns.{Columns}
 use Rattle.descent.specs.Permitted.{relocate}
 use Rattle.descent.specs.Search.{Sweep, Outcome, taken, next, run}
@@ -22,7 +18,8 @@ use Rattle.deltas.specs.Judged.{float-judge}
 use Rattle.engine.specs.Engine.{checksOf, mapOf, endedAs}
 use Rattle.engine.specs.declared.Ended.{Ended}
 use Rattle.engine.specs.declared.Ended.the-variants.{Settled, Stopped}
-use Rattle.offers.specs.Offers.{measureOf, boxes, Held, Prepared, searchOf, judgeOf, bound}
+use Rattle.loads.specs.Loads.{measureOf, boxes}
+use Rattle.offers.specs.Offers.{Prepared, searchOf, judgeOf, bound}
 use Rattle.relocate.specs.Relocate.{PairsRight, Every}
 use Rattle.offers.specs.declared.Setup.{Setup}
 use Rattle.pairs.specs.declared.Choice.{Choice}
@@ -35,21 +32,6 @@ abbrev pub outcome : Columns → List ℤ → RouteLimits → ℤ → Float → 
 outcome c demand limits capacity fixed depot limit lent =
     run-of (relocate false) (checksOf (boxes demand capacity ∷ []) c limits depot)
     (float-judge (relocate false) (mapOf (c .l) (c .distances) depot fixed)) limit lent
-
--- ---- what the tables have to be
-
--- lists that are not refused, on a day with a depot
-pub held-of : (depots l : ℕ) (visits lengths : List ℕ) → 1 ≤ depots → l ≤ 64 → TableFine depots l visits lengths → Held l visits lengths
-held-of depots l visits lengths one few fine = record { laid = fine .laid; below = fine .below; few = omega (arith, fine .at-most) }
-
--- it is kept by an edit
-pub still-held : (l : ℕ) (visits lengths visits′ lengths′ : List ℕ) (ls : List (List ℕ)) → Edited visits lengths visits′ lengths′ ls
-    → Held l visits lengths → Held l visits′ lengths′
-still-held l visits lengths visits′ lengths′ ls e h = record {
-  laid = e .laid;
-  below = λ k t. ltb-true _ _ (same-each (λ v. ltb v l) visits visits′ (e .same) (λ i there. lt-ltb _ _ (h .below i there)) k t);
-  few = omega (arith, same-length visits visits′ (e .same), h .few);
-}
 
 -- ---- one search
 

@@ -13,7 +13,8 @@ use Rattle.pairs.specs.Pairs.{Short, Table, Sized, Before, Renewed, Agree}
 use Rattle.pairs.proofs.Kept.{stored-sized, right-start, right-turn, right-row, right-end, renew-both, renew-end}
 use Rattle.pairs.proofs.Kept as pairs
 use Rattle.pairs.proofs.Taken.{short-lists, edited-other, right-moved}
-use Rattle.offers.specs.Offers.{Held, searchOf, judgeOf}
+use Rattle.loads.specs.Loads.{Held}
+use Rattle.offers.specs.Offers.{searchOf, judgeOf}
 use Rattle.relocate.specs.Relocate.{Searched, SearchedBoth, PairsRight, Every}
 use Rattle.offers.specs.declared.Setup.{Setup}
 

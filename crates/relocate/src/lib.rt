@@ -38,7 +38,8 @@ ghost use Rattle.deltas.specs.Judged.{float-judge};
 ghost use Rattle.engine.specs.Engine.{checksOf, mapOf, endedAs};
 ghost use Rattle.pairs.specs.Pairs.{Sized, Before, Renewed, tableAt};
 ghost use Rattle.insertions.specs.Cache.{Known};
-ghost use Rattle.offers.specs.Offers.{boxes, measureOf, Boxed, Held, Prepared, Cached};
+ghost use Rattle.loads.specs.Loads.{boxes, measureOf, Loaded, Held};
+ghost use Rattle.offers.specs.Offers.{Prepared, Cached};
 ghost use Rattle.relocate.specs.Relocate.{Searched, SearchedBoth, PairsRight, Every};
 
 // ---- the table of pairs
@@ -67,7 +68,7 @@ fn search_pair(
     to: usize,
 )
     requires { ⌜ Prepared setup (columnsAt (setup .l) flags service ready due penalty distances times) ⌝ }
-    requires { ⌜ Boxed (setup .l) (now demand) × Held (setup .l) (now visits) (now lengths) × (64 ≤ length (now buffer)) ⌝ }
+    requires { ⌜ Loaded (setup .l) (now demand) × Held (setup .l) (now visits) (now lengths) × (64 ≤ length (now buffer)) ⌝ }
     requires { ⌜ Cached (columnsAt (setup .l) flags service ready due penalty distances times) setup (lists (now visits) (now lengths))
         (now figures) (now places) ⌝ }
     requires { ⌜ Sized (tableAt deltas positions «to_places») × (from < length (now lengths)) × (to < length (now lengths)) ⌝ }
@@ -123,7 +124,7 @@ fn search_row(
     from: usize,
 )
     requires { ⌜ Prepared setup (columnsAt (setup .l) flags service ready due penalty distances times) ⌝ }
-    requires { ⌜ Boxed (setup .l) (now demand) × Held (setup .l) (now visits) (now lengths) × (64 ≤ length (now buffer)) ⌝ }
+    requires { ⌜ Loaded (setup .l) (now demand) × Held (setup .l) (now visits) (now lengths) × (64 ≤ length (now buffer)) ⌝ }
     requires { ⌜ Cached (columnsAt (setup .l) flags service ready due penalty distances times) setup (lists (now visits) (now lengths))
         (now figures) (now places) ⌝ }
     requires { ⌜ PairsRight (columnsAt (setup .l) flags service ready due penalty distances times) (now demand) setup
@@ -186,7 +187,7 @@ fn search_all(
     pruning: bool,
 )
     requires { ⌜ Prepared setup (columnsAt (setup .l) flags service ready due penalty distances times) ⌝ }
-    requires { ⌜ Boxed (setup .l) (now demand) × Held (setup .l) (now visits) (now lengths) × (64 ≤ length (now buffer)) ⌝ }
+    requires { ⌜ Loaded (setup .l) (now demand) × Held (setup .l) (now visits) (now lengths) × (64 ≤ length (now buffer)) ⌝ }
     requires { ⌜ Cached (columnsAt (setup .l) flags service ready due penalty distances times) setup (lists (now visits) (now lengths))
         (now figures) (now places) ⌝ }
     requires { ⌜ Sized (tableAt deltas positions «to_places») ⌝ }
@@ -248,7 +249,7 @@ fn search_both(
     other: usize,
 )
     requires { ⌜ Prepared setup (columnsAt (setup .l) flags service ready due penalty distances times) ⌝ }
-    requires { ⌜ Boxed (setup .l) (now demand) × Held (setup .l) (now visits) (now lengths) × (64 ≤ length (now buffer)) ⌝ }
+    requires { ⌜ Loaded (setup .l) (now demand) × Held (setup .l) (now visits) (now lengths) × (64 ≤ length (now buffer)) ⌝ }
     requires { ⌜ Cached (columnsAt (setup .l) flags service ready due penalty distances times) setup (lists (now visits) (now lengths))
         (now figures) (now places) ⌝ }
     requires { ⌜ Sized (tableAt deltas positions «to_places») × (r < length (now lengths)) × (other < length (now lengths)) ⌝ }
@@ -329,7 +330,7 @@ fn search_changed(
     b: usize,
 )
     requires { ⌜ Prepared setup (columnsAt (setup .l) flags service ready due penalty distances times) ⌝ }
-    requires { ⌜ Boxed (setup .l) (now demand) × Held (setup .l) (now visits) (now lengths) × (64 ≤ length (now buffer)) ⌝ }
+    requires { ⌜ Loaded (setup .l) (now demand) × Held (setup .l) (now visits) (now lengths) × (64 ≤ length (now buffer)) ⌝ }
     requires { ⌜ Cached (columnsAt (setup .l) flags service ready due penalty distances times) setup (lists (now visits) (now lengths))
         (now figures) (now places) ⌝ }
     requires { ⌜ PairsRight (columnsAt (setup .l) flags service ready due penalty distances times) (now demand) setup
@@ -493,7 +494,7 @@ fn descend(
     limit: u32,
 ) -> Ended
     requires { ⌜ Prepared setup (columnsAt (setup .l) flags service ready due penalty distances times) ⌝ }
-    requires { ⌜ Boxed (setup .l) (now demand) × Held (setup .l) (now visits) (now lengths) × (64 ≤ length (now buffer)) ⌝ }
+    requires { ⌜ Loaded (setup .l) (now demand) × Held (setup .l) (now visits) (now lengths) × (64 ≤ length (now buffer)) ⌝ }
     requires { ⌜ Cached (columnsAt (setup .l) flags service ready due penalty distances times) setup (lists (now visits) (now lengths))
         (now figures) (now places) ⌝ }
     requires { ⌜ Sized (tableAt deltas positions «to_places») ⌝ }
@@ -594,7 +595,7 @@ pub fn relocate_improve(
     pruning: bool,
 ) -> Ended
     requires { ⌜ Formed (columnsAt l flags service ready due penalty distances times) ⌝ }
-    requires { ⌜ Boxed l (now demand) × (capacityOk capacity ≡ true) ⌝ }
+    requires { ⌜ Loaded l (now demand) × (capacityOk capacity ≡ true) ⌝ }
     requires { ⌜ (depot < l) × Held l (now visits) (now lengths) ⌝ }
     ensures { λ r.
         ⌜ (let c = columnsAt l (flags .entry) (service .entry) (ready .entry) (due .entry) (penalty .entry) (distances .entry) (times .entry) in

@@ -30,7 +30,8 @@ use Rattle.pairs.specs.Pairs.{across, moveOf, nothing, IsBest}
 use Rattle.pairs.specs.declared.Choice.{Choice}
 use Rattle.pairs.proofs.Taken.{best-across, best-refused}
 use Rattle.pairs.proofs.Scanning.{onward-better, counted-better, onward-stays, onward-end, onward-append, onward-none}
-use Rattle.soft_relocate.specs.SoftRelocate.{boxesOf, measureOf, inserted, givingDelta, receivingDelta, softDelta, priced}
+use Rattle.loads.specs.Loads.{boxesOf, measureOf}
+use Rattle.soft_relocate.specs.SoftRelocate.{inserted, givingDelta, receivingDelta, softDelta, priced}
 use Rattle.soft_relocate.specs.Offers.{priceOf, searchOf, judgeOf, bound, intoList, taken-at, offerDelta, better, bestAmong, Known, scan, Best, Scanned}
 use Rattle.soft_relocate.specs.declared.Setup.{Setup}
 use Rattle.soft_relocate.specs.declared.Pair.{Pair}

@@ -5,14 +5,10 @@ use mathlib.Core.Bool.{true, false, _&&_}
 use mathlib.Core.List.{List, [], _∷_}
 use Prim.Native.Nat.{ℕ, _+_, _≤_, _<_}
 use native.Mathlib.Omega.{arith}
-use borrow.Author.Tests.{lt-ltb, ltb-true}
-use lib.Dec.{ltb}
 use lib.IntN.{ℤ}
 use lib.ListN.{length, getD}
-use Rattle.edits.proofs.Kept.{same-each, same-length}
 use Rattle.lists.specs.Table.{Laid, lists}
 use Rattle.lists.specs.Edits.{Edited, Relocates, relocated}
-use Rattle.lists.specs.Refused.{TableFine}
 use Rattle.lists.proofs.Tables.{length-lists}
 use Rattle.evaluation.specs.Columns.{Columns}
 use Rattle.descent.specs.Permitted.{room}
@@ -24,24 +20,10 @@ use Rattle.pairs.specs.Pairs.{moveOf, Table, leastEntry, Renewed, Agree}
 use Rattle.pairs.specs.declared.Choice.{Choice}
 use Rattle.pairs.proofs.Taken.{edited-other, agree-local, relocates, Relocating, table-taken, taken-there, right-moved}
 use Rattle.pairs.proofs.Going as going
-use Rattle.soft_relocate.specs.SoftRelocate.{measureOf, inserted, softDelta, priced}
-use Rattle.soft_relocate.specs.Offers.{Held, priceOf, searchOf, judgeOf, bound, runFrom, RightOf, AllRight}
+use Rattle.loads.specs.Loads.{measureOf}
+use Rattle.soft_relocate.specs.SoftRelocate.{inserted, softDelta, priced}
+use Rattle.soft_relocate.specs.Offers.{priceOf, searchOf, judgeOf, bound, runFrom, RightOf, AllRight}
 use Rattle.soft_relocate.specs.declared.Setup.{Setup}
-
--- ---- what the tables have to be
-
--- lists that are not refused, on a day with a depot
-pub held-of : (depots l : ℕ) (visits lengths : List ℕ) → 1 ≤ depots → l ≤ 64 → TableFine depots l visits lengths → Held l visits lengths
-held-of depots l visits lengths one few fine = record { laid = fine .laid; below = fine .below; few = omega (arith, fine .at-most) }
-
--- it is kept by an edit
-pub still-held : (l : ℕ) (visits lengths visits′ lengths′ : List ℕ) (ls : List (List ℕ)) → Edited visits lengths visits′ lengths′ ls
-    → Held l visits lengths → Held l visits′ lengths′
-still-held l visits lengths visits′ lengths′ ls e h = record {
-  laid = e .laid;
-  below = λ k t. ltb-true _ _ (same-each (λ v. ltb v l) visits visits′ (e .same) (λ i there. lt-ltb _ _ (h .below i there)) k t);
-  few = omega (arith, same-length visits visits′ (e .same), h .few);
-}
 
 -- ---- the run
 

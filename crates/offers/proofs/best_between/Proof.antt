@@ -6,7 +6,7 @@ use native.Mathlib.Omega.{arith}
 use lib.ListN.{length}
 use Rattle.lists.proofs.Tables.{length-list}
 use Rattle.evaluation.specs.Columns.{columns}
-use Rattle.offers.proofs.Choosing.{list-visits, lent-visits, one-more}
+use Rattle.loads.proofs.Tables.{list-visits, lent-visits, one-more}
 use Rattle.offers.proofs.Trying.{Pairing, pairing-start, pairing-turn, pairing-end, pair-none}
 use Rattle.offers.proofs.best_between.Statement.{statement}
 use Rattle.offers.proofs.best_between.Tie as tie

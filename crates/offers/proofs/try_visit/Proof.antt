@@ -22,7 +22,7 @@ boxes-of-requires : tie.Need-boxes-of-requires
 boxes-of-requires c κs =
     let start = c .before .before .before .before .before .before .before .before .before .before .before .before in
     let below = start .pre .1 .1 .0 .0 .below _ (start .pre .1 .1 .0 .1) in
-    (omega (arith, c .wide .ensures, below, start .pre .1 .0 .0 .size), rw (c .wide .ensures) (start .pre .1 .0 .0 .each _ below))
+    (omega (arith, c .wide .ensures, below, start .pre .1 .0 .0 .column), rw (c .wide .ensures) (start .pre .1 .0 .0 .in-range _ below))
 
 add-if1 : tie.Need-add-if1
 add-if1 c =

@@ -10,12 +10,13 @@ use Rattle.lists.proofs.Tables.{length-lists}
 use Rattle.evaluation.specs.Columns.{columns}
 use Rattle.pairs.specs.Pairs.{table}
 use Rattle.pairs.proofs.Taken.{relocates}
-use Rattle.offers.specs.Offers.{Held, Cached}
+use Rattle.loads.specs.Loads.{Held}
+use Rattle.offers.specs.Offers.{Cached}
 use Rattle.relocate.specs.Relocate.{PairsRight, Every}
 use Rattle.relocate.proofs.Searching.{moved-right}
 use Rattle.pairs.proofs.Going.{going-start, unedited, edited-again}
 use Rattle.relocate.proofs.Going.{Running, table-choice, choice-there, answers-settled, answers-stopped, goes-on}
-use Rattle.relocate.proofs.Going.{still-held}
+use Rattle.loads.proofs.Tables.{still-held}
 use Rattle.relocate.proofs.descend.Statement.{statement}
 use Rattle.relocate.proofs.descend.Tie as tie
 

@@ -6,7 +6,7 @@ use mir.Syntax.{w32}
 use mir.ValLaws.{toZ-ofZ}
 use Rattle.numbers.specs.Floor.{gainFloor}
 use Rattle.insertions.proofs.Cached.{nothing-known-yet}
-use Rattle.offers.proofs.Choosing.{capacity-plain}
+use Rattle.loads.proofs.Boxes.{capacity-plain}
 use Rattle.relocate.proofs.relocate_improve.Statement.{statement}
 use Rattle.relocate.proofs.relocate_improve.Tie as tie
 

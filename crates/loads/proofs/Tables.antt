@@ -1,45 +1,21 @@
--- Demands and capacities are numbers from 0 on, and each list of the table is one that may be walked: as relocate's own. Assumes nothing.
+-- The lists of a table that is held: each has at most 63 visits, which are locations, and one that can be given a visit has room for it. A table that was not
+-- refused is held, and an edit that keeps the visits keeps it so. Assumes nothing.
 use mathlib.Core.Path.{_≡_, refl}
 use mathlib.Core.Logic.{_≢_}
-use mathlib.Core.Bool.{Bool, true, false, _&&_, false≢true}
-use mathlib.Core.List.{List, [], _∷_}
-use Prim.Native.Nat.{ℕ, _+_, _≤_, _<_}
-use native.Mathlib.Numerals.{add-one}
+use mathlib.Core.Bool.{Bool, true, false}
+use mathlib.Core.List.{List}
+use Prim.Native.Nat.{ℕ, _-_, _≤_, _<_}
 use native.Mathlib.Omega.{arith}
-use borrow.Author.Tests.{ltb-true, leb-true, ltb-false}
-use lib.Dec.{T, leb, ltb}
-use lib.IntN.{ℤ, pos, negsuc, natAbs}
-use lib.Signed.{leZ, nonNeg}
-use lib.ListN.{length, getD, take}
-use lib.Seq.{take-suc}
-use Rattle.tests.specs.All.{and-second}
-use Rattle.day.specs.Refusal.{demandOk, capacityOk}
-use Rattle.edits.specs.Total.{total, total-append}
+use borrow.Author.Tests.{lt-ltb, ltb-true, ltb-false}
+use lib.Dec.{ltb}
+use lib.ListN.{getD}
+use Rattle.edits.proofs.Kept.{same-each, same-length}
 use Rattle.lists.specs.Table.{listOf}
+use Rattle.lists.specs.Edits.{Edited}
+use Rattle.lists.specs.Refused.{TableFine}
 use Rattle.lists.proofs.Tables.{length-list, list-at, start-later, start-within}
 use Rattle.evaluation.specs.Columns.{Visits}
-use Rattle.soft_relocate.specs.Offers.{Held}
-
--- ---- boxes
-
--- a number from 0 to n
-between : (z : ℤ) (n : ℕ) → (leZ (pos 0) z && leZ z (pos n)) ≡ true → T (nonNeg z) × (natAbs z ≤ n)
-between (pos a) n e = (tt, leb-true a n (and-second (leb 0 a) (leb a n) e))
-between (negsuc a) n e = absurd (false≢true e)
-
-pub demand-plain : (z : ℤ) → demandOk z ≡ true → T (nonNeg z) × (natAbs z ≤ 1000000)
-unfolding demandOk
-demand-plain z e = between z 1000000 e
-
-pub capacity-plain : (z : ℤ) → capacityOk z ≡ true → T (nonNeg z) × (natAbs z ≤ 2000000000)
-unfolding capacityOk
-capacity-plain z e = between z 2000000000 e
-
--- one visit more is loaded
-pub load-turn : (f : ℕ → ℕ) (xs : List ℕ) (i : ℕ) → i < length xs → total f (take (i + 1) xs) ≡ total f (take i xs) + f (getD xs i 0)
-load-turn f xs i h = rw (add-one i, take-suc xs i 0 h, total-append f (take i xs) (getD xs i 0 ∷ [])) (omega arith)
-
--- ---- the lists of a table
+use Rattle.loads.specs.Loads.{Held}
 
 module _ (l : ℕ) (visits lengths : List ℕ) (held : Held l visits lengths) where
   -- each list has at most 63 visits, and these are locations
@@ -53,6 +29,9 @@ module _ (l : ℕ) (visits lengths : List ℕ) (held : Held l visits lengths) wh
             let there : k < getD lengths r 0 = rw (length-list visits lengths add-up r) at h in
             rw (list-at visits lengths add-up r k there) (held .below _ (omega arith));
       }
+
+  pub lent-visits : (r : ℕ) (xs : List ℕ) → xs ≡ listOf visits lengths r → Visits l xs
+  lent-visits r xs e = rw e (list-visits r)
 
   -- and one that another list can give a visit has room for it
   pub one-more : (from to : ℕ) → from ≢ to → 0 < getD lengths from 0 → getD lengths to 0 < 63
@@ -68,3 +47,16 @@ module _ (l : ℕ) (visits lengths : List ℕ) (held : Held l visits lengths) wh
   -- a visit of a list is a location
   pub visit-below : (r k : ℕ) → k < getD lengths r 0 → getD (listOf visits lengths r) k 0 < l
   visit-below r k h = list-visits r .below k (rw (length-list visits lengths (held .laid .add-up) r) h)
+
+-- lists that were not refused are held
+pub held-of : (depots l : ℕ) (visits lengths : List ℕ) → l - depots ≤ 63 → TableFine depots l visits lengths → Held l visits lengths
+held-of depots l visits lengths few fine = record { laid = fine .laid; below = fine .below; few = omega (arith, fine .at-most) }
+
+-- and stay so where each visit stays in some list
+pub still-held : (l : ℕ) (visits lengths visits′ lengths′ : List ℕ) (ls : List (List ℕ)) → Edited visits lengths visits′ lengths′ ls
+    → Held l visits lengths → Held l visits′ lengths′
+still-held l visits lengths visits′ lengths′ ls e h = record {
+  laid = e .laid;
+  below = λ k t. ltb-true _ _ (same-each (λ v. ltb v l) visits visits′ (e .same) (λ i there. lt-ltb _ _ (h .below i there)) k t);
+  few = omega (arith, same-length visits visits′ (e .same), h .few);
+}

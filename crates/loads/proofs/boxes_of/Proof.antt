@@ -6,10 +6,10 @@ use mir.Syntax.{w32}
 use mir.ValLaws.{toZ-ofZ}
 use borrow.Author.Needs.{sfits-of}
 use mathlib.Core.Path.{refl}
-use Rattle.offers.specs.Offers.{boxesOf}
-use Rattle.offers.proofs.Choosing.{demand-plain}
-use Rattle.offers.proofs.boxes_of.Statement.{statement}
-use Rattle.offers.proofs.boxes_of.Tie as tie
+use Rattle.loads.specs.Loads.{boxesOf}
+use Rattle.loads.proofs.Boxes.{demand-plain}
+use Rattle.loads.proofs.boxes_of.Statement.{statement}
+use Rattle.loads.proofs.boxes_of.Tie as tie
 
 mul-boxes : tie.Need-mul-boxes
 mul-boxes c = search needs

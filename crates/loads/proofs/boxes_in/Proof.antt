@@ -1,4 +1,4 @@
--- `boxes_of`: a number that is not below 0 is its own size, so that the cast is defined.
+-- `boxes_in`: a number that is not below 0 is its own size, so that the cast is defined.
 use mathlib.Core.Path.{sym, ap, subst}
 use native.Mathlib.Nat.{lt-of-le-of-lt}
 use lib.IntN.{ℤ, pos, natAbs}
@@ -8,8 +8,8 @@ use mir.Syntax.{w32, w64}
 use mir.Val.{Fits, toZ, ofZ}
 use mir.ValLaws.{toZ-ofZ}
 use Rattle.descent.proofs.Members.{true-T}
-use Rattle.exchange.proofs.boxes_of.Statement.{statement}
-use Rattle.exchange.proofs.boxes_of.Tie as tie
+use Rattle.loads.proofs.boxes_in.Statement.{statement}
+use Rattle.loads.proofs.boxes_in.Tie as tie
 
 -- what the machine reads back from the bits of `x` is not negative
 read-pos : (c : tie.Start) → pos 0 ≤ℤ toZ w32 (ofZ w32 (c .args .x))
@@ -25,8 +25,8 @@ cast-result c = (
 returns : tie.Need-returns
 returns c = ap natAbs (toZ-ofZ w32 (c .args .x) (c .fits .x))
 
-pub boxes-of-spec : {M : Type 1} → statement M
-boxes-of-spec =
+pub boxes-in-spec : {M : Type 1} → statement M
+boxes-in-spec =
     tie.close
     (tie.spec
     cast-result

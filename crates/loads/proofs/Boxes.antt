@@ -1,31 +1,40 @@
--- Loads: a head's is a running sum, and a tail's the list's less it; no list has more than 63,000,000 boxes, so that no sum can wrap. Assumes nothing.
+-- Demands and capacities are numbers from 0 on; a head's load is a running sum, and a tail's the list's less it; no list has more than 63,000,000 boxes, so
+-- that no sum can wrap. Assumes nothing.
 use mathlib.Core.Path.{_≡_, sym, ap, _∙_}
-use mathlib.Core.Bool.{true, false, false≢true}
+use mathlib.Core.Bool.{true, _&&_, false≢true}
 use mathlib.Core.List.{List, [], _∷_}
 use Prim.Native.Nat.{ℕ, suc, _+_, _-_, _*_, _≤_, _<_}
 use native.Mathlib.Numerals.{add-one}
 use native.Mathlib.Omega.{arith}
 use borrow.Author.Tests.{leb-true}
-use lib.Dec.{leb}
+use lib.Dec.{T, leb}
 use lib.IntN.{ℤ, pos, negsuc, natAbs}
-use lib.Signed.{leZ}
+use lib.Signed.{leZ, nonNeg}
 use lib.Ieee.{Float}
 use lib.ListN.{length, getD, take, drop, take-append-drop}
 use lib.Seq.{take-suc}
 use Rattle.tests.specs.All.{all-at, and-first, and-second}
-use Rattle.day.specs.Refusal.{demandOk, locationOk, locationsOk}
+use Rattle.day.specs.Refusal.{demandOk, capacityOk, locationOk, locationsOk}
 use Rattle.edits.specs.Total.{total, total-append}
 use Rattle.lists.specs.Edits.{joined}
-use Rattle.exchange.specs.Boxes.{boxesAt, Loaded}
+use Rattle.loads.specs.Loads.{boxesOf, Loaded}
 
-pub demand-there : (z : ℤ) → demandOk z ≡ true → leZ (pos 0) z ≡ true
-unfolding demandOk
-demand-there z e = and-first (leZ (pos 0) z) (leZ z (pos 1000000)) e
+-- ---- numbers of boxes
 
-demand-small : (z : ℤ) → demandOk z ≡ true → natAbs z ≤ 1000000
+-- a number from 0 to n
+between : (z : ℤ) (n : ℕ) → (leZ (pos 0) z && leZ z (pos n)) ≡ true → T (nonNeg z) × (natAbs z ≤ n)
+between (pos a) n e = (tt, leb-true a n (and-second (leb 0 a) (leb a n) e))
+between (negsuc a) n e = absurd (false≢true e)
+
+pub demand-plain : (z : ℤ) → demandOk z ≡ true → T (nonNeg z) × (natAbs z ≤ 1000000)
 unfolding demandOk
-demand-small (pos n) e = leb-true n 1000000 (and-second (leZ (pos 0) (pos n)) (leb n 1000000) e)
-demand-small (negsuc n) e = absurd (false≢true e)
+demand-plain z e = between z 1000000 e
+
+pub capacity-plain : (z : ℤ) → capacityOk z ≡ true → T (nonNeg z) × (natAbs z ≤ 2000000000)
+unfolding capacityOk
+capacity-plain z e = between z 2000000000 e
+
+-- ---- sums of them
 
 total-small : (f : ℕ → ℕ) (xs : List ℕ) → ((k : ℕ) → k < length xs → f (getD xs k 0) ≤ 1000000) → total f xs ≤ 1000000 * length xs
 total-small f [] h = omega arith
@@ -36,9 +45,10 @@ total-small f (x ∷ xs) h =
 
 -- the load of a list of at most 63 visits
 pub load-small : (l : ℕ) (demand : List ℤ) (xs : List ℕ) → Loaded l demand → ((k : ℕ) → k < length xs → getD xs k 0 < l) → length xs ≤ 63
-    → total (boxesAt demand) xs ≤ 63000000
+    → total (boxesOf demand) xs ≤ 63000000
+unfolding boxesOf
 load-small l demand xs loaded below few =
-    let small = total-small (boxesAt demand) xs (λ k h. demand-small (getD demand (getD xs k 0) (pos 0)) (loaded .in-range (getD xs k 0) (below k h))) in
+    let small = total-small (boxesOf demand) xs (λ k h. demand-plain (getD demand (getD xs k 0) (pos 0)) (loaded .in-range (getD xs k 0) (below k h)) .1) in
     omega arith
 
 module _ (f : ℕ → ℕ) where
@@ -63,11 +73,11 @@ module _ (f : ℕ → ℕ) where
 
 -- a running sum can't wrap
 pub sum-small : (l : ℕ) (demand : List ℤ) (xs : List ℕ) → Loaded l demand → ((k : ℕ) → k < length xs → getD xs k 0 < l) → length xs ≤ 63
-    → (k load more : ℕ) → k < length xs → load ≡ total (boxesAt demand) (take k xs) → more ≡ boxesAt demand (getD xs k 0)
-    → (load + more ≤ total (boxesAt demand) xs) × (total (boxesAt demand) xs ≤ 63000000)
+    → (k load more : ℕ) → k < length xs → load ≡ total (boxesOf demand) (take k xs) → more ≡ boxesOf demand (getD xs k 0)
+    → (load + more ≤ total (boxesOf demand) xs) × (total (boxesOf demand) xs ≤ 63000000)
 sum-small l demand xs loaded below few k load more h e d =
-    let now = load-more (boxesAt demand) xs k load more h e d in
-    let parts = load-parts (boxesAt demand) (k + 1) xs in
+    let now = load-more (boxesOf demand) xs k load more h e d in
+    let parts = load-parts (boxesOf demand) (k + 1) xs in
     (omega arith, load-small l demand xs loaded below few)
 
 pub head-small : (f : ℕ → ℕ) (k : ℕ) (xs : List ℕ) (head : ℕ) → head ≡ total f (take k xs) → head ≤ total f xs

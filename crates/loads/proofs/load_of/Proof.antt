@@ -5,13 +5,13 @@ use native.Mathlib.Omega.{arith}
 use lib.ListN.{length, take}
 use lib.Seq.{take-all}
 use Rattle.edits.specs.Total.{total}
-use Rattle.exchange.specs.Boxes.{boxesAt}
-use Rattle.exchange.proofs.Loads.{load-more, sum-small}
-use Rattle.exchange.proofs.load_of.Statement.{statement}
-use Rattle.exchange.proofs.load_of.Tie as tie
+use Rattle.loads.specs.Loads.{boxesOf}
+use Rattle.loads.proofs.Boxes.{load-small, load-more, sum-small}
+use Rattle.loads.proofs.load_of.Statement.{statement}
+use Rattle.loads.proofs.load_of.Tie as tie
 
 abbrev Inv-loop : tie.InvT-loop
-Inv-loop l demand list load₀ k₀ load k = (k ≤ length list) × (load ≡ total (boxesAt demand) (take k list))
+Inv-loop l demand list load₀ k₀ load k = (k ≤ length list) × (load ≡ total (boxesOf demand) (take k list))
 
 abbrev μ-loop : tie.MeasureT-loop
 μ-loop l demand list load₀ k₀ load k = length list - k
@@ -48,7 +48,8 @@ loop-again c =
 returns : tie.Need-returns Inv-loop μ-loop
 returns c =
     let start = c .before .before .before in
-    c .before .loop .inv .1 ∙ ap (total (boxesAt (start .args .demand .now))) (take-all _ _ (c .loop-test .left))
+    let whole = c .before .loop .inv .1 ∙ ap (total (boxesOf (start .args .demand .now))) (take-all _ (start .args .list .now) (c .loop-test .left)) in
+    (whole, rw whole (load-small _ _ (start .args .list .now) (start .pre .0) (start .pre .1 .below) (start .pre .1 .few)))
 
 pub load-of-spec : {M : Type 1} → statement M
 load-of-spec =
