@@ -154,7 +154,7 @@ module _ (c : Columns) (demand : List ℤ) (s : Setup) (visits lengths : List �
 
   -- none is found yet
   pub none-yet : (floor : Float) → Prepared s c → floor ≡ s .floor
-      → Best c demand s visits lengths (record { found = false; from = 0; position = 0; to = 0; place = 0; delta = neg floor })
+      → Best c demand s visits lengths (record { found = 0; from = 0; position = 0; to = 0; place = 0; delta = neg floor })
   unfolding moveOf figure Counted bound
   none-yet floor p e = record {
     figured = ap neg (e ∙ p .floor);
@@ -169,7 +169,7 @@ module _ (c : Columns) (demand : List ℤ) (s : Setup) (visits lengths : List �
       && searchOf c demand s .passes (lists visits lengths) (record { from = from; position = position; to = to; place = place })) ≡ true
       → delta ≡ judgeOf c s .delta (lists visits lengths) (record { from = from; position = position; to = to; place = place })
       → Scanned c demand s visits lengths (record { from = from; position = position; to = to; place = place } ∷ []) best
-      (record { found = true; from = from; position = position; to = to; place = place; delta = delta })
+      (record { found = 1; from = from; position = position; to = to; place = place; delta = delta })
   unfolding moveOf figure
   taken-now from position to place delta best counted tested is-delta =
       let m : Relocation = record { from = from; position = position; to = to; place = place } in

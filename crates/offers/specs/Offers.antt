@@ -70,7 +70,7 @@ intoList ls from position to =
 -- an offer, taken at a place
 abbrev pub taken-at : Offer → ℕ → Float → Choice
 taken-at offer place delta =
-    record { found = true; from = offer .from; position = offer .position; to = offer .to; place = place; delta = delta }
+    record { found = 1; from = offer .from; position = offer .position; to = offer .to; place = place; delta = delta }
 
 -- what an offer changes at a place of a list
 unfoldable pub offerDelta : Columns → Setup → List ℕ → Offer → ℕ → Float

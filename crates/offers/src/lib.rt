@@ -170,7 +170,7 @@ fn better_of(
         return best;
     }
     Choice {
-        found: true,
+        found: 1,
         from: offer.from,
         position: offer.position,
         to: offer.to,
@@ -419,7 +419,7 @@ pub fn best_between(
         × Cached c setup ls (now (figures .exit)) (now (places .exit))) ⌝ }
 {
     let mut best = Choice {
-        found: false,
+        found: 0,
         from: 0,
         position: 0,
         to: 0,

@@ -23,7 +23,7 @@ use Rattle.offers.specs.Offers.{Prepared, searchOf, judgeOf, bound}
 use Rattle.relocate.specs.Relocate.{PairsRight, Every}
 use Rattle.offers.specs.declared.Setup.{Setup}
 use Rattle.pairs.specs.declared.Choice.{Choice}
-use Rattle.pairs.specs.Pairs.{Moves, moveOf, Table, leastEntry}
+use Rattle.pairs.specs.Pairs.{Moves, isFound, moveOf, Table, leastEntry}
 use Rattle.pairs.proofs.Taken.{Relocating, relocate-relocating, table-taken, taken-there}
 use Rattle.pairs.proofs.Going.{Going, run-settled, run-stopped, run-goes-on}
 
@@ -52,7 +52,7 @@ module _ (c : Columns) (demand : List ℤ) (s : Setup) (ls : List (List ℕ)) wh
 module _ (c : Columns) (demand : List ℤ) (s : Setup) (ls : List (List ℕ)) (best : Choice)
     (found : moveOf best ≡ taken (searchOf c demand s) (judgeOf c s) ls tt) where
   -- it can be made
-  pub choice-there : best .found ≡ true → Moves ls (best .from) (best .position) (best .to) (best .place)
+  pub choice-there : isFound best ≡ true → Moves ls (best .from) (best .position) (best .to) (best .place)
   choice-there e = taken-there (searchOf c demand s) (judgeOf c s) (bound c) (relocating c demand s) ls best found e
 
 -- ---- what the loop answers
@@ -70,19 +70,19 @@ module _ (c : Columns) (demand : List ℤ) (s : Setup) (limit : ℕ) (first : Li
 
   module _ (ls : List (List ℕ)) (running : Running ls) (best : Choice) (found : moveOf best ≡ taken (searchOf c demand s) (judgeOf c s) ls tt)
       (visits lengths visits′ lengths′ : List ℕ) (edited : Edited visits lengths visits′ lengths′ ls) where
-    pub answers-settled : best .found ≡ false → Answered visits lengths visits′ lengths′ (Settled moves)
+    pub answers-settled : isFound best ≡ false → Answered visits lengths visits′ lengths′ (Settled moves)
     unfolding run-of searchOf judgeOf endedAs
     answers-settled e =
         let whole = run-settled (searchOf c demand s) (judgeOf c s) (bound c) (relocating c demand s) limit first moves ls running best found e in
         (rw whole edited, rw whole)
 
-    pub answers-stopped : best .found ≡ true → limit ≤ moves → Answered visits lengths visits′ lengths′ (Stopped moves)
+    pub answers-stopped : isFound best ≡ true → limit ≤ moves → Answered visits lengths visits′ lengths′ (Stopped moves)
     unfolding run-of searchOf judgeOf endedAs
     answers-stopped e used =
         let whole = run-stopped (searchOf c demand s) (judgeOf c s) (bound c) (relocating c demand s) limit first moves ls running best found e used in
         (rw whole edited, rw whole)
 
-  pub goes-on : (ls : List (List ℕ)) → Running ls → (best : Choice) → moveOf best ≡ taken (searchOf c demand s) (judgeOf c s) ls tt → best .found ≡ true
+  pub goes-on : (ls : List (List ℕ)) → Running ls → (best : Choice) → moveOf best ≡ taken (searchOf c demand s) (judgeOf c s) ls tt → isFound best ≡ true
       → moves < limit → (ms : List (List ℕ)) → ms ≡ relocated ls (best .from) (best .position) (best .to) (best .place)
       → Going (next (searchOf c demand s) (judgeOf c s)) limit (record { now = first; ahead = [] }) (moves + 1) (record { now = ms; ahead = [] })
   goes-on ls running best found e room ms is =

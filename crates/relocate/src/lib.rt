@@ -529,7 +529,7 @@ fn descend(
     let mut moves = 0;
     loop {
         let best = best_pair(lengths.len(), -setup.floor, deltas, positions, to_places);
-        if !best.found {
+        if best.found == 0 {
             return Ended::Settled(moves);
         }
         if limit <= moves {

@@ -137,7 +137,7 @@ module _ (c : Columns) (demand : List ℤ) (s : Setup) (visits lengths : List �
       && passOf (record { from = from; position = position; to = to; place = place })) ≡ true
       → delta ≡ deltaOf (record { from = from; position = position; to = to; place = place })
       → Scanned c demand s visits lengths (record { from = from; position = position; to = to; place = place } ∷ []) best
-      (record { found = true; from = from; position = position; to = to; place = place; delta = delta })
+      (record { found = 1; from = from; position = position; to = to; place = place; delta = delta })
   unfolding moveOf figure
   taken-there from position to place delta best counted tested is-delta =
       let m : Relocation = record { from = from; position = position; to = to; place = place } in

@@ -67,7 +67,7 @@ intoList ls from to position =
 -- an offer, taken at a place
 abbrev pub taken-at : Offer → ℕ → Float → Choice
 taken-at offer place delta =
-    record { found = true; from = offer .from; position = offer .position; to = offer .to; place = place; delta = delta }
+    record { found = 1; from = offer .from; position = offer .position; to = offer .to; place = place; delta = delta }
 
 -- what an offer changes, by the price of the list that it would make
 unfoldable pub offerDelta : Offer → Float → Float

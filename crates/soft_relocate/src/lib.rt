@@ -243,7 +243,7 @@ fn better_of(
     let delta = offer.giving + (new - offer.old + offer.paid);
     if delta < best.delta {
         return Choice {
-            found: true,
+            found: 1,
             from: offer.from,
             position: offer.position,
             to: offer.to,
@@ -402,7 +402,7 @@ fn nothing_below(bound: f64) -> Choice
     ensures { λ r. ⌜ r ≡ nothing bound ⌝ }
 {
     Choice {
-        found: false,
+        found: 0,
         from: 0,
         position: 0,
         to: 0,
@@ -890,7 +890,7 @@ fn descend(
     let mut moves = 0;
     loop {
         let best = best_pair(lengths.len(), -setup.floor, deltas, positions, places);
-        if !best.found {
+        if best.found == 0 {
             return Ended::Settled(moves);
         }
         if limit <= moves {
