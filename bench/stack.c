@@ -20,7 +20,7 @@ static uint16_t visits[PLACES], lengths[LISTS];
 static size_t offices, lists;
 
 #define DAY                                                                                                                       \
-    PLACES, flags, PLACES, demand, PLACES, service, PLACES, ready, PLACES, due, PLACES, penalty, PLACES, distances, PLACES *PLACES, \
+    PLACES, flags, PLACES, demand, PLACES, service, PLACES, ready, PLACES, due, PLACES, penalty, PLACES, distances, PLACES * PLACES, \
         NULL, 0
 #define ALL_LISTS visits, offices, lengths, lists
 
