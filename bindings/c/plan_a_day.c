@@ -99,6 +99,25 @@ static void plan_exchange(void) {
     print_rearranged(refusal, visits, lengths, settled, moves, remaining);
 }
 
+/* Two vans from depots at 0 and 100; the list of the first also has the place at 90. */
+static void plan_cross_depot(void) {
+    const uint32_t van_ids[] = {7, 8};
+    const size_t depots[] = {0, 1};
+    const int32_t capacities[] = {10, 10};
+    const double costs[] = {1, 1}, none[] = {0, 0}, prices[] = {180, 10};
+    const uint8_t van_flags[] = {0, 0};
+    uint16_t visits[] = {2, 3, 4}, lengths[] = {2, 1};
+    uint32_t ids[] = {7, 8}, moves = 0;
+    uint8_t settled = 0;
+    size_t remaining = 0;
+    place((const double[]){0, 100, 5, 90, 95}, 2);
+    printf("cross-depot of 2 3 and 4, depots at 0 and 100: ");
+    uint8_t refusal = planner_cross_depot_improve(DAY, van_ids, 2, depots, 2, capacities, 2, costs, 2, none, 2, van_flags, 2, none, 2,
+                                                  none, 2, none, 2, none, 2, none, 2, visits, 3, lengths, 2, ids, 2, prices, 2, LIMIT,
+                                                  &settled, &moves, &remaining);
+    print_rearranged(refusal, visits, lengths, settled, moves, remaining);
+}
+
 int main(void) {
     const double line[PLACES] = {0, 10, 20, 30, 40};
     place(line, 1);
@@ -108,6 +127,8 @@ int main(void) {
     plan_within("3-opt", planner_three_opt_improve, (uint16_t[]){1, 3, 2, 4}, 4);
     plan_relocate();
     plan_exchange();
+    plan_cross_depot();
+    place(line, 1);
     plan_within("2-opt", planner_two_opt_improve, (uint16_t[]){2, 1, 2}, 3);
     return 0;
 }

@@ -1,7 +1,7 @@
 //! Plans five places on a line by each engine and prints what comes of it (../c/plan_a_day.c is the same in C).
 use planner::{
-    exchange_improve, or_opt_improve, relocate_improve, route_distance, three_opt_improve, two_opt_improve, Day, Improved, Lists, ListsMut,
-    Rearranged, Refusal, Vehicle, DEPOT,
+    cross_depot_improve, exchange_improve, or_opt_improve, relocate_improve, route_distance, three_opt_improve, two_opt_improve, Day,
+    FleetColumns, Improved, Lists, ListsMut, Rearranged, Refusal, Vehicle, DEPOT,
 };
 use std::fmt::{self, Write};
 
@@ -26,6 +26,7 @@ pub fn plan(text: &mut String) -> fmt::Result {
     within(text, "3-opt", three_opt_improve, day, van, [1, 3, 2, 4])?;
     across(text, "relocate", relocate_improve, day, van, [1, 3, 2], [2, 1])?;
     across(text, "tail exchange", exchange_improve, day, &Vehicle::new(0, 2), [3, 1, 2, 4], [2, 2])?;
+    cross_depot(text)?;
     within(text, "2-opt", two_opt_improve, day, van, [2, 1, 2])
 }
 
@@ -101,6 +102,17 @@ fn rearranged(text: &mut String, lists: Lists, answer: Result<Rearranged, Refusa
         Ok(Rearranged { end, moves, remaining }) => writeln!(text, "{}, lists {remaining}, moves {moves}, {end}", joined(lists)),
         Err(refusal) => writeln!(text, "{refusal}"),
     }
+}
+
+/// Two vans from depots at 0 and 100; the list of the first also has the place at 90.
+fn cross_depot(text: &mut String) -> fmt::Result {
+    let places = Places::at([0.0, 100.0, 5.0, 90.0, 95.0], 2);
+    let columns = FleetColumns::of(&[Vehicle::new(7, 10), Vehicle::new(8, 10).with_depot(1)]);
+    let (mut visits, mut lengths, mut ids) = ([2, 3, 4], [2, 1], [7, 8]);
+    let lists = &mut ListsMut { visits: &mut visits, lengths: &mut lengths };
+    write!(text, "cross-depot of {}, depots at 0 and 100: ", joined(lists.as_lists()))?;
+    let answer = cross_depot_improve(lists, &mut ids, &[180.0, 10.0], &places.day(), &columns.fleet(), LIMIT);
+    rearranged(text, lists.as_lists(), answer)
 }
 
 /// The lists that aren't empty, as 1 2 and 3.

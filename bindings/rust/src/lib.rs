@@ -43,6 +43,7 @@
 
 mod checks;
 mod day;
+mod fleet;
 mod improve;
 #[allow(unsafe_code)]
 mod library;
@@ -53,8 +54,9 @@ mod vehicle;
 
 pub use checks::{route_distance, route_eval, route_feasible, schedule, table_of, RouteEval, Scheduled, Table};
 pub use day::{Day, DEPOT, PENALTY, WINDOW};
+pub use fleet::{cross_depot_improve, refusal_of_fleet, Fleet, FleetColumns};
 pub use improve::{or_opt_improve, three_opt_improve, two_opt_improve, End, Improved};
 pub use lists::{Lists, ListsMut};
 pub use rearrange::{exchange_improve, relocate_improve, relocate_improve_unpruned, Rearranged};
-pub use refusal::{refusal_of, Refusal};
+pub use refusal::{refusal_of, refusal_of_lists, Refusal};
 pub use vehicle::{Vehicle, VehicleBreak};

@@ -16,14 +16,14 @@ pub struct Rearranged {
 
 /// What a run over all lists writes beside the lists.
 #[derive(Default)]
-struct Written {
-    settled: u8,
-    moves: u32,
-    remaining: usize,
+pub(crate) struct Written {
+    pub settled: u8,
+    pub moves: u32,
+    pub remaining: usize,
 }
 
 impl Written {
-    fn read(self, answer: u8) -> Result<Rearranged, Refusal> {
+    pub(crate) fn read(self, answer: u8) -> Result<Rearranged, Refusal> {
         Refusal::read(answer)?;
         Ok(Rearranged { end: End::read(self.settled), moves: self.moves, remaining: self.remaining })
     }

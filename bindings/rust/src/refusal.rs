@@ -1,5 +1,5 @@
 //! Why a call is refused. A refused call changes nothing, and an input free of these faults is never refused.
-use crate::library::planner_refusal;
+use crate::library::{planner_refusal, planner_refusal_of_lists};
 use crate::{Day, Lists, Vehicle};
 use core::error::Error;
 use core::fmt::{self, Display, Formatter};
@@ -75,4 +75,9 @@ impl Error for Refusal {}
 /// Whether a call that asks for this list is refused.
 pub fn refusal_of(lists: Lists<'_>, list: usize, day: &Day<'_>, vehicle: &Vehicle) -> Result<(), Refusal> {
     Refusal::read(planner_refusal(day, *vehicle, lists.visits, lists.lengths, list))
+}
+
+/// Whether a call over all lists is refused.
+pub fn refusal_of_lists(lists: Lists<'_>, day: &Day<'_>, vehicle: &Vehicle) -> Result<(), Refusal> {
+    Refusal::read(planner_refusal_of_lists(day, *vehicle, lists.visits, lists.lengths))
 }

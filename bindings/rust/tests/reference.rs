@@ -1,4 +1,4 @@
-//! Stored runs of the published Rust asked of the bindings: crates/replay/stdin, and for `table` days.txt, of which
+//! Stored runs of the published Rust asked of the bindings: crates/replay/stdin, and for `table` and `cross` days.txt, of which
 //! lines.txt has what the reference prints (oracle/README.md has both forms). A run makes one line, as the reference prints it: end
 //! word, moves, distance by its bits, lists; and what isn't asked for stays as it was.
 #[path = "../../../oracle/days/mod.rs"]
@@ -64,6 +64,7 @@ fn answer(day: &Day, run: &Run) -> String {
         "relocate" => across(relocate_improve, &lent, run, &van),
         "relocate_np" => across(relocate_improve_unpruned, &lent, run, &van),
         "exchange" => across(exchange_improve, &lent, run, &van),
+        "cross" => cross(day, &lent, run),
         engine => panic!("no run is called {engine}"),
     };
     answer.unwrap_or_else(|refusal| refusal.to_string())
@@ -148,6 +149,19 @@ fn across(engine: Across, lent: &Lent, run: &Run, van: &Vehicle) -> Result<Strin
     let lists = &mut ListsMut { visits: &mut visits, lengths: &mut lengths };
     let Rearranged { end, moves, remaining } = engine(lists, &columns(lent), van, limit(run))?;
     Ok(format!("{end} {moves} {} {remaining}", remaining_lists(lists.as_lists(), remaining)))
+}
+
+fn cross(day: &Day, lent: &Lent, run: &Run) -> Result<String, Refusal> {
+    let (mut visits, mut lengths, mut ids) = (lent.visits.clone(), lent.lengths.clone(), lent.van_ids.clone());
+    let lists = &mut ListsMut { visits: &mut visits, lengths: &mut lengths };
+    let fleet = FleetColumns::of(&day.vans.iter().map(vehicle).collect::<Vec<_>>());
+    let Rearranged { end, moves, remaining } =
+        cross_depot_improve(lists, &mut ids, &lent.prices, &columns(lent), &fleet.fleet(), limit(run))?;
+    let lists = remaining_lists(lists.as_lists(), remaining);
+    let (ids, dropped) = ids.split_at(remaining);
+    assert!(dropped.iter().all(|id| *id == 0));
+    let ids = ids.iter().map(u32::to_string).collect::<Vec<_>>().join(",");
+    Ok(format!("{end} {moves} {lists} ids {ids} {remaining}"))
 }
 
 /// The lists that remain, as the reference prints them; the lengths behind them have to be 0.
