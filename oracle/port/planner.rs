@@ -95,6 +95,10 @@ exports! {
         settled: *mut u8, moves: *mut u32, remaining: *mut usize);
 }
 
+exports! {
+    planner_refusal(visits: *const u16, visits_count: usize, lengths: *const u16, lengths_count: usize, list: usize);
+}
+
 /// Calls one of `exports!`.
 #[macro_export]
 macro_rules! call {
