@@ -44,7 +44,7 @@ fn write_batch(options: &Options, from: u64, to: u64, expected: &mut String) {
         text::put_day(&mut out, day);
         let lent = Lent::of(day);
         for run in &day.runs {
-            match refusal::refusal(&lent, &day.vans[0], refusal::asked(run)) {
+            match refusal::refusal(&lent, &day.vans, refusal::asked(run)) {
                 0 => expected.push_str(&format!("{}\n", run.engine)),
                 number => expected.push_str(&format!("{} refused {number}\n", run.engine)),
             }

@@ -1,9 +1,9 @@
-//! Days to be refused: a good day with one damage or several, of each of refusals 1 to 10. Some damages do no harm, so
+//! Days to be refused: a good day with one damage or several, of each of refusals 1 to 12. Some damages do no harm, so
 //! that what must not be refused is tried too; the number expected is refusal.rs's, not the damage's.
-use super::day::{Change, Day};
+use super::day::{Change, Day, Van, COLUMNS, FLEET_COLUMNS};
 use super::families;
 use super::random::Random;
-use super::refusal::{LEAST_COST, MOST};
+use super::refusal::{asked, Asked, LEAST_COST, MOST};
 
 /// No plain numbers.
 const ODD: [f64; 9] = [
@@ -47,7 +47,9 @@ fn damage(day: &mut Day, refusal: u64, random: &mut Random) {
         7 => van(day, random),
         8 => lists(day, random),
         9 => visit(day, random),
-        _ => twice(day, random),
+        10 => twice(day, random),
+        11 => fleet(day, random),
+        _ => put(&mut day.prices, random),
     }
 }
 
@@ -128,14 +130,45 @@ fn window(day: &mut Day, random: &mut Random) {
     };
 }
 
+/// The first van, which most runs are of, or any.
+fn some_van<'a>(day: &'a mut Day, random: &mut Random) -> Option<&'a mut Van> {
+    let van = if random.one_in(2) { 0 } else { random.index(day.vans.len().max(1)) };
+    day.vans.get_mut(van)
+}
+
 fn depot(day: &mut Day, random: &mut Random) {
-    let choices = [day.depots() as u64, day.locations() as u64, 63, 64, 1 << 32, u64::MAX, (1 << 32) | day.vans[0].depot];
-    day.vans[0].depot = random.pick(&choices);
+    let (depots, locations) = (day.depots() as u64, day.locations() as u64);
+    if let Some(van) = some_van(day, random) {
+        van.depot = random.pick(&[depots, depots, locations, 63, 64, 1 << 32, u64::MAX, (1 << 32) | van.depot]);
+    }
+}
+
+/// Adds vans up to that many, each like one that is there.
+fn more_vans(day: &mut Day, vans: usize, random: &mut Random) {
+    while !day.vans.is_empty() && day.vans.len() < vans {
+        let van = day.vans[random.index(day.vans.len())].clone();
+        day.vans.push(van);
+    }
+}
+
+/// The columns of the fleet, and those that have one entry a list.
+fn fleet(day: &mut Day, random: &mut Random) {
+    let entries = random.pick(&[1, 1, -1, -1, 2, -16, 100, 0]);
+    match random.below(8) {
+        0 | 1 => more_vans(day, random.pick(&[15, 16, 16, 17, 17, 18, 40]), random),
+        2 | 3 => day.changes.push(Change::Trim(random.between(10, 11), entries)),
+        4 => (10..=11).for_each(|column| day.changes.push(Change::Trim(column, entries))),
+        5 => (FLEET_COLUMNS..COLUMNS.len()).for_each(|column| day.changes.push(Change::Trim(column, entries))),
+        6 if day.runs.iter().all(|run| matches!(asked(run), Asked::Fleet)) => day.vans.clear(),
+        _ => day.changes.push(Change::Trim(random.between(FLEET_COLUMNS, COLUMNS.len() - 1), entries)),
+    }
 }
 
 fn van(day: &mut Day, random: &mut Random) {
-    let van = &mut day.vans[0];
     let flag = u8::from(!random.one_in(4));
+    let Some(van) = some_van(day, random) else {
+        return;
+    };
     match random.below(10) {
         0 => van.capacity = random.pick(&[-1, 2_000_000_001, i32::MIN, i32::MAX, 2_000_000_000, 0]),
         1 => van.cost_per_distance = number(random),
@@ -190,7 +223,7 @@ fn lists(day: &mut Day, random: &mut Random) {
             }
         }
         _ => {
-            for run in day.runs.iter_mut().filter(|run| run.engine != "table" && !families::ACROSS.contains(&run.engine.as_str())) {
+            for run in day.runs.iter_mut().filter(|run| matches!(asked(run), Asked::List(_))) {
                 run.list = random.pick(&[count, count, count + 1, 16, 255, 256, 1 << 32, 1 << 63, u64::MAX]);
             }
         }
@@ -228,7 +261,7 @@ pub fn day(seed: u64, number: u64, engines: &[&str]) -> Day {
     let mut day = families::day(random.index(families::FAMILIES.len()), seed, number, !random.one_in(20), engines);
     let damages = random.pick(&[1, 1, 1, 2, 3, 4]);
     for _ in 0..damages {
-        let refusal = 1 + random.below(10);
+        let refusal = 1 + random.below(12);
         damage(&mut day, refusal, &mut random);
     }
     day

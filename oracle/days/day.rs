@@ -37,8 +37,14 @@ pub enum Change {
     Length(usize, u16),
 }
 
-pub const COLUMNS: [&str; 12] =
-    ["flags", "demand", "service", "ready", "due", "penalty", "dist", "times", "visits", "lengths", "vids", "prices"];
+/// The columns of the day and its lists, then those of the fleet.
+pub const COLUMNS: [&str; 23] = [
+    "flags", "demand", "service", "ready", "due", "penalty", "dist", "times", "visits", "lengths", "vids", "prices", "van_ids",
+    "depots", "capacities", "distance_costs", "fixed_costs", "van_flags", "max_distances", "max_durations", "earliest", "latest",
+    "durations",
+];
+/// The first of the fleet's.
+pub const FLEET_COLUMNS: usize = 12;
 
 #[derive(Clone, Debug, Default)]
 pub struct Day {
@@ -113,6 +119,83 @@ impl Day {
     }
 }
 
+/// The fleet as it is lent to cross-depot: a column for each number of a van.
+#[derive(Clone, Debug)]
+pub struct Fleet {
+    pub ids: Vec<u32>,
+    pub depots: Vec<usize>,
+    pub capacities: Vec<i32>,
+    pub distance_costs: Vec<f64>,
+    pub fixed_costs: Vec<f64>,
+    pub flags: Vec<u8>,
+    pub max_distances: Vec<f64>,
+    pub max_durations: Vec<f64>,
+    pub earliest: Vec<f64>,
+    pub latest: Vec<f64>,
+    pub durations: Vec<f64>,
+}
+
+impl Fleet {
+    pub fn of(vans: &[Van]) -> Fleet {
+        let column = |number: fn(&Van) -> f64| vans.iter().map(number).collect::<Vec<f64>>();
+        Fleet {
+            ids: vans.iter().map(|van| van.id).collect(),
+            depots: vans.iter().map(|van| van.depot as usize).collect(),
+            capacities: vans.iter().map(|van| van.capacity).collect(),
+            distance_costs: column(|van| van.cost_per_distance),
+            fixed_costs: column(|van| van.fixed_cost),
+            flags: vans.iter().map(|van| van.flags).collect(),
+            max_distances: column(|van| van.max_distance),
+            max_durations: column(|van| van.max_duration),
+            earliest: column(|van| van.earliest),
+            latest: column(|van| van.latest),
+            durations: column(|van| van.duration),
+        }
+    }
+
+    /// The columns of numbers.
+    pub fn numbers(&self) -> [&Vec<f64>; 7] {
+        [&self.distance_costs, &self.fixed_costs, &self.max_distances, &self.max_durations, &self.earliest, &self.latest, &self.durations]
+    }
+
+    /// The vans; the columns have to be of one length.
+    pub fn vans(&self) -> Vec<Van> {
+        (0..self.ids.len()).map(|van| self.van(van)).collect()
+    }
+
+    fn van(&self, van: usize) -> Van {
+        Van {
+            id: self.ids[van],
+            depot: self.depots[van] as u64,
+            capacity: self.capacities[van],
+            cost_per_distance: self.distance_costs[van],
+            fixed_cost: self.fixed_costs[van],
+            flags: self.flags[van],
+            max_distance: self.max_distances[van],
+            max_duration: self.max_durations[van],
+            earliest: self.earliest[van],
+            latest: self.latest[van],
+            duration: self.durations[van],
+        }
+    }
+
+    fn trim(&mut self, column: &str, entries: i64) {
+        match column {
+            "van_ids" => resize(&mut self.ids, entries),
+            "depots" => resize(&mut self.depots, entries),
+            "capacities" => resize(&mut self.capacities, entries),
+            "distance_costs" => resize(&mut self.distance_costs, entries),
+            "fixed_costs" => resize(&mut self.fixed_costs, entries),
+            "van_flags" => resize(&mut self.flags, entries),
+            "max_distances" => resize(&mut self.max_distances, entries),
+            "max_durations" => resize(&mut self.max_durations, entries),
+            "earliest" => resize(&mut self.earliest, entries),
+            "latest" => resize(&mut self.latest, entries),
+            _ => resize(&mut self.durations, entries),
+        }
+    }
+}
+
 /// The slices lent, the changes made.
 #[derive(Clone, Debug)]
 pub struct Lent {
@@ -129,6 +212,7 @@ pub struct Lent {
     pub lengths: Vec<u16>,
     pub van_ids: Vec<u32>,
     pub prices: Vec<f64>,
+    pub fleet: Fleet,
 }
 
 impl Lent {
@@ -147,6 +231,7 @@ impl Lent {
             lengths: day.lists.iter().map(|list| list.len() as u16).collect(),
             van_ids: day.van_ids.clone(),
             prices: day.prices.clone(),
+            fleet: Fleet::of(&day.vans),
         };
         for change in &day.changes {
             lent.change(change);
@@ -179,7 +264,8 @@ impl Lent {
             "visits" => resize(&mut self.visits, entries),
             "lengths" => resize(&mut self.lengths, entries),
             "vids" => resize(&mut self.van_ids, entries),
-            _ => resize(&mut self.prices, entries),
+            "prices" => resize(&mut self.prices, entries),
+            _ => self.fleet.trim(column, entries),
         }
     }
 }

@@ -1,17 +1,19 @@
 //! Days by family, seed and number. A family fixes some choices of a day and leaves the others to chance.
-use super::day::{Day, Run, Van};
+use super::day::{Day, Run};
+use super::fleet::{self, Crew};
 use super::options::fail;
 use super::maps::{any_plain, near, plainly, table, Map, MAPS};
 use super::random::Random;
-use super::refusal::{LEAST_COST, MOST};
+use super::refusal::{LEAST_COST, MOST, NUMBERS};
 use super::walk;
 
-/// The first are the maps, in the order of MAPS.
-pub const FAMILIES: [&str; 34] = [
+/// The first are the maps, in the order of MAPS; the last are for cross-depot.
+pub const FAMILIES: [&str; 45] = [
     "line", "grid", "plane", "whole", "whole-one-way", "fraction", "fraction-one-way", "tenths", "zero", "ties", "large",
     "small", "mixed", "demand-3", "own-times", "hard-windows", "soft-windows", "both-windows", "waiting", "depot-windows",
     "break-tight", "break-loose", "break-impossible", "break-and-windows", "limits", "limits-and-break", "depots",
-    "empty-lists", "many-lists", "long", "fleet", "big", "full", "any",
+    "empty-lists", "many-lists", "long", "fleet", "big", "full", "any", "vans", "vans-windows", "vans-whole", "vans-rules", "vans-ids",
+    "vans-prices", "vans-over", "vans-16", "vans-few", "vans-empty-lists", "vans-full",
 ];
 
 /// The runs that compare only values; every one of them ends.
@@ -54,6 +56,8 @@ struct Recipe {
     spare: bool,
     /// A van at each depot, each with its own id, and lists that start from their own price.
     fleet: bool,
+    /// Made for cross-depot.
+    crew: Option<Crew>,
 }
 
 fn any_recipe(random: &mut Random) -> Recipe {
@@ -75,6 +79,34 @@ fn any_recipe(random: &mut Random) -> Recipe {
         lists: random.between(1, 3),
         spare: random.one_in(4),
         fleet: random.one_in(4),
+        crew: None,
+    }
+}
+
+/// What the families for cross-depot fix.
+fn fleet_recipe(family: &str, recipe: &mut Recipe, random: &mut Random) {
+    recipe.crew = Some(match family {
+        "vans-rules" => Crew::Rules,
+        "vans-ids" => Crew::Ids,
+        "vans-prices" => Crew::Prices,
+        "vans-over" => Crew::Over,
+        "vans-16" => Crew::Many,
+        "vans-few" => Crew::Few,
+        _ => Crew::Mixed,
+    });
+    (recipe.flagged, recipe.offices, recipe.lists) = (random.between(2, 5), random.between(3, 12), random.between(2, 5));
+    (recipe.rest, recipe.limits) = (Rest::None, false);
+    match family {
+        "vans-windows" => recipe.windows = random.pick(&[Windows::Hard, Windows::Soft, Windows::Both, Windows::Waiting]),
+        "vans-whole" => {
+            recipe.map = random.pick(&[Map::Line, Map::Grid, Map::Ties, Map::Zero, Map::Whole]);
+            (recipe.times, recipe.windows) = (None, Windows::None);
+        }
+        "vans-16" => (recipe.lists, recipe.offices) = (random.between(4, 16), random.between(6, 20)),
+        "vans-few" => recipe.lists = random.between(0, 4),
+        "vans-empty-lists" => (recipe.lists, recipe.offices) = (random.between(0, 6), random.between(0, 4)),
+        "vans-full" => (recipe.offices, recipe.lists) = (59, random.pick(&[2, 3, 6, 16])),
+        _ => {}
     }
 }
 
@@ -114,6 +146,7 @@ fn recipe(family: usize, random: &mut Random) -> Recipe {
         }
         "big" => (recipe.offices, recipe.lists) = (random.between(25, 50), random.between(1, 6)),
         "full" => (recipe.flagged, recipe.offices, recipe.lists) = (1, 63, random.pick(&[1, 2, 5, 16])),
+        name if name.starts_with("vans") => fleet_recipe(name, &mut recipe, random),
         _ => {}
     }
     recipe
@@ -131,13 +164,20 @@ pub fn day(family: usize, seed: u64, number: u64, small: bool, engines: &[&str])
     let mut day = places(&recipe, &mut random);
     vans(&mut day, recipe.fleet, &mut random);
     lists(&mut day, &recipe, &mut random);
+    if let Some(crew) = recipe.crew {
+        fleet::man(&mut day, crew, &mut random);
+    }
     windows(&mut day, &recipe, &mut random);
-    loads(&mut day, recipe.fleet, &mut random);
+    match recipe.crew {
+        Some(crew) => equip(&mut day, crew, &mut random),
+        None => loads(&mut day, recipe.fleet, &mut random),
+    }
+    let list = random.index(day.lists.len().max(1));
     if recipe.rest != Rest::None {
-        rest(&mut day, recipe.rest, &mut random);
+        rest(&mut day, 0, list, recipe.rest, &mut random);
     }
     if recipe.limits {
-        limits(&mut day, &mut random);
+        limits(&mut day, 0, list, &mut random);
     }
     if FAMILIES[family] == "demand-3" {
         (day.vans[0].cost_per_distance, day.vans[0].fixed_cost) = (1.0, random.pick(&[0.0, 1.0, 50.0, 16_777_216.0]));
@@ -145,8 +185,30 @@ pub fn day(family: usize, seed: u64, number: u64, small: bool, engines: &[&str])
     if random.one_in(3) {
         unread(&mut day, &mut random);
     }
+    if recipe.crew == Some(Crew::Few) && random.one_in(3) {
+        day.vans.clear();
+    }
     runs(&mut day, engines, &mut random);
     day
+}
+
+/// Capacities, breaks, limits and prices of a fleet.
+fn equip(day: &mut Day, crew: Crew, random: &mut Random) {
+    fleet::load(day, crew, random);
+    let chances = if crew == Crew::Rules { 2 } else { 8 };
+    for van in 0..day.vans.len() {
+        let own = (0..day.lists.len()).find(|list| fleet::driver(day, *list) == van);
+        let Some(list) = own else {
+            continue;
+        };
+        if random.one_in(chances) {
+            rest(day, van, list, random.pick(&[Rest::Tight, Rest::Loose, Rest::Loose]), random);
+        }
+        if random.one_in(chances) {
+            limits(day, van, list, random);
+        }
+    }
+    fleet::price(day, crew, random);
 }
 
 /// A length of time or distance of about the day's size.
@@ -191,31 +253,23 @@ fn places(recipe: &Recipe, random: &mut Random) -> Day {
 fn vans(day: &mut Day, fleet: bool, random: &mut Random) {
     let depots = day.depots() as u64;
     for number in 0..if fleet { depots } else { 1 + random.below(3) } {
-        day.vans.push(Van {
-            id: if fleet { 3 + number as u32 } else { random.pick(&[0, 1, 2, 7, u32::MAX]) },
-            depot: if fleet { number } else { random.below(depots) },
-            capacity: 2_000_000_000,
-            cost_per_distance: match random.below(6) {
-                0 => 0.0,
-                1 => LEAST_COST,
-                2 => any_plain(random).max(LEAST_COST),
-                3 => random.unit() + 0.1,
-                _ => 1.0,
-            },
-            fixed_cost: match random.below(6) {
-                0 => random.pick(&[MOST, f64::from_bits(1), LEAST_COST]),
-                1 => any_plain(random),
-                2 => random.below(100) as f64,
-                3 => random.unit() * 100.0,
-                _ => 0.0,
-            },
-            flags: 0,
-            max_distance: 0.0,
-            max_duration: 0.0,
-            earliest: 0.0,
-            latest: 0.0,
-            duration: 0.0,
-        });
+        let id = if fleet { 3 + number as u32 } else { random.pick(&[0, 1, 2, 7, u32::MAX]) };
+        let depot = if fleet { number } else { random.below(depots) };
+        let cost_per_distance = match random.below(6) {
+            0 => 0.0,
+            1 => LEAST_COST,
+            2 => any_plain(random).max(LEAST_COST),
+            3 => random.unit() + 0.1,
+            _ => 1.0,
+        };
+        let fixed_cost = match random.below(6) {
+            0 => random.pick(&[MOST, f64::from_bits(1), LEAST_COST]),
+            1 => any_plain(random),
+            2 => random.below(100) as f64,
+            3 => random.unit() * 100.0,
+            _ => 0.0,
+        };
+        day.vans.push(fleet::van(id, depot, cost_per_distance, fixed_cost));
     }
 }
 
@@ -228,6 +282,9 @@ fn lists(day: &mut Day, recipe: &Recipe, random: &mut Random) {
     }
     let ordered = random.one_in(3);
     day.lists = vec![Vec::new(); recipe.lists];
+    if recipe.lists == 0 {
+        return;
+    }
     for (place, office) in offices.into_iter().enumerate() {
         let list = if ordered { place % recipe.lists } else { random.index(recipe.lists) };
         day.lists[list].push(office);
@@ -237,10 +294,9 @@ fn lists(day: &mut Day, recipe: &Recipe, random: &mut Random) {
 /// Windows about the time of arrival, list by list; the stops behind feel the waiting before them.
 fn windows(day: &mut Day, recipe: &Recipe, random: &mut Random) {
     let size = scale(day);
-    let depot = day.vans[0].depot as usize;
     let mut listed = vec![false; day.locations()];
-    for list in day.lists.clone() {
-        let (mut at, mut time) = (depot, 0.0);
+    for (number, list) in day.lists.clone().into_iter().enumerate() {
+        let (mut at, mut time) = (day.vans[fleet::driver(day, number)].depot as usize, 0.0);
         for place in list.into_iter().map(usize::from) {
             let arrival = time + day.travel(at, place);
             window(day, place, recipe.windows, arrival, size, random);
@@ -317,10 +373,9 @@ fn loads(day: &mut Day, fleet: bool, random: &mut Random) {
     }
 }
 
-/// The first van's break, about the arrivals of one of its lists; the last of these is the return.
-fn rest(day: &mut Day, kind: Rest, random: &mut Random) {
-    let list = random.index(day.lists.len());
-    let times = walk::arrivals(day, &day.vans[0], &day.lists[list]);
+/// A van's break, about its arrivals on a list; the last of these is the return.
+fn rest(day: &mut Day, van: usize, list: usize, kind: Rest, random: &mut Random) {
+    let times = walk::arrivals(day, &day.vans[van], &day.lists[list]);
     let (home, size) = (times[times.len() - 1], scale(day));
     let moment = times[random.index(times.len())];
     let (earliest, latest) = match kind {
@@ -340,7 +395,7 @@ fn rest(day: &mut Day, kind: Rest, random: &mut Random) {
             (earliest, plainly(earliest + home * random.unit() + amount(size, random)))
         }
     };
-    let van = &mut day.vans[0];
+    let van = &mut day.vans[van];
     van.flags |= 4;
     (van.earliest, van.latest) = (earliest, if latest < earliest { earliest } else { latest });
     van.duration = match random.below(4) {
@@ -350,15 +405,14 @@ fn rest(day: &mut Day, kind: Rest, random: &mut Random) {
     };
 }
 
-/// The first van's limits: what one of its lists comes to, or a step beside it.
-fn limits(day: &mut Day, random: &mut Random) {
-    let list = random.index(day.lists.len());
+/// A van's limits: what a list comes to, or a step beside it.
+fn limits(day: &mut Day, van: usize, list: usize, random: &mut Random) {
     let size = scale(day);
-    let found = walk::totals(day, &day.vans[0], &day.lists[list]);
+    let found = walk::totals(day, &day.vans[van], &day.lists[list]);
     let (distance, duration) = found.map_or((size, size), |totals| (totals.distance, totals.duration));
     let which = 1 + random.below(3) as u8;
     let loose = random.one_in(4);
-    let van = &mut day.vans[0];
+    let van = &mut day.vans[van];
     van.flags |= which;
     van.max_distance = if loose { plainly(2.0 * distance) } else { near(distance, random) };
     van.max_duration = if loose { plainly(2.0 * duration) } else { near(duration, random) };
@@ -388,17 +442,21 @@ fn unread(day: &mut Day, random: &mut Random) {
     }
 }
 
-/// Each engine asked for: on every list, or once. A limit is always given, since some runs of the Rust never end; with many
+/// Each engine asked for: on every list, or once; of a day without a van, those for a fleet. A limit is always given, since
+/// some runs of the Rust never end, but not always to cross-depot, each of whose moves lowers the exact cost; with many
 /// offices it is low, since a move takes long there.
 fn runs(day: &mut Day, engines: &[&str], random: &mut Random) {
     let long = if day.locations() > 24 { 6 } else { 1000 };
     for engine in engines {
-        let once = *engine == "table" || ACROSS.contains(engine);
+        let for_fleet = matches!(*engine, "cross" | "refusal_of_fleet");
+        let once = for_fleet || *engine == "table" || *engine == "refusal_of_lists" || ACROSS.contains(engine);
         for list in 0..if once { 1 } else { day.lists.len() as u64 } {
-            if *engine == "schedule" && day.vans[0].flags & 4 == 0 {
+            if day.vans.is_empty() && !for_fleet || *engine == "schedule" && day.vans[0].flags & 4 == 0 {
                 continue;
             }
-            let limit = if CHECKS.contains(engine) { 0 } else { random.pick(&[0, 1, 2, 3, long, long]) };
+            let last = if *engine == "cross" && long > 6 { -1 } else { long };
+            let same = CHECKS.contains(engine) || NUMBERS.contains(engine);
+            let limit = if same { 0 } else { random.pick(&[0, 1, 2, 3, long, last]) };
             day.runs.push(Run { engine: engine.to_string(), limit, list });
         }
     }
@@ -413,15 +471,19 @@ pub fn families_named(names: &str) -> Vec<usize> {
     names.split(',').map(|name| number(name).unwrap_or_else(|| fail(&format!("no family {name}; there are {}", FAMILIES.join(", "))))).collect()
 }
 
-/// The engines named: `checks`, `engines`, `all` or names of runs.
+/// The engines named, parted by commas: names of runs, or `checks`, `engines`, `all` (both), `numbers` (of refusals).
 pub fn engines_named(names: &str) -> Vec<&str> {
-    let engines = || WITHIN.iter().chain(&ACROSS).copied();
-    match names {
-        "checks" => CHECKS.to_vec(),
-        "engines" => engines().collect(),
-        "all" => CHECKS.iter().copied().chain(engines()).collect(),
-        _ => names.split(',').collect(),
+    let mut engines = Vec::new();
+    for name in names.split(',') {
+        match name {
+            "checks" => engines.extend(CHECKS),
+            "engines" => engines.extend(WITHIN.iter().chain(&ACROSS)),
+            "all" => engines.extend(CHECKS.iter().chain(&WITHIN).chain(&ACROSS)),
+            "numbers" => engines.extend(NUMBERS),
+            _ => engines.push(name),
+        }
     }
+    engines
 }
 
 /// Days `from` to `to` of the families in turn.

@@ -5,6 +5,7 @@
 pub mod damage;
 pub mod day;
 pub mod families;
+pub mod fleet;
 pub mod maps;
 pub mod options;
 pub mod random;

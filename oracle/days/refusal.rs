@@ -1,5 +1,5 @@
-//! Refusals 1 to 10, written from the table in document 01, in the order of the numbers.
-use super::day::{Lent, Run, Van};
+//! Refusals 1 to 12, written from the table in document 01, in the order of the numbers; cross-depot tests 11 before 6.
+use super::day::{Fleet, Lent, Run, Van};
 
 /// 2^40.
 pub const MOST: f64 = 1_099_511_627_776.0;
@@ -19,33 +19,72 @@ pub enum Asked {
     List(u64),
     /// All of them.
     Lists,
+    /// All of them, for a fleet.
+    Fleet,
 }
+
+/// The runs that answer a refusal's number alone, 0 for none; the reference doesn't know them.
+pub const NUMBERS: [&str; 3] = ["refusal", "refusal_of_lists", "refusal_of_fleet"];
 
 pub fn asked(run: &Run) -> Asked {
     match run.engine.as_str() {
         "table" => Asked::Nothing,
-        "relocate" | "relocate_np" | "exchange" | "cross" => Asked::Lists,
+        "relocate" | "relocate_np" | "exchange" | "refusal_of_lists" => Asked::Lists,
+        "cross" | "refusal_of_fleet" => Asked::Fleet,
         _ => Asked::List(run.list),
     }
 }
 
-/// The refusal's number, 0 where there is none.
-pub fn refusal(lent: &Lent, van: &Van, asked: Asked) -> u8 {
+/// The number of the refusal that a run gets, 0 where it gets none. A run that isn't for a fleet is the first van's.
+pub fn refusal(lent: &Lent, vans: &[Van], asked: Asked) -> u8 {
     let day = of_day(lent);
     if day != 0 {
         return day;
     }
     let depots = depots(lent);
-    if van.depot >= depots {
-        return 6;
-    }
-    if bad_van(van) {
-        return 7;
+    let van = match asked {
+        Asked::Fleet => of_fleet(lent, depots),
+        _ => of_vans(&vans[..vans.len().min(1)], depots),
+    };
+    if van != 0 {
+        return van;
     }
     match asked {
         Asked::Nothing => 0,
         Asked::Lists => of_lists(lent, depots, None),
         Asked::List(list) => of_lists(lent, depots, Some(list)),
+        Asked::Fleet => of_lists_and_prices(lent, depots),
+    }
+}
+
+/// 6 of every van, then 7 of every van.
+fn of_vans(vans: &[Van], depots: u64) -> u8 {
+    if vans.iter().any(|van| van.depot >= depots) {
+        return 6;
+    }
+    if vans.iter().any(bad_van) { 7 } else { 0 }
+}
+
+fn of_fleet(lent: &Lent, depots: u64) -> u8 {
+    let lists = lent.lengths.len();
+    if lent.fleet.ids.len() > 16 || !one_length(&lent.fleet) || lent.van_ids.len() != lists || lent.prices.len() != lists {
+        return 11;
+    }
+    of_vans(&lent.fleet.vans(), depots)
+}
+
+fn one_length(fleet: &Fleet) -> bool {
+    let vans = fleet.ids.len();
+    fleet.depots.len() == vans
+        && fleet.capacities.len() == vans
+        && fleet.flags.len() == vans
+        && fleet.numbers().iter().all(|column| column.len() == vans)
+}
+
+fn of_lists_and_prices(lent: &Lent, depots: u64) -> u8 {
+    match of_lists(lent, depots, None) {
+        0 if lent.prices.iter().any(|price| !plain(*price)) => 12,
+        number => number,
     }
 }
 

@@ -37,7 +37,7 @@ impl<'a> Instance<'a> {
     pub fn of(day: &'a Day) -> Result<Instance<'a>, String> {
         let van = day.vans.first().ok_or("no van")?;
         let lent = Lent::of(day);
-        if let Some(run) = day.runs.iter().find(|run| refusal(&lent, van, asked(run)) != 0) {
+        if let Some(run) = day.runs.iter().find(|run| refusal(&lent, &day.vans, asked(run)) != 0) {
             return Err(format!("{} is refused", run.engine));
         }
         let distances: Option<Vec<u64>> = day.distances.iter().map(|distance| whole(*distance)).collect();

@@ -54,10 +54,14 @@ fn answers(day: &Day) -> String {
     for run in &day.runs {
         lines.push_str(&run.engine);
         lines.push(' ');
-        match day.vans.first() {
-            Some(van) => lines.push_str(&answer(&Call { lent: &lent, van: Van::of(van), run })),
-            None => lines.push_str("has no van"),
-        }
+        lines.push_str(&match (run.engine.as_str(), day.vans.first()) {
+            ("cross", _) => cross(&lent, run),
+            ("refusal_of_fleet", _) => {
+                numbered(call_of_fleet!(planner_refusal_of_fleet, lent, lent.visits.as_ptr(), lent.lengths.as_ptr(), lent.van_ids.as_ptr()))
+            }
+            (_, Some(van)) => answer(&Call { lent: &lent, van: Van::of(van), run }),
+            (_, None) => "has no van".to_string(),
+        });
         lines.push('\n');
     }
     if !untouched(&lent, &copy) {
@@ -118,16 +122,49 @@ macro_rules! across {
     }};
 }
 
-/// The line of a run that changed all lists: the lengths behind those that remain have to be 0.
+/// How a run over all lists ended.
+struct Ended {
+    refusal: u8,
+    settled: u8,
+    moves: u32,
+    remaining: usize,
+}
+
+/// The line of a run that changed all lists.
 fn across_line(call: &Call, lent: &Lent, refusal: u8, settled: u8, moves: u32, remaining: usize) -> String {
-    if refusal != 0 {
-        let nothing = settled == UNWRITTEN_BYTE && moves == UNWRITTEN_COUNT && remaining == UNWRITTEN_SIZE;
-        return refused(refusal, nothing && untouched(lent, call.lent));
-    }
     let mut others = lent.clone();
     others.visits = call.lent.visits.clone();
     others.lengths = call.lent.lengths.clone();
-    if !untouched(&others, call.lent) || remaining > lent.lengths.len() || lent.lengths[remaining..].iter().any(|n| *n != 0) {
+    lists_line(call.lent, lent, &others, &Ended { refusal, settled, moves, remaining }, "")
+}
+
+/// Cross-depot's run, on a copy of what is lent; the van ids behind the lists that remain have to be 0 too.
+fn cross(before: &Lent, run: &Run) -> String {
+    let mut lent = before.clone();
+    let mut ended = Ended { refusal: 0, settled: UNWRITTEN_BYTE, moves: UNWRITTEN_COUNT, remaining: UNWRITTEN_SIZE };
+    ended.refusal = call_of_fleet!(planner_cross_depot_improve, lent, lent.visits.as_mut_ptr(), lent.lengths.as_mut_ptr(),
+        lent.van_ids.as_mut_ptr(), limit_of(run), &mut ended.settled, &mut ended.moves, &mut ended.remaining);
+    let mut others = lent.clone();
+    others.visits = before.visits.clone();
+    others.lengths = before.lengths.clone();
+    others.van_ids = before.van_ids.clone();
+    let (kept, dropped) = lent.van_ids.split_at(ended.remaining.min(lent.van_ids.len()));
+    if ended.refusal == 0 && dropped.iter().any(|id| *id != 0) {
+        return "left an id of a dropped list".to_string();
+    }
+    let ids = kept.iter().map(u32::to_string).collect::<Vec<_>>().join(",");
+    lists_line(before, &lent, &others, &ended, &format!(" ids {ids}"))
+}
+
+/// The line of a run over all lists: what was lent, what stands there now, the same with all that may change put back. The
+/// lengths behind the lists that remain have to be 0.
+fn lists_line(before: &Lent, lent: &Lent, others: &Lent, ended: &Ended, more: &str) -> String {
+    let &Ended { refusal, settled, moves, remaining } = ended;
+    if refusal != 0 {
+        let nothing = settled == UNWRITTEN_BYTE && moves == UNWRITTEN_COUNT && remaining == UNWRITTEN_SIZE;
+        return refused(refusal, nothing && untouched(lent, before));
+    }
+    if !untouched(others, before) || remaining > lent.lengths.len() || lent.lengths[remaining..].iter().any(|n| *n != 0) {
         return "left the tables wrong".to_string();
     }
     let mut start = 0;
@@ -138,7 +175,7 @@ fn across_line(call: &Call, lent: &Lent, refusal: u8, settled: u8, moves: u32, r
         start = end;
     }
     let word = ["stopped", "settled"].get(settled as usize).copied().unwrap_or("no word");
-    format!("{word} {moves} [{}] {remaining}", lists.join("|"))
+    format!("{word} {moves} [{}]{more} {remaining}", lists.join("|"))
 }
 
 /// Visits as the reference prints them.
@@ -160,8 +197,17 @@ fn answer(call: &Call) -> String {
         "relocate" => across!(planner_relocate_improve, call, 1),
         "relocate_np" => across!(planner_relocate_improve, call, 0),
         "exchange" => across!(planner_exchange_improve, call),
+        "refusal" => numbered(call!(planner_refusal, call.lent, call.van, call.lent.visits.as_ptr(), call.lent.visits.len(),
+            call.lent.lengths.as_ptr(), call.lent.lengths.len(), call.run.list as usize)),
+        "refusal_of_lists" => numbered(call!(planner_refusal_of_lists, call.lent, call.van, call.lent.visits.as_ptr(),
+            call.lent.visits.len(), call.lent.lengths.as_ptr(), call.lent.lengths.len())),
         _ => "unknown".to_string(),
     }
+}
+
+/// The line of a run that answers a refusal's number alone.
+fn numbered(number: u8) -> String {
+    if number == 0 { "0".to_string() } else { refused(number, true) }
 }
 
 /// The line of a refusal; the answers' places must be as they were.

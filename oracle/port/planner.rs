@@ -97,6 +97,84 @@ exports! {
 
 exports! {
     planner_refusal(visits: *const u16, visits_count: usize, lengths: *const u16, lengths_count: usize, list: usize);
+    planner_refusal_of_lists(visits: *const u16, visits_count: usize, lengths: *const u16, lengths_count: usize);
+}
+
+/// A function of the library over day, fleet and lists, the van ids and the prices of the lists, then its own parameters.
+macro_rules! exports_of_fleet {
+    ($($name:ident($changed:tt; $($parameter:ident: $kind:ty),*);)*) => {
+        extern "C" {
+            $(pub fn $name(
+                l: usize,
+                flags: *const u8, flags_count: usize,
+                demand: *const i32, demand_count: usize,
+                service: *const f64, service_count: usize,
+                ready: *const f64, ready_count: usize,
+                due: *const f64, due_count: usize,
+                penalty: *const f64, penalty_count: usize,
+                distances: *const f64, distances_count: usize,
+                times: *const f64, times_count: usize,
+                van_ids: *const u32, van_ids_count: usize,
+                depots: *const usize, depots_count: usize,
+                capacities: *const i32, capacities_count: usize,
+                distance_costs: *const f64, distance_costs_count: usize,
+                fixed_costs: *const f64, fixed_costs_count: usize,
+                van_flags: *const u8, van_flags_count: usize,
+                max_distances: *const f64, max_distances_count: usize,
+                max_durations: *const f64, max_durations_count: usize,
+                earliest: *const f64, earliest_count: usize,
+                latest: *const f64, latest_count: usize,
+                durations: *const f64, durations_count: usize,
+                visits: *$changed u16, visits_count: usize,
+                lengths: *$changed u16, lengths_count: usize,
+                ids: *$changed u32, ids_count: usize,
+                prices: *const f64, prices_count: usize,
+                $($parameter: $kind),*
+            ) -> u8;)*
+        }
+    };
+}
+
+exports_of_fleet! {
+    planner_refusal_of_fleet(const;);
+    planner_cross_depot_improve(mut; limit: u32, settled: *mut u8, moves: *mut u32, remaining: *mut usize);
+}
+
+/// Calls one of `exports_of_fleet!`; the lists, their lengths and van ids are given as pointers.
+#[macro_export]
+macro_rules! call_of_fleet {
+    ($name:ident, $lent:expr, $visits:expr, $lengths:expr, $ids:expr $(, $argument:expr)*) => {
+        // SAFETY: each pointer is a Vec's with its own length, or a local's, and no two of them overlap.
+        unsafe {
+            $name(
+                $lent.locations as usize,
+                $lent.flags.as_ptr(), $lent.flags.len(),
+                $lent.demand.as_ptr(), $lent.demand.len(),
+                $lent.service.as_ptr(), $lent.service.len(),
+                $lent.ready.as_ptr(), $lent.ready.len(),
+                $lent.due.as_ptr(), $lent.due.len(),
+                $lent.penalty.as_ptr(), $lent.penalty.len(),
+                $lent.distances.as_ptr(), $lent.distances.len(),
+                $lent.times.as_ptr(), $lent.times.len(),
+                $lent.fleet.ids.as_ptr(), $lent.fleet.ids.len(),
+                $lent.fleet.depots.as_ptr(), $lent.fleet.depots.len(),
+                $lent.fleet.capacities.as_ptr(), $lent.fleet.capacities.len(),
+                $lent.fleet.distance_costs.as_ptr(), $lent.fleet.distance_costs.len(),
+                $lent.fleet.fixed_costs.as_ptr(), $lent.fleet.fixed_costs.len(),
+                $lent.fleet.flags.as_ptr(), $lent.fleet.flags.len(),
+                $lent.fleet.max_distances.as_ptr(), $lent.fleet.max_distances.len(),
+                $lent.fleet.max_durations.as_ptr(), $lent.fleet.max_durations.len(),
+                $lent.fleet.earliest.as_ptr(), $lent.fleet.earliest.len(),
+                $lent.fleet.latest.as_ptr(), $lent.fleet.latest.len(),
+                $lent.fleet.durations.as_ptr(), $lent.fleet.durations.len(),
+                $visits, $lent.visits.len(),
+                $lengths, $lent.lengths.len(),
+                $ids, $lent.van_ids.len(),
+                $lent.prices.as_ptr(), $lent.prices.len(),
+                $($argument),*
+            )
+        }
+    };
 }
 
 /// Calls one of `exports!`.
@@ -144,4 +222,11 @@ pub fn untouched(lent: &Lent, copy: &Lent) -> bool {
         && same(&lent.times, &copy.times)
         && lent.visits == copy.visits
         && lent.lengths == copy.lengths
+        && lent.van_ids == copy.van_ids
+        && same(&lent.prices, &copy.prices)
+        && lent.fleet.ids == copy.fleet.ids
+        && lent.fleet.depots == copy.fleet.depots
+        && lent.fleet.capacities == copy.fleet.capacities
+        && lent.fleet.flags == copy.fleet.flags
+        && lent.fleet.numbers().iter().zip(copy.fleet.numbers()).all(|(ours, theirs)| same(ours, theirs))
 }
