@@ -1,6 +1,6 @@
 //! The tables of docs/BENCHMARKS.md, from what was measured.
 use crate::rows::{Figures, Row};
-use crate::timed_days::OFFICES;
+use std::collections::BTreeSet;
 use std::fmt::Write;
 
 /// A ratio above this, in hundredths, is to be mended.
@@ -20,11 +20,12 @@ pub fn tables(figures: &[Figures]) -> String {
 
 /// A line for each entry, kind and number of lists, a column for each number of offices.
 fn ratios(text: &mut String, figures: &[Figures]) {
+    let columns: BTreeSet<usize> = figures.iter().map(|one| one.row.offices).collect();
     text.push_str("| entry | day | lists |");
-    for offices in OFFICES {
+    for offices in &columns {
         write!(text, " {offices} |").unwrap();
     }
-    text.push_str("\n|---|---|--:|--:|--:|--:|\n");
+    writeln!(text, "\n|---|---|--:|{}", "--:|".repeat(columns.len())).unwrap();
     let mut lines: Vec<(&str, &str, usize)> = Vec::new();
     for Figures { row, .. } in figures {
         if !lines.contains(&line_of(row)) {
@@ -33,8 +34,8 @@ fn ratios(text: &mut String, figures: &[Figures]) {
     }
     for line in lines {
         write!(text, "| {} | {} | {} |", line.0, line.1, line.2).unwrap();
-        for offices in OFFICES {
-            let cell = figures.iter().find(|one| line_of(&one.row) == line && one.row.offices == offices);
+        for offices in &columns {
+            let cell = figures.iter().find(|one| line_of(&one.row) == line && one.row.offices == *offices);
             text.push_str(&cell.map_or(" |".to_string(), |one| format!(" {:.2} ({:.2}) |", one.times.less, one.times.whole)));
         }
         text.push('\n');

@@ -45,13 +45,23 @@ pub struct Both {
     pub lists: usize,
     pub rust: Published,
     pub lent: Lent,
+    /// The first.
     pub van: Van,
 }
 
 impl Both {
+    /// A day of one van.
     pub fn of(kind: Kind, offices: usize, lists: usize) -> Both {
-        let day: Day = kind.day(offices, lists);
-        Both { kind, offices, lists, rust: Published::of(&day), lent: Lent::of(&day), van: Van::of(&day.vans[0]) }
+        Both::lending(kind, offices, lists, &kind.day(offices, lists))
+    }
+
+    /// A day of a fleet.
+    pub fn of_fleet(kind: Kind, offices: usize, lists: usize) -> Both {
+        Both::lending(kind, offices, lists, &kind.fleet_day(offices, lists))
+    }
+
+    fn lending(kind: Kind, offices: usize, lists: usize, day: &Day) -> Both {
+        Both { kind, offices, lists, rust: Published::of(day), lent: Lent::of(day), van: Van::of(&day.vans[0]) }
     }
 
     pub fn row(&self, entry: &'static str) -> Row {
