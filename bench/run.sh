@@ -61,6 +61,18 @@ The figures are what one run measured; nothing is put in by hand.
 END
 }
 
+size_and_stack() {
+    cat << END
+
+## Size and stack
+
+By \`bench/size.sh --table\`, in bytes. Code is that of a program that has the entry alone. Deepest is the stack that any call can
+take, read off the machine code; measured is what a call took on a day of 63 offices, its arguments included.
+
+END
+    "$here/size.sh" --table
+}
+
 library
 export LIBRARY
 build
@@ -70,8 +82,7 @@ valgrind --tool=callgrind --callgrind-out-file="$out/dumps/count" "$out/bench" c
 "$out/bench" time "$out/dumps" "$out/report"
 {
     cat "$out/introduction" "$out/report"
-    printf '\n## Size and stack\n\n'
-    "$here/size.sh" --table
+    size_and_stack
 } > "$out/BENCHMARKS.md" || status=$?
 if [ -z "${ROWS:-}" ]; then
     cp "$out/BENCHMARKS.md" "$root/docs/BENCHMARKS.md"
