@@ -4,12 +4,22 @@ use std::collections::HashMap;
 use std::fmt::Write;
 use std::path::Path;
 
-/// Instructions of one call of each side.
-#[derive(Clone, Copy, Default)]
+/// Instructions of one call of each side, and the functions that have most of the entry's.
+#[derive(Clone, Default)]
 pub struct Counts {
     pub rust: u64,
     pub refusals: u64,
     pub entry: u64,
+    pub functions: Vec<Share>,
+}
+
+/// What a function has itself.
+#[derive(Clone)]
+pub struct Share {
+    pub function: String,
+    pub count: u64,
+    /// Of the whole call.
+    pub percent: f64,
 }
 
 impl Counts {
@@ -35,18 +45,26 @@ impl Dump {
     fn total(&self) -> u64 {
         self.own.values().sum()
     }
+
+    /// The functions that have at least so many hundredths, most first.
+    fn shares(&self, least: f64) -> Vec<Share> {
+        let total = self.total() as f64;
+        let share = |(function, count): (&String, &u64)| Share { function: function.clone(), count: *count, percent: 100.0 * *count as f64 / total };
+        let mut shares: Vec<Share> = self.own.iter().map(share).filter(|share| share.percent >= least).collect();
+        shares.sort_by(|a, b| b.count.cmp(&a.count));
+        shares
+    }
 }
 
 /// The counts by row.
 pub fn totals(folder: &Path) -> HashMap<String, Counts> {
     let mut counts: HashMap<String, Counts> = HashMap::new();
     for dump in dumps(folder) {
-        let total = dump.total();
-        let of_row = counts.entry(dump.row).or_default();
+        let of_row = counts.entry(dump.row.clone()).or_default();
         match SIDES.iter().position(|side| *side == dump.side) {
-            Some(0) => of_row.rust = total,
-            Some(1) => of_row.refusals = total,
-            _ => of_row.entry = total,
+            Some(0) => of_row.rust = dump.total(),
+            Some(1) => of_row.refusals = dump.total(),
+            _ => (of_row.entry, of_row.functions) = (dump.total(), dump.shares(10.0)),
         }
     }
     counts
@@ -56,12 +74,9 @@ pub fn totals(folder: &Path) -> HashMap<String, Counts> {
 pub fn by_function(folder: &Path) -> String {
     let mut text = String::new();
     for dump in dumps(folder) {
-        let total = dump.total();
-        writeln!(text, "{}, {}: {total}", dump.row, dump.side).unwrap();
-        let mut own: Vec<(&String, &u64)> = dump.own.iter().filter(|(_, count)| 100 * **count >= total).collect();
-        own.sort_by(|a, b| b.1.cmp(a.1));
-        for (function, count) in own {
-            writeln!(text, "{count:>14}{:>6.1} %  {function}", 100.0 * *count as f64 / total as f64).unwrap();
+        writeln!(text, "{}, {}: {}", dump.row, dump.side, dump.total()).unwrap();
+        for share in dump.shares(1.0) {
+            writeln!(text, "{:>14}{:>6.1} %  {}", share.count, share.percent, share.function).unwrap();
         }
     }
     text

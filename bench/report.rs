@@ -1,4 +1,5 @@
 //! The tables of docs/BENCHMARKS.md, from what was measured.
+use crate::dumps::{Counts, Share};
 use crate::rows::{Figures, Row};
 use std::collections::BTreeSet;
 use std::fmt::Write;
@@ -46,16 +47,22 @@ fn line_of(row: &Row) -> (&str, &str, usize) {
     (row.entry, row.kind, row.lists)
 }
 
-/// The rows above the goal, the worst first, with the ratio of instructions beside that of time.
+/// The rows above the goal, the worst first, with the ratio of instructions beside that of time, and where the entry has them.
 fn above(text: &mut String, figures: &[Figures]) {
     let mut rows: Vec<&Figures> = figures.iter().filter(|one| (100.0 * one.times.less).round() > GOAL).collect();
     rows.sort_by(|a, b| b.times.less.total_cmp(&a.times.less));
     writeln!(text, "{} of {} rows have a ratio less refusals above {}:\n", rows.len(), figures.len(), GOAL / 100.0).unwrap();
-    text.push_str("| entry | day | offices | lists | time | instructions |\n|---|---|--:|--:|--:|--:|\n");
+    text.push_str("| entry | day | offices | lists | time | instructions | where the entry has them |\n|---|---|--:|--:|--:|--:|---|\n");
     for Figures { row, times, counts } in rows {
-        let counted = counts.map_or(String::new(), |counts| format!("{:.2}", counts.less()));
-        writeln!(text, "| {} | {} | {} | {} | {:.2} | {counted} |", row.entry, row.kind, row.offices, row.lists, times.less).unwrap();
+        write!(text, "| {} | {} | {} | {} | {:.2} |", row.entry, row.kind, row.offices, row.lists, times.less).unwrap();
+        let counted = counts.as_ref().map(|counts| format!(" {:.2} | {} |", counts.less(), functions(counts)));
+        writeln!(text, "{}", counted.unwrap_or(" | |".to_string())).unwrap();
     }
+}
+
+fn functions(counts: &Counts) -> String {
+    let share = |share: &Share| format!("{} {:.0} %", share.function, share.percent);
+    counts.functions.iter().map(share).collect::<Vec<_>>().join(", ")
 }
 
 fn every(text: &mut String, figures: &[Figures]) {

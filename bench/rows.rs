@@ -120,8 +120,8 @@ impl Bench {
             return;
         };
         let times = timing::times(&mut sides);
-        let counts = counts.get(&name).copied();
-        let counted = counts.map_or(f64::NAN, |counts| counts.less());
+        let counts = counts.get(&name).cloned();
+        let counted = counts.as_ref().map_or(f64::NAN, Counts::less);
         println!("{name:<60}{:>12.0} ns{:>7.2}{:>7.2}   instructions{counted:>6.2}", times.rust, times.less, times.whole);
         self.figures.push(Figures { row, times, counts });
     }
