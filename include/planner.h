@@ -18,12 +18,16 @@
  * The lists lie one after another in visits; lengths has their lengths: at most 16 lists of at most 63 visits. Each visit
  * is a location that is no depot, and no location is visited twice. list is the number of the list asked for, from 0.
  *
- * Refusals, the least number that applies:
- *   1 l is 0 or over 64                       6 the van's depot is no depot location
- *   2 a table's length is wrong for l         7 the van's capacity, costs, limits, break or flags
- *   3 a distance or time isn't plain          8 the lists' number or lengths, or the list asked for
- *   4 demand, service, penalty or flags       9 a visit is no location, or a depot
- *   5 a window                               10 a location is visited twice
+ * A fleet is lent as columns, one for each field of a van: at most 16 vans, or none. Each list has the id of its van, the
+ * first of the fleet with that id, else the fleet's first, and its price at the start.
+ *
+ * Refusals, the least number that applies; with a fleet 11 comes before 6, then 6 of every van, then 7 of every van:
+ *   1 l is 0 or over 64                       7 a van's capacity, costs, limits, break or flags
+ *   2 a table's length is wrong for l         8 the lists' number or lengths, or the list asked for
+ *   3 a distance or time isn't plain          9 a visit is no location, or a depot
+ *   4 demand, service, penalty or flags      10 a location is visited twice
+ *   5 a window                               11 over 16 vans, or the length of a column of the fleet, of ids or of prices
+ *   6 a van's depot is no depot location     12 a price at the start isn't plain
  */
 #ifndef PLANNER_H
 #define PLANNER_H
@@ -70,6 +74,29 @@ struct planner_van {
 
 /* The number of the first refusal of a call that asks for a list, 0 where there is none. */
 uint8_t planner_refusal(PLANNER_DAY, struct planner_van van, PLANNER_LIST);
+
+/* The same of a call that takes all lists and asks for none. */
+uint8_t planner_refusal_of_lists(PLANNER_DAY, struct planner_van van, const uint16_t *visits, size_t visits_count,
+                                 const uint16_t *lengths, size_t lengths_count);
+
+/* The columns of a fleet, an entry a van: the fields of struct planner_van. */
+#define PLANNER_FLEET                           \
+    const uint32_t *van_ids, size_t van_ids_count, \
+    const size_t *depots, size_t depots_count,  \
+    const int32_t *capacities, size_t capacities_count, \
+    const double *distance_costs, size_t distance_costs_count, \
+    const double *fixed_costs, size_t fixed_costs_count, \
+    const uint8_t *van_flags, size_t van_flags_count, \
+    const double *max_distances, size_t max_distances_count, \
+    const double *max_durations, size_t max_durations_count, \
+    const double *earliest, size_t earliest_count, \
+    const double *latest, size_t latest_count,  \
+    const double *durations, size_t durations_count
+
+/* The same of a call that takes all lists and a fleet; ids and prices have an entry a list. */
+uint8_t planner_refusal_of_fleet(PLANNER_DAY, PLANNER_FLEET, const uint16_t *visits, size_t visits_count,
+                                 const uint16_t *lengths, size_t lengths_count, const uint32_t *ids, size_t ids_count,
+                                 const double *prices, size_t prices_count);
 
 /* The list's distance: from the van's depot through its visits and back; 0 for an empty list. Limits and windows don't matter. */
 uint8_t planner_route_distance(PLANNER_DAY, struct planner_van van, PLANNER_LIST, double *distance);
@@ -120,6 +147,14 @@ uint8_t planner_relocate_improve(PLANNER_DAY, struct planner_van van, PLANNER_AL
                                  uint8_t *settled, uint32_t *moves, size_t *remaining);
 uint8_t planner_exchange_improve(PLANNER_DAY, struct planner_van van, PLANNER_ALL_LISTS, uint32_t limit,
                                  uint8_t *settled, uint32_t *moves, size_t *remaining);
+
+/* Relocations, swaps and tail exchanges between all lists, each under its own van, by at most limit moves; settled, moves
+ * and remaining as above. ids says the id of each list's van and is changed in place with the lists: after a run it has that
+ * of the van found for each list, and behind the lists that remain 0. prices has what each list costs at the start. Fewer
+ * than two lists, or lists with no fleet, stay as they are, and so do their ids. */
+uint8_t planner_cross_depot_improve(PLANNER_DAY, PLANNER_FLEET, PLANNER_ALL_LISTS, uint32_t *ids, size_t ids_count,
+                                    const double *prices, size_t prices_count, uint32_t limit, uint8_t *settled,
+                                    uint32_t *moves, size_t *remaining);
 
 /* What is worked out of day and van before the first move: the largest distance, the least gain that counts (1e-12 times
  * that), whether each distance equals its mirror (1 or 0), the van's fixed cost in distance, and the number of depots.

@@ -24,9 +24,9 @@ use Rattle.descent.proofs.Loops.{place-passed, place-moved, next-sweep, run-set
 use Rattle.engine.specs.Engine.{endedAs}
 use Rattle.engine.specs.declared.Ended.the-variants.{Settled, Stopped}
 use Rattle.fleet.specs.Fleet.{Fleet}
-use Rattle.cross_depot.specs.CrossDepot.{Plan, afterMove, moved, searchOf, judgeOf, runOf}
+use Rattle.cross_depot.specs.CrossDepot.{Plan, afterMove, moved, searchOf, judgeOf, runOf, ranOf}
 use Rattle.cross_depot.specs.Scan.{Held, planOf, moveOf}
-use Rattle.cross_depot.specs.Tables.{Made, Chosen, Handed, crossedAs}
+use Rattle.cross_depot.specs.Tables.{Made, Chosen, Handed, crossedOf}
 use Rattle.cross_depot.specs.declared.pair.Move.{Move}
 use Rattle.cross_depot.specs.declared.search.Choice.{Choice}
 use Rattle.cross_depot.specs.declared.run.Crossed.{Crossed}
@@ -84,6 +84,9 @@ module _ {S : Type 0} (step : S → Option S) (limit : ℕ) (first : S) where
 pub part : {A : Type 0} (n : ℕ) (xs : List A) → take (n - 0) (drop 0 xs) ≡ take n xs
 part n xs = ap (λ k. take k xs) (sub-zero n)
 
+pub length-part : {A : Type 0} (n : ℕ) (xs : List A) → n ≤ length xs → length (take (n - 0) (drop 0 xs)) ≡ n
+length-part n xs h = ap length (part n xs) ∙ length-take-le n xs h
+
 -- and given back as `new`
 pub put : {A : Type 0} (n : ℕ) (xs new : List A) → putMid 0 (n - 0) xs new ≡ new ++ drop n xs
 put n xs new = ap (λ k. new ++ drop k xs) (sub-zero n)
@@ -137,7 +140,7 @@ module _ (l : ℕ) (visits₀ visits lengths ids : List ℕ) (costs : List Float
       (live .held, omega arith, omega arith)
 
   -- the tables hold the plan, and behind it nothing
-  pub handed-now : Handed (planOf visits (take n lengths) (take n ids) (take n costs)) number visits lengths ids
+  pub handed-now : Handed (lists visits (take n lengths)) (take n ids) number visits lengths ids
   handed-now =
       let add-up = live .held .laid .add-up in
       let many : length (lists visits (take n lengths)) ≡ n
@@ -231,9 +234,10 @@ module _ (c : Columns) (demand : List ℤ) (fleet : Fleet) (limit : ℕ) (first 
   Running p = Going (next (searchOf c demand fleet) (judgeOf c demand fleet)) limit (record { now = first; ahead = [] }) moves (record { now = p; ahead = [] })
 
   -- what is to be shown of an answer and of the tables
-  abbrev pub Answered : Crossed → ℕ → List ℕ → List ℕ → List ℕ → Type 0
-  Answered r number visits lengths ids =
-      (r ≡ crossedAs (runOf c demand fleet limit first)) × Handed (runOf c demand fleet limit first .last .now) number visits lengths ids
+  abbrev pub Answered : Crossed → ℕ → List ℕ → List ℕ → List ℕ → List ℕ → Type 0
+  Answered r number visits₀ visits lengths ids =
+      let ran = ranOf (runOf c demand fleet limit first) in
+      (r ≡ crossedOf ran) × Handed (ran .lists) (ran .ids) number visits lengths ids × SameVisits visits₀ visits
 
   module _ (l n number : ℕ) (visits₀ visits lengths ids : List ℕ) (costs : List Float) (live : Live l visits₀ visits lengths ids costs n number)
       (running : Running (planOf visits (take n lengths) (take n ids) (take n costs))) (r : Choice)
@@ -241,19 +245,19 @@ module _ (c : Columns) (demand : List ℤ) (fleet : Fleet) (limit : ℕ) (first 
     pub chosen-now : Chosen c demand fleet visits (take n lengths) (take n ids) (take n costs) r
     chosen-now = rw (part n lengths, part n ids, part n costs) at chosen
 
-    pub answers-settled : r .found ≡ false → Answered (record { ended = Settled moves; lists = n }) number visits lengths ids
+    pub answers-settled : r .found ≡ false → Answered (record { ended = Settled moves; lists = n }) number visits₀ visits lengths ids
     unfolding runOf endedAs
     answers-settled e =
         let whole = going-settled _ _ _ moves _ running (no-next c demand fleet visits (take n lengths) (take n ids) (take n costs) r chosen-now e) in
         let many = lists-now l visits₀ visits lengths ids costs n number live in
-        (rw (whole, many), rw whole (handed-now l visits₀ visits lengths ids costs n number live))
+        (rw (whole, many), rw whole (handed-now l visits₀ visits lengths ids costs n number live), live .same)
 
-    pub answers-stopped : r .found ≡ true → limit ≤ moves → Answered (record { ended = Stopped moves; lists = n }) number visits lengths ids
+    pub answers-stopped : r .found ≡ true → limit ≤ moves → Answered (record { ended = Stopped moves; lists = n }) number visits₀ visits lengths ids
     unfolding runOf endedAs
     answers-stopped e used =
         let whole = going-stopped _ _ _ moves _ running _ (a-next c demand fleet visits (take n lengths) (take n ids) (take n costs) r chosen-now e) used in
         let many = lists-now l visits₀ visits lengths ids costs n number live in
-        (rw (whole, many), rw whole (handed-now l visits₀ visits lengths ids costs n number live))
+        (rw (whole, many), rw whole (handed-now l visits₀ visits lengths ids costs n number live), live .same)
 
     pub goes-on : r .found ≡ true → moves < limit → (q : Plan)
         → q ≡ afterMove (planOf visits (take n lengths) (take n ids) (take n costs)) (r .chosen) (r .cost1) (r .cost2)

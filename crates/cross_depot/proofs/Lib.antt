@@ -11,3 +11,5 @@ pub mod Sound
 pub mod Going
 pub mod Starting
 pub mod Ends
+pub mod Carrying
+pub mod Answering

@@ -31,6 +31,10 @@ use Rattle.cross_depot.proofs.Scanning.{stretch-within, cuts-few}
 use Rattle.cross_depot.proofs.Pairs.{depots-apart}
 use Rattle.cross_depot.proofs.Choosing.{Best, chosen}
 
+-- the loads of both lists are tested, or the first takes nothing in the place of its stretch
+abbrev pub TestedOrLess : Move → Type 0
+TestedOrLess m = (m .tested ≡ true) ⊎ ((m .from1 ≤ m .to1) × (m .from2 ≡ m .to2))
+
 -- a move between lists a and b of so many visits
 record Between (a b n1 n2 : ℕ) (m : Move) : Type 0 where
   is-one : m .one ≡ a
@@ -39,6 +43,7 @@ record Between (a b n1 n2 : ℕ) (m : Move) : Type 0 where
   within1 : m .to1 ≤ n1
   ordered2 : m .from2 ≤ m .to2
   within2 : m .to2 ≤ n2
+  tested-or-less : TestedOrLess m
 
 module _ (a b n1 n2 : ℕ) (m : Move) where
   in-relocations : m ∈ relocations a b n1 n2 → Between a b n1 n2 m
@@ -55,6 +60,7 @@ module _ (a b n1 n2 : ℕ) (m : Move) where
         within1 = omega (arith, position .1);
         ordered2 = omega arith;
         within2 = omega (arith, place .1);
+        tested-or-less = inr (omega arith, refl);
       })
 
   exchange-between : (tails : Bool) (k1 k2 : ℕ) → k1 + single tails ≤ n1 → k2 + single tails ≤ n2 → exchange tails a b n1 n2 k1 k2 ≡ m → Between a b n1 n2 m
@@ -68,6 +74,7 @@ module _ (a b n1 n2 : ℕ) (m : Move) where
         within1 = first .1;
         ordered2 = second .0;
         within2 = second .1;
+        tested-or-less = inl refl;
       })
 
   in-swaps : m ∈ swaps a b n1 n2 → Between a b n1 n2 m
@@ -115,31 +122,40 @@ module _ (fleet : Fleet) (p : Plan) (m : Move) where
       by-depot true e k = not-in k
       by-depot false e k = (depots-apart fleet (p .ids) (p .costs) a b e, in-between a b (length (at (p .lists) a)) (length (at (p .lists) b)) m k)
 
+  -- a move is between two lists of the plan
+  in-plan : m ∈ moves fleet p
+      → (a : ℕ) × (b : ℕ) × (a < length (p .lists)) × (b < length (p .lists)) × (a ≢ b) × Between a b (length (at (p .lists) a)) (length (at (p .lists) b)) m
+  unfolding moves
+  in-plan h =
+      let row = each-in (λ a. each (range 0 (length (p .lists))) (ofPair fleet p a)) (range 0 (length (p .lists))) m h in
+      let one = each-in (ofPair fleet p (row .0)) (range 0 (length (p .lists))) m (row .2) in
+      let a-there = range-in 0 (length (p .lists)) (row .0) (row .1) in
+      let b-there = range-in 0 (length (p .lists)) (one .0) (one .1) in
+      let inside = in-pair (row .0) (one .0) (one .2) in
+      (row .0, one .0, a-there .1, b-there .1, inside .0, inside .1)
+
+  pub move-tested : m ∈ moves fleet p → (m .one < length (p .lists)) × TestedOrLess m
+  move-tested h = let inside = in-plan h in (omega (arith, inside .2, inside .5 .is-one), inside .5 .tested-or-less)
+
 -- a move of the tables' plan can be made
 module _ (fleet : Fleet) (visits lengths ids : List ℕ) (costs : List Float) (laid : Laid visits lengths) (m : Move) where
   length-at : (r : ℕ) → length (at (lists visits lengths) r) ≡ getD lengths r 0
   length-at r = ap length (at-lists visits lengths r) ∙ length-list visits lengths (laid .add-up) r
 
   in-moves : m ∈ moves fleet (planOf visits lengths ids costs) → Makes visits lengths m
-  unfolding moves
   in-moves h =
-      let p = planOf visits lengths ids costs in
-      let row = each-in (λ a. each (range 0 (length (lists visits lengths))) (ofPair fleet p a)) (range 0 (length (lists visits lengths))) m h in
-      let one = each-in (ofPair fleet p (row .0)) (range 0 (length (lists visits lengths))) m (row .2) in
-      let a-there = range-in 0 (length (lists visits lengths)) (row .0) (row .1) in
-      let b-there = range-in 0 (length (lists visits lengths)) (one .0) (one .1) in
-      let inside = in-pair fleet p m (row .0) (one .0) (one .2) in
-      let here = inside .1 in
-      let apart : m .one ≢ m .other = λ e. inside .0 (sym (here .is-one) ∙ e ∙ here .is-other) in
+      let inside = in-plan fleet (planOf visits lengths ids costs) m h in
+      let here = inside .5 in
+      let apart : m .one ≢ m .other = λ e. inside .4 (sym (here .is-one) ∙ e ∙ here .is-other) in
       record {
         laid = laid;
-        one-there = omega (arith, a-there .1, length-lists visits lengths, here .is-one);
-        other-there = omega (arith, b-there .1, length-lists visits lengths, here .is-other);
+        one-there = omega (arith, inside .2, length-lists visits lengths, here .is-one);
+        other-there = omega (arith, inside .3, length-lists visits lengths, here .is-other);
         apart = apart;
         ordered1 = here .ordered1;
-        within1 = rw (here .is-one) (rw (length-at (row .0)) at (here .within1));
+        within1 = rw (here .is-one) (rw (length-at (inside .0)) at (here .within1));
         ordered2 = here .ordered2;
-        within2 = rw (here .is-other) (rw (length-at (one .0)) at (here .within2));
+        within2 = rw (here .is-other) (rw (length-at (inside .1)) at (here .within2));
       }
 
 module _ (c : Columns) (demand : List ℤ) (fleet : Fleet) (visits lengths ids : List ℕ) (costs : List Float) (laid : Laid visits lengths) where

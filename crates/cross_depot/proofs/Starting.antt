@@ -8,8 +8,7 @@ use lib.ListN.{length, getD, set, take, drop, length-map, length-set, drop-of-le
 use lib.Seq.{take-all, drop-cons, set-at, getD-at, length-take-le, append-snoc}
 use lib.Ieee.{Float, nan}
 use Rattle.fleet.specs.Fleet.{Fleet}
-use Rattle.cross_depot.specs.CrossDepot.{startingCost}
-use Rattle.cross_depot.specs.Tables.{startingCosts}
+use Rattle.cross_depot.specs.CrossDepot.{startingCost, foundIds, startingCosts}
 
 -- ---- a column in the place of which another is written
 
@@ -94,3 +93,8 @@ module _ (fleet : Fleet) where
     pub costing-ends : (i : ℕ) → Costing ids prices now i → length ids ≤ i → now ≡ startingCosts fleet ids prices
     costing-ends i w h =
         sym (take-all i now (omega (arith, w .same-length))) ∙ w .now-is ∙ (λ t. startingCosts fleet (take-all i ids h t) (take-all i prices (omega arith) t))
+
+-- the costs are those of the ids found
+pub start-is : (fleet : Fleet) (ids ids′ : List ℕ) (prices costs : List Float) → ids′ ≡ foundIds fleet ids → costs ≡ startingCosts fleet ids′ prices
+    → (ids′ ≡ foundIds fleet ids) × (costs ≡ startingCosts fleet (foundIds fleet ids) prices)
+start-is fleet ids ids′ prices costs found is = (found, is ∙ ap (λ z. startingCosts fleet z prices) found)

@@ -4,6 +4,7 @@
 -- Every move exchanges a stretch of one list for a stretch of another: a relocation one visit for none, a swap one for one, a tail exchange the rest of the
 -- one for the rest of the other. So there is one `Move`, and one definition of the two lists that it makes.
 use mathlib.Core.Path.{_≡_}
+use mathlib.Core.Logic.{_⊎_}
 use mathlib.Core.Bool.{Bool, true, false, cond, not, _&&_, _||_}
 use mathlib.Core.List.{List, [], _∷_, _++_, map}
 use Prim.Native.Nat.{ℕ, zero, suc, _+_, _≤_, _<_}
@@ -25,7 +26,7 @@ use Rattle.evaluation.specs.Route.{eval, pricedDistance}
 use Rattle.evaluation.specs.declared.route.Evaluation.{Evaluation}
 use Rattle.evaluation.specs.declared.route.Evaluation.the-variants.{Fails, Passes}
 use Rattle.descent.specs.Order.{range, each}
-use Rattle.descent.specs.Search.{begins-again, Search, Judge, Sweep, Outcome, next, run}
+use Rattle.descent.specs.Search.{begins-again, Search, Judge, Sweep, Word, settled, Outcome, next, run}
 use Rattle.cross_depot.specs.Boxes.{boxesAt}
 use Rattle.fleet.specs.Fleet.{Fleet, fleetVehicle}
 use Rattle.cross_depot.specs.declared.price.Price.{Price}
@@ -44,6 +45,20 @@ pub record Plan : Type 0 where
 -- 01: 'Starting prices are lent, one a list and only read, in place of `total_distance` plus `lateness_cost`': `vehicle.route_cost(..)`, of an empty list too
 abbrev pub startingCost : Fleet → ℕ → Float → Float
 startingCost fleet id price = routeCost (fleetVehicle fleet id) price
+
+-- the id of the van that `fleet_vehicle` finds, for each list
+abbrev pub foundIds : Fleet → List ℕ → List ℕ
+foundIds fleet ids = map (λ id. fleetVehicle fleet id .id) ids
+
+-- what each list costs at the start, by its van and the price that is lent
+unfoldable pub startingCosts : Fleet → List ℕ → List Float → List Float
+startingCosts fleet [] prices = []
+startingCosts fleet (id ∷ ids) [] = []
+startingCosts fleet (id ∷ ids) (price ∷ prices) = startingCost fleet id price ∷ startingCosts fleet ids prices
+
+-- the plan that is lent: the lists, the ids of their vans, and their prices
+abbrev pub lentPlan : Fleet → List (List ℕ) → List ℕ → List Float → Plan
+lentPlan fleet ls ids prices = record { lists = ls; ids = foundIds fleet ids; costs = startingCosts fleet (foundIds fleet ids) prices }
 
 -- ---- what a list costs
 
@@ -111,10 +126,11 @@ cuts n1 n2 i = cond (eqb i n1) n2 (n2 + 1)
 unfoldable pub tailExchanges : ℕ → ℕ → ℕ → ℕ → List Move
 tailExchanges a b n1 n2 = each (range 0 (n1 + 1)) λ i. map (exchange true a b n1 n2 i) (range 0 (cuts n1 n2 i))
 
--- a move between list `one` and list `other`: the lists that it makes
+-- a move between list `one` and list `other`: what it makes of `one`
 abbrev pub first : List (List ℕ) → Move → List ℕ
 first ls m = replaced (at ls (m .one)) (m .from1) (m .to1) (slice (m .from2) (m .to2) (at ls (m .other)))
 
+-- and of `other`
 abbrev pub second : List (List ℕ) → Move → List ℕ
 second ls m = replaced (at ls (m .other)) (m .from2) (m .to2) (slice (m .from1) (m .to1) (at ls (m .one)))
 
@@ -210,3 +226,38 @@ module _ (c : Columns) (demand : List ℤ) (fleet : Fleet) where
   -- the run from a plan, with at most `limit` moves
   unfoldable pub runOf : ℕ → Plan → Outcome (Sweep Plan Unit)
   runOf limit p = run (next searchOf judgeOf) limit (record { now = p; ahead = [] })
+
+-- ---- what an entry answers
+
+-- what a run leaves: its word, its moves, the lists, and the id of the van of each
+pub record Ran : Type 0 where
+  pub word : Word
+  pub moves : ℕ
+  pub lists : List (List ℕ)
+  pub ids : List ℕ
+
+-- of a run of the search
+abbrev pub ranOf : Outcome (Sweep Plan Unit) → Ran
+ranOf outcome =
+    record { word = outcome .word; moves = outcome .moves; lists = outcome .last .now .lists; ids = outcome .last .now .ids }
+
+-- 01: 'With fewer than two lists, and for cross-depot with an empty fleet, lists return as given'
+unfoldable pub crossRan : Columns → List ℤ → Fleet → ℕ → List (List ℕ) → List ℕ → List Float → Ran
+crossRan c demand fleet limit ls ids prices =
+    cond (ltb (length ls) 2 || eqb (length (fleet .ids)) 0)
+    (record { word = settled; moves = 0; lists = ls; ids = ids })
+    (ranOf (runOf c demand fleet limit (lentPlan fleet ls ids prices)))
+
+-- ---- what every run keeps
+
+-- a list under the van of an id: its load is within the van's capacity or, as the list that a relocation leaves isn't tested for its load, it carries no
+-- more than a list did that was lent under the same van
+abbrev pub Carries : List ℤ → Fleet → List (List ℕ) → List ℕ → List ℕ → ℕ → Type 0
+Carries demand fleet lent lent-ids list id =
+    (total (boxesAt demand) list ≤ natAbs (fleetVehicle fleet id .capacity))
+    ⊎ ((j : ℕ) × (j < length lent) × (fleetVehicle fleet id ≡ fleetVehicle fleet (getD lent-ids j 0))
+    × (total (boxesAt demand) list ≤ total (boxesAt demand) (at lent j)))
+
+-- so each list handed back. Where all lists lent are within their vans' capacities, all handed back are
+abbrev pub Carried : List ℤ → Fleet → List (List ℕ) → List ℕ → List (List ℕ) → List ℕ → Type 0
+Carried demand fleet lent lent-ids back back-ids = (k : ℕ) → k < length back → Carries demand fleet lent lent-ids (at back k) (getD back-ids k 0)

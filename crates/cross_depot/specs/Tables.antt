@@ -2,7 +2,7 @@
 use mathlib.Core.Path.{_≡_}
 use mathlib.Core.Logic.{_≢_}
 use mathlib.Core.Bool.{true}
-use mathlib.Core.List.{List, [], _∷_, _++_, map}
+use mathlib.Core.List.{List, [], _∷_, _++_}
 use Prim.Native.Nat.{ℕ, zero, suc, _-_, _≤_, _<_}
 use lib.IntN.{ℤ}
 use lib.ListN.{length, getD, take, drop, replicate}
@@ -10,10 +10,10 @@ use lib.Ieee.{Float}
 use Rattle.edits.specs.Total.{SameVisits}
 use Rattle.lists.specs.Table.{Laid, flat, lengthsOf}
 use Rattle.evaluation.specs.Columns.{Columns}
-use Rattle.descent.specs.Search.{Sweep, Outcome, taken}
+use Rattle.descent.specs.Search.{taken}
 use Rattle.engine.specs.Engine.{endedAs}
-use Rattle.fleet.specs.Fleet.{Fleet, fleetVehicle}
-use Rattle.cross_depot.specs.CrossDepot.{Plan, ofFilled, afterMove, moved, startingCost, searchOf, judgeOf}
+use Rattle.fleet.specs.Fleet.{Fleet}
+use Rattle.cross_depot.specs.CrossDepot.{Plan, Ran, ofFilled, afterMove, moved, searchOf, judgeOf}
 use Rattle.cross_depot.specs.Scan.{planOf, moveOf}
 use Rattle.cross_depot.specs.declared.pair.Move.{Move}
 use Rattle.cross_depot.specs.declared.search.Choice.{Choice}
@@ -67,28 +67,12 @@ pub record Chosen (c : Columns) (demand : List ℤ) (fleet : Fleet) (visits leng
   pub leads : r .found ≡ true
       → afterMove (planOf visits lengths ids costs) (r .chosen) (r .cost1) (r .cost2) ≡ moved c demand fleet (planOf visits lengths ids costs) (r .chosen)
 
--- 01: 'Dropped places leave length 0, and vehicle id 0, at the end': the tables, of `number` lists, hold the plan's lists, and behind them nothing
-pub record Handed (p : Plan) (number : ℕ) (visits lengths ids : List ℕ) : Type 0 where
-  pub visits-are : visits ≡ flat (p .lists)
-  pub lengths-are : lengths ≡ lengthsOf (p .lists) ++ replicate (number - length (p .lists)) 0
-  pub ids-are : ids ≡ p .ids ++ replicate (number - length (p .lists)) 0
+-- 01: 'Dropped places leave length 0, and vehicle id 0, at the end': the tables, of `number` lists, hold the lists handed back, and behind them nothing
+pub record Handed (back : List (List ℕ)) (back-ids : List ℕ) (number : ℕ) (visits lengths ids : List ℕ) : Type 0 where
+  pub visits-are : visits ≡ flat back
+  pub lengths-are : lengths ≡ lengthsOf back ++ replicate (number - length back) 0
+  pub ids-are : ids ≡ back-ids ++ replicate (number - length back) 0
 
 -- 01: 'An engine answers `settled` or `stopped`, the moves made'; 'the answer says how many lists remain'
-abbrev pub crossedAs : Outcome (Sweep Plan Unit) → Crossed
-crossedAs run = record { ended = endedAs (run .word) (run .moves); lists = length (run .last .now .lists) }
-
--- ---- the start
-
--- the id of the van that `fleet_vehicle` finds, for each list
-abbrev pub foundIds : Fleet → List ℕ → List ℕ
-foundIds fleet ids = map (λ id. fleetVehicle fleet id .id) ids
-
--- what each list costs at the start, by its van and the price that is lent
-unfoldable pub startingCosts : Fleet → List ℕ → List Float → List Float
-startingCosts fleet [] prices = []
-startingCosts fleet (id ∷ ids) [] = []
-startingCosts fleet (id ∷ ids) (price ∷ prices) = startingCost fleet id price ∷ startingCosts fleet ids prices
-
--- the plan that is lent
-abbrev pub lentPlan : Fleet → List ℕ → List ℕ → List ℕ → List Float → Plan
-lentPlan fleet visits lengths ids prices = planOf visits lengths (foundIds fleet ids) (startingCosts fleet (foundIds fleet ids) prices)
+abbrev pub crossedOf : Ran → Crossed
+crossedOf ran = record { ended = endedAs (ran .word) (ran .moves); lists = length (ran .lists) }

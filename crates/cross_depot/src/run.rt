@@ -4,21 +4,22 @@ use crate::change::make_move;
 use crate::pair::Move;
 use crate::search::Choice;
 use crate::search::best_move;
+use crate::start::start;
 use day::matrix::scale;
 use engine::Ended;
-use fleet::vehicle::fleet_vehicle;
 use numbers::gain_floor;
+use tests::either;
 ghost use mathlib.Core.Path.{_≡_};
-ghost use mathlib.Core.List.{map};
-ghost use Prim.Native.Nat.{_≤_, _<_};
 ghost use lib.ListN.{length};
 ghost use Rattle.numbers.specs.Floor.{gainFloor};
 ghost use Rattle.day.specs.Matrix.{scaleOf};
+ghost use Rattle.edits.specs.Total.{SameVisits};
+ghost use Rattle.lists.specs.Table.{lists};
 ghost use Rattle.evaluation.specs.Columns.{columnsAt};
-ghost use Rattle.fleet.specs.Fleet.{fleetAt, Fitted, Manned};
-ghost use Rattle.cross_depot.specs.CrossDepot.{runOf};
+ghost use Rattle.fleet.specs.Fleet.{fleetAt, Crewed, Manned};
+ghost use Rattle.cross_depot.specs.CrossDepot.{lentPlan, runOf, ranOf, crossRan, Carried};
 ghost use Rattle.cross_depot.specs.Scan.{Asked, Held, planOf, nothing};
-ghost use Rattle.cross_depot.specs.Tables.{Chosen, Handed, crossedAs, foundIds, startingCosts, lentPlan};
+ghost use Rattle.cross_depot.specs.Tables.{Chosen, Handed, crossedOf};
 
 // How a run ended, and how many lists remain.
 pub struct Crossed {
@@ -77,7 +78,8 @@ fn next_move(
     costs: &[f64],
 ) -> Choice
     requires { ⌜ Asked (columnsAt l flags service ready due penalty distances times) (now demand) × (floor ≡ gainFloor (scaleOf (now distances))) ⌝ }
-    requires { ⌜ Manned l (fleetAt «van_ids» depots capacities «distance_costs» «fixed_costs» «van_flags» «max_distances» «max_durations» earliest latest durations) ⌝ }
+    requires { ⌜ Manned l (fleetAt «van_ids» depots capacities «distance_costs» «fixed_costs» «van_flags» «max_distances» «max_durations»
+        earliest latest durations) ⌝ }
     requires { ⌜ Held l (now visits) (now lengths) × (length (now ids) ≡ length (now lengths)) × (length (now costs) ≡ length (now lengths)) ⌝ }
     ensures { λ r.
         ⌜ Chosen
@@ -146,16 +148,19 @@ fn descend(
     limit: u32,
 ) -> Crossed
     requires { ⌜ Asked (columnsAt l flags service ready due penalty distances times) (now demand) × (floor ≡ gainFloor (scaleOf (now distances))) ⌝ }
-    requires { ⌜ Manned l (fleetAt «van_ids» depots capacities «distance_costs» «fixed_costs» «van_flags» «max_distances» «max_durations» earliest latest durations) ⌝ }
+    requires { ⌜ Manned l (fleetAt «van_ids» depots capacities «distance_costs» «fixed_costs» «van_flags» «max_distances» «max_durations»
+        earliest latest durations) ⌝ }
     requires { ⌜ Held l (now visits) (now lengths) × (length (now ids) ≡ length (now lengths)) × (length (now costs) ≡ length (now lengths)) ⌝ }
     ensures { λ r.
-        ⌜ (let run = runOf
+        ⌜ (let ran = ranOf (runOf
         (columnsAt l (flags .entry) (service .entry) (ready .entry) (due .entry) (penalty .entry) (distances .entry) (times .entry))
         (now (demand .entry))
         (fleetAt («van_ids» .entry) (depots .entry) (capacities .entry) («distance_costs» .entry) («fixed_costs» .entry) («van_flags» .entry)
         («max_distances» .entry) («max_durations» .entry) (earliest .entry) (latest .entry) (durations .entry))
-        limit (planOf (now (visits .entry)) (now (lengths .entry)) (now (ids .entry)) (now (costs .entry)))
-        in (r ≡ crossedAs run) × Handed (run .last .now) (length (now (lengths .entry))) (now (visits .exit)) (now (lengths .exit)) (now (ids .exit))) ⌝ }
+        limit (planOf (now (visits .entry)) (now (lengths .entry)) (now (ids .entry)) (now (costs .entry))))
+        in (r ≡ crossedOf ran)
+        × Handed (ran .lists) (ran .ids) (length (now (lengths .entry))) (now (visits .exit)) (now (lengths .exit)) (now (ids .exit))
+        × SameVisits (now (visits .entry)) (now (visits .exit))) ⌝ }
 {
     let mut n = lengths.len();
     let mut moves = 0;
@@ -210,4 +215,178 @@ fn descend(
         );
         moves += 1;
     }
+}
+
+// A run from the lists and prices that are lent, with an entry of `costs` for each list.
+fn descend_from(
+    l: usize,
+    flags: &[u8],
+    demand: &[i32],
+    service: &[f64],
+    ready: &[f64],
+    due: &[f64],
+    penalty: &[f64],
+    distances: &[f64],
+    times: &[f64],
+    van_ids: &[u32],
+    depots: &[usize],
+    capacities: &[i32],
+    distance_costs: &[f64],
+    fixed_costs: &[f64],
+    van_flags: &[u8],
+    max_distances: &[f64],
+    max_durations: &[f64],
+    earliest: &[f64],
+    latest: &[f64],
+    durations: &[f64],
+    visits: &mut [u16],
+    lengths: &mut [u16],
+    ids: &mut [u32],
+    prices: &[f64],
+    costs: &mut [f64],
+    limit: u32,
+) -> Crossed
+    requires { ⌜ Asked (columnsAt l flags service ready due penalty distances times) (now demand) ⌝ }
+    requires { ⌜ Manned l (fleetAt «van_ids» depots capacities «distance_costs» «fixed_costs» «van_flags» «max_distances» «max_durations»
+        earliest latest durations) ⌝ }
+    requires { ⌜ Held l (now visits) (now lengths) × (length (now ids) ≡ length (now lengths)) × (length (now prices) ≡ length (now lengths)) ⌝ }
+    requires { ⌜ length (now costs) ≡ length (now lengths) ⌝ }
+    ensures { λ r.
+        ⌜ (let fleet = fleetAt («van_ids» .entry) (depots .entry) (capacities .entry) («distance_costs» .entry) («fixed_costs» .entry)
+        («van_flags» .entry) («max_distances» .entry) («max_durations» .entry) (earliest .entry) (latest .entry) (durations .entry)
+        in let lent = lentPlan fleet (lists (now (visits .entry)) (now (lengths .entry))) (now (ids .entry)) (now (prices .entry))
+        in let ran = ranOf (runOf
+        (columnsAt l (flags .entry) (service .entry) (ready .entry) (due .entry) (penalty .entry) (distances .entry) (times .entry))
+        (now (demand .entry)) fleet limit lent)
+        in (r ≡ crossedOf ran)
+        × Handed (ran .lists) (ran .ids) (length (now (lengths .entry))) (now (visits .exit)) (now (lengths .exit)) (now (ids .exit))
+        × SameVisits (now (visits .entry)) (now (visits .exit))) ⌝ }
+{
+    start(
+        van_ids,
+        depots,
+        capacities,
+        distance_costs,
+        fixed_costs,
+        van_flags,
+        max_distances,
+        max_durations,
+        earliest,
+        latest,
+        durations,
+        ids,
+        prices,
+        costs,
+    );
+    descend(
+        l,
+        flags,
+        demand,
+        service,
+        ready,
+        due,
+        penalty,
+        distances,
+        times,
+        van_ids,
+        depots,
+        capacities,
+        distance_costs,
+        fixed_costs,
+        van_flags,
+        max_distances,
+        max_durations,
+        earliest,
+        latest,
+        durations,
+        gain_floor(scale(distances)),
+        visits,
+        lengths,
+        ids,
+        costs,
+        limit,
+    )
+}
+
+// Moves visits between lists of different depots, from the prices that are lent on, by at most `limit` moves; fewer than two lists, or lists without a van,
+// stay as they are.
+pub fn improve(
+    l: usize,
+    flags: &[u8],
+    demand: &[i32],
+    service: &[f64],
+    ready: &[f64],
+    due: &[f64],
+    penalty: &[f64],
+    distances: &[f64],
+    times: &[f64],
+    van_ids: &[u32],
+    depots: &[usize],
+    capacities: &[i32],
+    distance_costs: &[f64],
+    fixed_costs: &[f64],
+    van_flags: &[u8],
+    max_distances: &[f64],
+    max_durations: &[f64],
+    earliest: &[f64],
+    latest: &[f64],
+    durations: &[f64],
+    visits: &mut [u16],
+    lengths: &mut [u16],
+    ids: &mut [u32],
+    prices: &[f64],
+    limit: u32,
+) -> Crossed
+    requires { ⌜ Asked (columnsAt l flags service ready due penalty distances times) (now demand) ⌝ }
+    requires { ⌜ Crewed l (fleetAt «van_ids» depots capacities «distance_costs» «fixed_costs» «van_flags» «max_distances» «max_durations»
+        earliest latest durations) ⌝ }
+    requires { ⌜ Held l (now visits) (now lengths) × (length (now ids) ≡ length (now lengths)) × (length (now prices) ≡ length (now lengths)) ⌝ }
+    ensures { λ r.
+        ⌜ (let fleet = fleetAt («van_ids» .entry) (depots .entry) (capacities .entry) («distance_costs» .entry) («fixed_costs» .entry)
+        («van_flags» .entry) («max_distances» .entry) («max_durations» .entry) (earliest .entry) (latest .entry) (durations .entry)
+        in let lent = lists (now (visits .entry)) (now (lengths .entry))
+        in let ran = crossRan
+        (columnsAt l (flags .entry) (service .entry) (ready .entry) (due .entry) (penalty .entry) (distances .entry) (times .entry))
+        (now (demand .entry)) fleet limit lent (now (ids .entry)) (now (prices .entry))
+        in (r ≡ crossedOf ran)
+        × Handed (ran .lists) (ran .ids) (length (now (lengths .entry))) (now (visits .exit)) (now (lengths .exit)) (now (ids .exit))
+        × SameVisits (now (visits .entry)) (now (visits .exit))
+        × Carried (now (demand .entry)) fleet lent (now (ids .entry)) (ran .lists) (ran .ids)) ⌝ }
+{
+    let n = lengths.len();
+    if either(n < 2, van_ids.len() == 0) {
+        return Crossed {
+            ended: Ended::Settled(0),
+            lists: n,
+        };
+    }
+    let mut costs = [0.0; 16];
+    descend_from(
+        l,
+        flags,
+        demand,
+        service,
+        ready,
+        due,
+        penalty,
+        distances,
+        times,
+        van_ids,
+        depots,
+        capacities,
+        distance_costs,
+        fixed_costs,
+        van_flags,
+        max_distances,
+        max_durations,
+        earliest,
+        latest,
+        durations,
+        visits,
+        lengths,
+        ids,
+        prices,
+        &mut costs[0..n],
+        limit,
+    )
 }

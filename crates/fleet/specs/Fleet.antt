@@ -93,9 +93,13 @@ pub record Driven (l : ℕ) (van : Van) : Type 0 where
   pub depot-there : van .depot < l
   pub capacity : leZ (pos 0) (van .capacity) ≡ true
 
--- a fleet of 1 to 16 such vans
-pub record Manned (l : ℕ) (f : Fleet) : Type 0 where
+-- a fleet of at most 16 such vans
+pub record Crewed (l : ℕ) (f : Fleet) : Type 0 where
   pub fitted : Fitted f
-  pub some-van : 0 < length (f .ids)
   pub few : length (f .ids) ≤ 16
   pub driven : (k : ℕ) → k < length (f .ids) → Driven l (vanAt f k)
+
+-- and of one at least
+pub record Manned (l : ℕ) (f : Fleet) : Type 0 where
+  pub crewed : Crewed l f
+  pub some-van : 0 < length (f .ids)

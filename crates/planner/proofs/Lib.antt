@@ -1,3 +1,4 @@
 pub mod Improving
 pub mod Claiming
 pub mod Rearranging
+pub mod Crossing

@@ -128,13 +128,23 @@ module _ (engine : Over) (d : Day) (van : Van) (visits lengths : List ℕ) (limi
       )
 
 -- what an answer reports, and the lists that it hands back
-reports-over : (w : Word) (moves remaining : ℕ)
+pub reports-over : (w : Word) (moves remaining : ℕ)
     → (reportedOver (rearrangedAs w moves remaining) ≡ some (record { word = w; moves = moves })) × (remainingIn (rearrangedAs w moves remaining) ≡ remaining)
 unfolding rearrangedAs
 reports-over settled moves remaining = (refl, refl)
 reports-over stopped moves remaining = (refl, refl)
 
 -- ---- what the engines ask
+
+-- a van that isn't refused has a capacity in range
+capacity-of : (van : Van) → vanOk van ≡ true → capacityOk (van .capacity) ≡ true
+unfolding vanOk
+capacity-of van fine = and-first (capacityOk (van .capacity)) _ fine
+
+-- not below 0
+pub capacity-above : (van : Van) → vanOk van ≡ true → leZ (pos 0) (van .capacity) ≡ true
+unfolding capacityOk
+capacity-above van fine = and-first (leZ (pos 0) (van .capacity)) _ (capacity-of van fine)
 
 module _ (d : Day) (van : Van) (visits lengths : List ℕ) (f : FineLists d van visits lengths) where
   pub loaded : Loaded (d .l) (d .demand)
@@ -144,12 +154,10 @@ module _ (d : Day) (van : Van) (visits lengths : List ℕ) (f : FineLists d van 
   held = held-of _ (d .l) visits lengths (omega (arith, f .van-fine .depot, f .day .shaped .few)) (f .table)
 
   pub capacity-fine : capacityOk (van .capacity) ≡ true
-  unfolding vanOk
-  capacity-fine = and-first (capacityOk (van .capacity)) _ (f .van-fine .van)
+  capacity-fine = capacity-of van (f .van-fine .van)
 
   pub capacity-there : leZ (pos 0) (van .capacity) ≡ true
-  unfolding capacityOk
-  capacity-there = and-first (leZ (pos 0) (van .capacity)) _ capacity-fine
+  capacity-there = capacity-above van (f .van-fine .van)
 
   pub over-map : WholeDay d van → WholeMap (mapFor d van)
   over-map whole = record {

@@ -68,6 +68,7 @@ rearrangeLengths engine d van visits lengths limit =
 
 -- ---- the dropping, on the table of lengths alone
 
+-- 'empty lists dropped in order. With fewer than two lists [..] lists return as given'
 unfoldable pub lengthsLeft : List ℕ → List ℕ
 lengthsLeft lengths = cond (ltb (length lengths) 2) lengths (packed lengths)
 

@@ -4,19 +4,23 @@ use native.Mathlib.Omega.{arith}
 use native.Mathlib.Nat.{lt-of-lt-of-le}
 use mathlib.Core.Path.{_≡_}
 use mathlib.Core.List.{List}
+use mathlib.Core.Bool.{true}
+use lib.Ieee.{Float}
 use lib.ListN.{length, getD, drop, length-take, length-drop}
 use lib.Seq.{getD-take, getD-drop}
 use Rattle.tests.specs.All.{firstOf, first-zero}
 use Rattle.day.specs.Day.{Day}
 use Rattle.day.specs.Matrix.{Square}
 use Rattle.day.specs.Customer.{numDepots}
-use Rattle.day.specs.Refusal.{dayRefusal, vanRefusal}
+use Rattle.day.specs.Refusal.{allPlain, dayRefusal, vanRefusal}
 use Rattle.day.specs.Fine.{DayFine, VanFine, day-fine, van-fine}
 use Rattle.day.specs.declared.vehicle.Van.{Van}
 use Rattle.lists.specs.Refused.{tableRefusal, listsRefusal, TableFine, ListsFine}
 use Rattle.lists.specs.Table.{Laid, startOf, listOf}
 use Rattle.lists.proofs.Tables.{length-list, list-within}
 use Rattle.lists.proofs.Fine.{table-fine, lists-fine}
+use Rattle.fleet.specs.Fleet.{Fleet}
+use Rattle.fleet.specs.Refusal.{fleetRefusal, pricesRefusal, FleetFine, fleet-fine, prices-fine}
 use Rattle.evaluation.specs.Columns.{Formed, Visits, columnsOf, formed}
 
 -- 01, 'Refused, by place': 'The order is by number': the first of 1 to 10 that an input meets, and 0 where it meets none, of an entry that asks for a list
@@ -33,6 +37,13 @@ unfoldable pub refusalOfLists : Day → Van → List ℕ → List ℕ → ℕ
 refusalOfLists d van visits lengths =
     firstOf (dayRefusal d) (firstOf (vanRefusal (d .flags) van) (tableRefusal (numDepots (d .flags)) (d .l) visits lengths))
 
+-- of cross-depot, which takes a fleet: 'The order is by number, except that cross-depot tests 11 before 6. It tests every van for 6, then every van for 7'
+unfoldable pub refusalOfFleet : Day → Fleet → List ℕ → List ℕ → List ℕ → List Float → ℕ
+refusalOfFleet d fleet visits lengths ids prices =
+    firstOf (dayRefusal d)
+    (firstOf (fleetRefusal (d .flags) fleet (length lengths) ids prices)
+    (firstOf (tableRefusal (numDepots (d .flags)) (d .l) visits lengths) (pricesRefusal prices)))
+
 -- what an input that is not refused tells, of an entry that asks for no list
 pub record FineLists (d : Day) (van : Van) (visits lengths : List ℕ) : Type 0 where
   pub day : DayFine d
@@ -46,6 +57,13 @@ pub record Fine (d : Day) (van : Van) (visits lengths : List ℕ) (list : ℕ) :
   pub van-fine : VanFine (d .flags) van
   pub depot : van .depot < d .l
   pub lists : ListsFine (numDepots (d .flags)) (d .l) visits lengths list
+
+-- and of cross-depot
+pub record FineFleet (d : Day) (fleet : Fleet) (visits lengths ids : List ℕ) (prices : List Float) : Type 0 where
+  pub day : DayFine d
+  pub vans : FleetFine (d .flags) fleet (length lengths) ids prices
+  pub table : TableFine (numDepots (d .flags)) (d .l) visits lengths
+  pub plain : allPlain prices ≡ true
 
 -- ---- laws
 
@@ -64,6 +82,7 @@ fine d van visits lengths list h =
       lists = lists-fine _ _ visits lengths list (of-van .1);
     }
 
+-- the same of an entry that asks for no list
 pub fine-lists : (d : Day) (van : Van) (visits lengths : List ℕ) → refusalOfLists d van visits lengths ≡ 0 → FineLists d van visits lengths
 unfolding refusalOfLists
 fine-lists d van visits lengths h =
@@ -76,6 +95,21 @@ fine-lists d van visits lengths h =
       van-fine = v-fine;
       depot = lt-of-lt-of-le (v-fine .depot) (d-fine .depots);
       table = table-fine _ _ visits lengths (of-van .1);
+    }
+
+-- the same of cross-depot
+pub fine-fleet : (d : Day) (fleet : Fleet) (visits lengths ids : List ℕ) (prices : List Float) → refusalOfFleet d fleet visits lengths ids prices ≡ 0
+    → FineFleet d fleet visits lengths ids prices
+unfolding refusalOfFleet
+fine-fleet d fleet visits lengths ids prices h =
+    let of-day = first-zero _ _ h in
+    let of-fleet = first-zero _ _ (of-day .1) in
+    let of-table = first-zero _ _ (of-fleet .1) in
+    record {
+      day = day-fine d (of-day .0);
+      vans = fleet-fine _ fleet _ ids prices (of-fleet .0);
+      table = table-fine _ _ visits lengths (of-table .0);
+      plain = prices-fine prices (of-table .1);
     }
 
 -- the list asked for has at most 63 visits, each a location

@@ -5,4 +5,5 @@ pub mod list; // the list asked for, as the caller's own part
 pub mod check; // the distance, the check, the evaluation and the schedule of a list
 pub mod improve; // 2-opt, Or-opt and 3-opt of a list
 pub mod rearrange; // relocate and tail exchange over all lists
+pub mod depots; // moves between lists under different vans
 pub mod table; // what the searches work out before the first move

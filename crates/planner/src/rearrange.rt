@@ -1,5 +1,5 @@
-// The entries across lists, which change all lists in place: relocate and tail exchange. Each contract says, in this order: what is answered; what the two tables hold
-// then; that they hold the same visits as before, whatever the numbers; and, where demand 3's premises hold, its claim about this run.
+// The entries across lists, which change all lists in place: relocate and tail exchange. Each contract says, in this order: what is answered; what the
+// two tables hold then; that they hold the same visits as before, whatever the numbers; and, where demand 3's premises hold, its claim about this run.
 use crate::refusal::refusal_of_lists;
 use day::vehicle::RouteLimits;
 use day::vehicle::Van;
@@ -36,7 +36,8 @@ fn drop_lists(lengths: &mut [u16]) -> usize
     drop_empty(lengths)
 }
 
-fn rearranged_of(ended: Ended, remaining: usize) -> Rearranged
+// What is answered where a run ended so, and so many lists remain.
+pub fn rearranged_of(ended: Ended, remaining: usize) -> Rearranged
     ensures { λ r. ⌜ r ≡ rearrangedOf ended remaining ⌝ }
 {
     match ended {

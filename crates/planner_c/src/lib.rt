@@ -2,6 +2,7 @@
 // entry of crate `planner`, answers the refusal's number or 0, and writes the values of the answer's case. Where it refuses, it writes nothing.
 pub mod improve; // 2-opt, Or-opt and 3-opt of a list
 pub mod rearrange; // engines over all lists
+pub mod depots; // the engine over all lists and a fleet
 
 use day::vehicle::Van;
 use evaluation::label::Taken;
@@ -12,14 +13,15 @@ use planner::check::Timetable;
 use planner::table::Table;
 ghost use mathlib.Core.Path.{_≡_};
 ghost use Rattle.day.specs.Day.{dayAt};
-ghost use Rattle.planner.specs.Refusal.{refusal};
+ghost use Rattle.fleet.specs.Fleet.{fleetAt};
+ghost use Rattle.planner.specs.Refusal.{refusal, refusalOfLists, refusalOfFleet};
 ghost use Rattle.planner.specs.Answer.{tableAnswer, distanceAnswer, feasibleAnswer, evalAnswer, scheduleAnswer};
 ghost use Rattle.planner_c.specs.Written.{distanceCode, distanceIn, feasibleCode, passesIn, evalCode, evalPasses, evalIn};
 ghost use Rattle.planner_c.specs.Written.{scheduleCode, foundIn, scheduleIn, takenIn, positionIn, startIn};
 ghost use Rattle.planner_c.specs.Written.{distanceOf, durationOf, latenessOf, latenessCostOf, takenCode, takenPosition, takenStart};
 ghost use Rattle.planner_c.specs.Written.{tableCode, scaleIn, floorIn, bitOf, symmetricIn, fixedIn, depotsIn};
 
-// The number of the first refusal, 0 where there is none.
+// The number of the first refusal of a call that asks for a list, 0 where there is none.
 #[no_mangle]
 pub extern "C" fn planner_refusal(
     l: usize,
@@ -55,6 +57,106 @@ pub extern "C" fn planner_refusal(
         visits,
         lengths,
         list,
+    )
+}
+
+// The same of a call that takes all lists and asks for none.
+#[no_mangle]
+pub extern "C" fn planner_refusal_of_lists(
+    l: usize,
+    flags: &[u8],
+    demand: &[i32],
+    service: &[f64],
+    ready: &[f64],
+    due: &[f64],
+    penalty: &[f64],
+    distances: &[f64],
+    times: &[f64],
+    van: Van,
+    visits: &[u16],
+    lengths: &[u16],
+) -> u8
+    ensures { λ r.
+        ⌜ r ≡ refusalOfLists
+        (dayAt l (flags .entry) (demand .entry) (service .entry) (ready .entry) (due .entry) (penalty .entry) (distances .entry) (times .entry)) van
+        (now (visits .entry)) (now (lengths .entry)) ⌝ }
+{
+    planner::refusal::refusal_of_lists(
+        l,
+        flags,
+        demand,
+        service,
+        ready,
+        due,
+        penalty,
+        distances,
+        times,
+        van,
+        visits,
+        lengths,
+    )
+}
+
+// The same of a call that takes all lists and a fleet.
+#[no_mangle]
+pub extern "C" fn planner_refusal_of_fleet(
+    l: usize,
+    flags: &[u8],
+    demand: &[i32],
+    service: &[f64],
+    ready: &[f64],
+    due: &[f64],
+    penalty: &[f64],
+    distances: &[f64],
+    times: &[f64],
+    van_ids: &[u32],
+    depots: &[usize],
+    capacities: &[i32],
+    distance_costs: &[f64],
+    fixed_costs: &[f64],
+    van_flags: &[u8],
+    max_distances: &[f64],
+    max_durations: &[f64],
+    earliest: &[f64],
+    latest: &[f64],
+    durations: &[f64],
+    visits: &[u16],
+    lengths: &[u16],
+    ids: &[u32],
+    prices: &[f64],
+) -> u8
+    ensures { λ r.
+        ⌜ r ≡ refusalOfFleet
+        (dayAt l (flags .entry) (demand .entry) (service .entry) (ready .entry) (due .entry) (penalty .entry) (distances .entry) (times .entry))
+        (fleetAt («van_ids» .entry) (depots .entry) (capacities .entry) («distance_costs» .entry) («fixed_costs» .entry) («van_flags» .entry)
+        («max_distances» .entry) («max_durations» .entry) (earliest .entry) (latest .entry) (durations .entry)) (now (visits .entry))
+        (now (lengths .entry)) (now (ids .entry)) (now (prices .entry)) ⌝ }
+{
+    planner::refusal::refusal_of_fleet(
+        l,
+        flags,
+        demand,
+        service,
+        ready,
+        due,
+        penalty,
+        distances,
+        times,
+        van_ids,
+        depots,
+        capacities,
+        distance_costs,
+        fixed_costs,
+        van_flags,
+        max_distances,
+        max_durations,
+        earliest,
+        latest,
+        durations,
+        visits,
+        lengths,
+        ids,
+        prices,
     )
 }
 

@@ -15,7 +15,7 @@ ghost use Rattle.planner.specs.Demand3.{Claimed, reportedOver, remainingIn};
 ghost use Rattle.planner_c.specs.Written.{rearrangeCode, overSettledIn, overMovesIn, remainingWritten};
 
 // Writes how a run ended, if it was not refused.
-fn write_rearranged(
+pub fn write_rearranged(
     answer: Rearranged,
     settled: &mut u8,
     moves: &mut u32,

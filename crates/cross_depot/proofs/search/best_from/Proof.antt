@@ -39,9 +39,9 @@ pair-at-requires : tie.Need-pair-at-requires Inv-loop μ-loop
 pair-at-requires c κs =
     let further = c .before .before .before .before .before .before .before .before .before .before .before .before .before .before .before .before .before .before .before .before in
     let start = further .before .before .before in (
-      start .pre .1 .0 .fitted,
+      start .pre .1 .0 .crewed .fitted,
       (
-        (start .pre .1 .0 .some-van, start .pre .1 .0 .few),
+        (start .pre .1 .0 .some-van, start .pre .1 .0 .crewed .few),
         (
           omega (arith, start .pre .1 .1 .1, start .pre .1 .1 .0 .1),
           omega (arith, c .loop-test .taken, start .pre .1 .1 .0 .1),

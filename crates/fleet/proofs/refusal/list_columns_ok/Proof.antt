@@ -1,0 +1,15 @@
+-- `list_columns_ok`: the callees join the definition's tests.
+use borrow.Author.Needs.{needs}
+use Rattle.fleet.specs.Refusal.{listColumnsOk}
+use Rattle.fleet.proofs.refusal.list_columns_ok.Statement.{statement}
+use Rattle.fleet.proofs.refusal.list_columns_ok.Tie as tie
+
+both-requires : tie.Need-both-requires
+both-requires c κs = search needs
+
+returns : tie.Need-returns
+unfolding listColumnsOk
+returns c = cc
+
+pub list-columns-ok-spec : {M : Type 1} → statement M
+list-columns-ok-spec = tie.close (tie.spec both-requires returns)

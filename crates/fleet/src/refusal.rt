@@ -1,0 +1,257 @@
+// Refusals 11 and 12 of document 01, and 6 and 7 of every van of a fleet: 11 first, then every van for 6, then every van for 7.
+use crate::vehicle::van_at;
+use day::customer::num_depots;
+use day::refusal::van_refusal;
+use numbers::is_plain;
+use tests::both;
+use tests::refuse_unless;
+ghost use mathlib.Core.Path.{_≡_};
+ghost use mathlib.Core.Bool.{true};
+ghost use Prim.Native.Nat.{_≤_};
+ghost use lib.ListN.{length, getD};
+ghost use Rattle.tests.specs.All.{allBelow};
+ghost use Rattle.day.specs.Refusal.{isDepot, allPlain};
+ghost use Rattle.fleet.specs.Fleet.{fleetAt, Fitted};
+ghost use Rattle.fleet.specs.Refusal.{costColumnsOk, limitColumnsOk, listColumnsOk, fleetOk, depotsOk, vansOk, fleetRefusal, pricesRefusal};
+
+// 11, of the columns that every van uses.
+fn cost_columns_ok(
+    n: usize,
+    depots: &[usize],
+    capacities: &[i32],
+    distance_costs: &[f64],
+    fixed_costs: &[f64],
+    flags: &[u8],
+) -> bool
+    ensures { λ r.
+        ⌜ r ≡ costColumnsOk n (now (depots .entry)) (now (capacities .entry)) (now («distance_costs» .entry)) (now («fixed_costs» .entry))
+        (now (flags .entry)) ⌝ }
+{
+    both(
+        depots.len() == n,
+        both(
+            capacities.len() == n,
+            both(
+                distance_costs.len() == n,
+                both(fixed_costs.len() == n, flags.len() == n),
+            ),
+        ),
+    )
+}
+
+// 11, of the columns of the limits and the break.
+fn limit_columns_ok(
+    n: usize,
+    max_distances: &[f64],
+    max_durations: &[f64],
+    earliest: &[f64],
+    latest: &[f64],
+    durations: &[f64],
+) -> bool
+    ensures { λ r.
+        ⌜ r ≡ limitColumnsOk n (now («max_distances» .entry)) (now («max_durations» .entry)) (now (earliest .entry)) (now (latest .entry))
+        (now (durations .entry)) ⌝ }
+{
+    both(
+        max_distances.len() == n,
+        both(
+            max_durations.len() == n,
+            both(
+                earliest.len() == n,
+                both(latest.len() == n, durations.len() == n),
+            ),
+        ),
+    )
+}
+
+// 11, of the lists' columns.
+fn list_columns_ok(number: usize, ids: &[u32], prices: &[f64]) -> bool
+    ensures { λ r. ⌜ r ≡ listColumnsOk number (now (ids .entry)) (now (prices .entry)) ⌝ }
+{
+    both(ids.len() == number, prices.len() == number)
+}
+
+// 11
+fn fleet_ok(
+    van_ids: &[u32],
+    depots: &[usize],
+    capacities: &[i32],
+    distance_costs: &[f64],
+    fixed_costs: &[f64],
+    van_flags: &[u8],
+    max_distances: &[f64],
+    max_durations: &[f64],
+    earliest: &[f64],
+    latest: &[f64],
+    durations: &[f64],
+    number: usize,
+    ids: &[u32],
+    prices: &[f64],
+) -> bool
+    ensures { λ r.
+        ⌜ r ≡ fleetOk
+        (fleetAt («van_ids» .entry) (depots .entry) (capacities .entry) («distance_costs» .entry) («fixed_costs» .entry) («van_flags» .entry)
+        («max_distances» .entry) («max_durations» .entry) (earliest .entry) (latest .entry) (durations .entry)) number (now (ids .entry))
+        (now (prices .entry)) ⌝ }
+{
+    let n = van_ids.len();
+    let costs = cost_columns_ok(
+        n,
+        depots,
+        capacities,
+        distance_costs,
+        fixed_costs,
+        van_flags,
+    );
+    let limits = limit_columns_ok(n, max_distances, max_durations, earliest, latest, durations);
+    let of_lists = list_columns_ok(number, ids, prices);
+    both(n <= 16, both(both(costs, limits), of_lists))
+}
+
+// 6, of every van.
+fn depots_ok(flags: &[u8], depots: &[usize]) -> bool
+    requires { ⌜ length (now depots) ≤ 16 ⌝ }
+    ensures { λ r. ⌜ r ≡ allBelow (λ k. isDepot (now (flags .entry)) (getD (now (depots .entry)) k 0)) (length (now (depots .entry))) ⌝ }
+{
+    let depots_there = num_depots(flags);
+    let mut k = 0;
+    while k < depots.len() {
+        if depots[k] >= depots_there {
+            return false;
+        }
+        k += 1;
+    }
+    true
+}
+
+// 7, of every van, where each stands at a depot: so 7 is all that `van_refusal` can answer.
+fn vans_ok(
+    flags: &[u8],
+    van_ids: &[u32],
+    depots: &[usize],
+    capacities: &[i32],
+    distance_costs: &[f64],
+    fixed_costs: &[f64],
+    van_flags: &[u8],
+    max_distances: &[f64],
+    max_durations: &[f64],
+    earliest: &[f64],
+    latest: &[f64],
+    durations: &[f64],
+) -> bool
+    requires { ⌜ (let f = fleetAt «van_ids» depots capacities «distance_costs» «fixed_costs» «van_flags» «max_distances» «max_durations» earliest latest
+        durations in
+        Fitted f × (length (f .ids) ≤ 16) × (depotsOk (now flags) f ≡ true)) ⌝ }
+    ensures { λ r.
+        ⌜ r ≡ vansOk
+        (fleetAt («van_ids» .entry) (depots .entry) (capacities .entry) («distance_costs» .entry) («fixed_costs» .entry) («van_flags» .entry)
+        («max_distances» .entry) («max_durations» .entry) (earliest .entry) (latest .entry) (durations .entry)) ⌝ }
+{
+    let mut k = 0;
+    while k < van_ids.len() {
+        let van = van_at(
+            van_ids,
+            depots,
+            capacities,
+            distance_costs,
+            fixed_costs,
+            van_flags,
+            max_distances,
+            max_durations,
+            earliest,
+            latest,
+            durations,
+            k,
+        );
+        if van_refusal(flags, van) != 0 {
+            return false;
+        }
+        k += 1;
+    }
+    true
+}
+
+// The first refusal of the fleet, 11, 6 or 7, and 0 where there is none.
+pub fn fleet_refusal(
+    flags: &[u8],
+    van_ids: &[u32],
+    depots: &[usize],
+    capacities: &[i32],
+    distance_costs: &[f64],
+    fixed_costs: &[f64],
+    van_flags: &[u8],
+    max_distances: &[f64],
+    max_durations: &[f64],
+    earliest: &[f64],
+    latest: &[f64],
+    durations: &[f64],
+    number: usize,
+    ids: &[u32],
+    prices: &[f64],
+) -> u8
+    ensures { λ r.
+        ⌜ r ≡ fleetRefusal (now (flags .entry))
+        (fleetAt («van_ids» .entry) (depots .entry) (capacities .entry) («distance_costs» .entry) («fixed_costs» .entry) («van_flags» .entry)
+        («max_distances» .entry) («max_durations» .entry) (earliest .entry) (latest .entry) (durations .entry)) number (now (ids .entry))
+        (now (prices .entry)) ⌝ }
+{
+    if !fleet_ok(
+        van_ids,
+        depots,
+        capacities,
+        distance_costs,
+        fixed_costs,
+        van_flags,
+        max_distances,
+        max_durations,
+        earliest,
+        latest,
+        durations,
+        number,
+        ids,
+        prices,
+    ) {
+        return 11;
+    }
+    if !depots_ok(flags, depots) {
+        return 6;
+    }
+    if !vans_ok(
+        flags,
+        van_ids,
+        depots,
+        capacities,
+        distance_costs,
+        fixed_costs,
+        van_flags,
+        max_distances,
+        max_durations,
+        earliest,
+        latest,
+        durations,
+    ) {
+        return 7;
+    }
+    0
+}
+
+// Whether every starting price is plain.
+fn prices_ok(prices: &[f64]) -> bool
+    ensures { λ r. ⌜ r ≡ allPlain (now (prices .entry)) ⌝ }
+{
+    let mut k = 0;
+    while k < prices.len() {
+        if !is_plain(prices[k]) {
+            return false;
+        }
+        k += 1;
+    }
+    true
+}
+
+// 12 where a starting price isn't plain, and 0 where there is none.
+pub fn prices_refusal(prices: &[f64]) -> u8
+    ensures { λ r. ⌜ r ≡ pricesRefusal (now (prices .entry)) ⌝ }
+{
+    refuse_unless(prices_ok(prices), 12, 0)
+}
