@@ -102,6 +102,11 @@ module _ (c : Columns) (demand : List ℤ) (s : Setup) (visits lengths : List �
       let all = scanning-end (intoList ls from to) k n (across ls from to) (nothing (bound s)) best w h in
       best-across deltaOf passOf (bound s) ls from to best apart (all .scanned) (all .still .figured)
 
+  -- an empty list has none
+  pub pair-empty : (add-up : sum lengths ≡ length visits) (from to n : ℕ) → n ≡ getD lengths from 0 → n ≡ 0 → from ≢ to
+      → IsBest deltaOf passOf (bound s) ls from to (nothing (bound s))
+  pair-empty add-up from to n e empty apart = pair-end from to 0 n (nothing (bound s)) apart (omega (arith, empty)) (pair-start add-up from to n e)
+
   -- a list that has no price
   unpriced : (X Y : List ℕ) (position : ℕ) → (finite (priceOf c s X) && finite (priceOf c s Y)) ≡ false → priced (priceOf c s) (s .fixed) X Y position ≡ false
   unfolding priced

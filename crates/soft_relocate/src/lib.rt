@@ -462,7 +462,7 @@ fn best_of_pair(
     best
 }
 
-// The best move out of one list into another: none where they are one, or where one of them has no price.
+// The best move out of one list into another: none where they are one, where the giver is empty, or where one of them has no price.
 fn best_between(
     setup: Setup,
     flags: &[u8],
@@ -488,6 +488,9 @@ fn best_between(
         (now (demand .entry)) setup (now (visits .entry)) (now (lengths .entry)) from to r ⌝ }
 {
     if from == to {
+        return nothing_below(-setup.floor);
+    }
+    if length_of(lengths, from) == 0 {
         return nothing_below(-setup.floor);
     }
     let giver = list_of(visits, lengths, from);
