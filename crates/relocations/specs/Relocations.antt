@@ -1,5 +1,5 @@
--- The table of pairs as relocate's run keeps it: `pairs`' definitions of this engine's delta and test. For the contracts of src/; the engine's own
--- definition is `relocate false` of descent. Assumes nothing.
+-- The table of pairs as relocate's run keeps it: `pairs`' definitions of this engine's delta and test. For the contracts of src/ and of `relocate`; the
+-- engine's own definition is `relocate false` of descent. Assumes nothing.
 use mathlib.Core.List.{List}
 use Prim.Native.Nat.{ℕ}
 use lib.IntN.{ℤ}

@@ -1,9 +1,9 @@
 -- `search_both`: one pair is put in after the other.
 use mathlib.Core.Path.{_∙_}
 use native.Mathlib.Omega.{arith}
-use Rattle.relocate.proofs.Searching.{searched-sized}
-use Rattle.relocate.proofs.search_both.Statement.{statement}
-use Rattle.relocate.proofs.search_both.Tie as tie
+use Rattle.relocations.proofs.Searching.{searched-sized}
+use Rattle.relocations.proofs.search_both.Statement.{statement}
+use Rattle.relocations.proofs.search_both.Tie as tie
 
 search-pair-requires : tie.Need-search-pair-requires
 search-pair-requires c κs =

@@ -1,7 +1,7 @@
 -- `search_pair`: the search answers the pair's best, and it is put in.
 use native.Mathlib.Omega.{arith}
-use Rattle.relocate.proofs.search_pair.Statement.{statement}
-use Rattle.relocate.proofs.search_pair.Tie as tie
+use Rattle.relocations.proofs.search_pair.Statement.{statement}
+use Rattle.relocations.proofs.search_pair.Tie as tie
 
 best-between-requires : tie.Need-best-between-requires
 best-between-requires c κs =

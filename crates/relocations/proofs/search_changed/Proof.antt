@@ -7,10 +7,10 @@ use Rattle.lists.specs.Table.{lists}
 use Rattle.evaluation.specs.Columns.{columns}
 use Rattle.pairs.specs.Pairs.{table, Renewed}
 use Rattle.offers.specs.Offers.{Cached}
-use Rattle.relocate.specs.Relocate.{PairsRight}
-use Rattle.relocate.proofs.Searching.{both-sized, again-turn, again-end}
-use Rattle.relocate.proofs.search_changed.Statement.{statement}
-use Rattle.relocate.proofs.search_changed.Tie as tie
+use Rattle.relocations.specs.Relocations.{PairsRight}
+use Rattle.relocations.proofs.Searching.{both-sized, again-turn, again-end}
+use Rattle.relocations.proofs.search_changed.Statement.{statement}
+use Rattle.relocations.proofs.search_changed.Tie as tie
 
 abbrev Inv-loop : tie.InvT-loop
 Inv-loop setup flags service ready due penalty distances times demand visits lengths buffer₀ figures₀ places₀ deltas₀ positions₀ to-places₀ pruning a
