@@ -8,9 +8,9 @@ use Rattle.evaluation.specs.Route.{effectiveCost}
 use Rattle.descent.proofs.Members.{and-parts}
 use Rattle.loads.proofs.Tables.{list-visits}
 use Rattle.pairs.proofs.Taken.{best-same-list}
-use Rattle.soft_relocate.proofs.Choosing.{no-price}
-use Rattle.soft_relocate.proofs.best_between.Statement.{statement}
-use Rattle.soft_relocate.proofs.best_between.Tie as tie
+use Rattle.soft_offers.proofs.Choosing.{no-price}
+use Rattle.soft_offers.proofs.best_between.Statement.{statement}
+use Rattle.soft_offers.proofs.best_between.Tie as tie
 
 nothing-below-requires : tie.Need-nothing-below-requires
 nothing-below-requires c κs = search needs
