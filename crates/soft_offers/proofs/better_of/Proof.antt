@@ -1,9 +1,9 @@
 -- `better_of`: the delta is the offer's, and each end is the better of the two.
 use borrow.Author.Needs.{needs}
 use mathlib.Core.Path.{refl}
-use Rattle.soft_relocate.proofs.Offering.{better-taken, better-kept}
-use Rattle.soft_relocate.proofs.better_of.Statement.{statement}
-use Rattle.soft_relocate.proofs.better_of.Tie as tie
+use Rattle.soft_offers.proofs.Offering.{better-taken, better-kept}
+use Rattle.soft_offers.proofs.better_of.Statement.{statement}
+use Rattle.soft_offers.proofs.better_of.Tie as tie
 
 price-of-requires : tie.Need-price-of-requires
 price-of-requires c κs = search needs

@@ -1,5 +1,5 @@
--- The search as the code goes about it: what a run keeps at hand, the candidates by pair of lists and visit, and the best so far.
--- For the contracts of src/; the engine's own definition is in SoftRelocate.antt. Assumes nothing.
+-- The search of a pair of lists as the code goes about it: what a run keeps at hand, the candidates by visit, and the best so far.
+-- For the contracts of src/ and of `soft_relocate`; the engine's own search and judging are in Prices.antt. Assumes nothing.
 use mathlib.Core.Path.{_≡_}
 use mathlib.Core.Bool.{true, cond}
 use mathlib.Core.Option.{Option}
@@ -15,16 +15,16 @@ use Rattle.lists.specs.Table.{lists, listOf}
 use Rattle.evaluation.specs.Columns.{Columns, Formed}
 use Rattle.evaluation.specs.Route.{effectiveCost}
 use Rattle.descent.specs.Order.{range}
-use Rattle.descent.specs.Search.{Search, Judge, Sweep, Outcome, next, run}
+use Rattle.descent.specs.Search.{Search, Judge}
 use Rattle.descent.specs.Across.{at, Relocation}
 use Rattle.pairs.specs.Scan.{onward, figure, Counted}
-use Rattle.pairs.specs.Pairs.{moveOf, Table, IsBest, Stored, StoredBoth, RightWhere}
+use Rattle.pairs.specs.Pairs.{moveOf, IsBest}
 use Rattle.pairs.specs.declared.Choice.{Choice}
 use Rattle.loads.specs.Loads.{boxesOf, measureOf}
-use Rattle.soft_relocate.specs.SoftRelocate.{inserted, soft-relocate-search, soft-relocate-judge}
-use Rattle.soft_relocate.specs.declared.Setup.{Setup}
-use Rattle.soft_relocate.specs.declared.Pair.{Pair}
-use Rattle.soft_relocate.specs.declared.Offer.{Offer}
+use Rattle.soft_offers.specs.Prices.{inserted, soft-relocate-search, soft-relocate-judge}
+use Rattle.soft_offers.specs.declared.Setup.{Setup}
+use Rattle.soft_offers.specs.declared.Pair.{Pair}
+use Rattle.soft_offers.specs.declared.Offer.{Offer}
 
 -- ---- what a run asks
 
@@ -50,10 +50,6 @@ judgeOf c s = soft-relocate-judge (priceOf c s) (s .fixed) (s .floor)
 -- minus the floor
 abbrev pub bound : Setup → Float
 bound s = neg (s .floor)
-
--- the run from some lists on
-unfoldable pub runFrom : Columns → List ℤ → Setup → ℕ → List (List ℕ) → Outcome (Sweep (List (List ℕ)) Unit)
-runFrom c demand s limit ls = run (next (searchOf c demand s) (judgeOf c s)) limit (record { now = ls; ahead = [] })
 
 -- ---- candidates
 
@@ -110,20 +106,3 @@ module _ (c : Columns) (demand : List ℤ) (s : Setup) (visits lengths : List �
   -- the best move out of one list into another
   abbrev pub BestOf : ℕ → ℕ → Choice → Type 0
   BestOf = IsBest (judgeOf c s .delta (lists visits lengths)) (searchOf c demand s .passes (lists visits lengths)) (bound s) (lists visits lengths)
-
-  -- a table of pairs in which it was put
-  abbrev pub StoredOf : ℕ → ℕ → Table → Table → Type 0
-  StoredOf = Stored (judgeOf c s .delta (lists visits lengths)) (searchOf c demand s .passes (lists visits lengths)) (bound s) (lists visits lengths)
-
-  -- both ways
-  abbrev pub StoredBothOf : ℕ → ℕ → Table → Table → Type 0
-  StoredBothOf = StoredBoth (judgeOf c s .delta (lists visits lengths)) (searchOf c demand s .passes (lists visits lengths)) (bound s) (lists visits lengths)
-
-  -- a table of pairs that is right for those that are done
-  abbrev pub RightOf : (ℕ → ℕ → Type 0) → Table → Type 0
-  RightOf = RightWhere (judgeOf c s .delta (lists visits lengths)) (searchOf c demand s .passes (lists visits lengths)) (bound s) (lists visits lengths)
-      (length lengths)
-
-  -- for all
-  abbrev pub AllRight : Table → Type 0
-  AllRight = RightOf λ from to. Unit {0}

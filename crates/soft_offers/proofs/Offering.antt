@@ -12,9 +12,9 @@ use Rattle.numbers.specs.Operations.{_⊕_, _⊖_}
 use Rattle.descent.specs.Order.{range}
 use Rattle.descent.proofs.Loops.{range-step, range-done}
 use Rattle.deltas.specs.Changes.{fixedIf}
-use Rattle.soft_relocate.specs.SoftRelocate.{without, inserted, givingDelta}
-use Rattle.soft_relocate.specs.Offers.{taken-at, offerDelta, better, bestAmong}
-use Rattle.soft_relocate.specs.declared.Offer.{Offer}
+use Rattle.soft_offers.specs.Prices.{without, inserted, givingDelta}
+use Rattle.soft_offers.specs.Offers.{taken-at, offerDelta, better, bestAmong}
+use Rattle.soft_offers.specs.declared.Offer.{Offer}
 use Rattle.pairs.specs.declared.Choice.{Choice}
 
 -- what the giver's change is made of

@@ -31,12 +31,12 @@ use Rattle.pairs.specs.declared.Choice.{Choice}
 use Rattle.pairs.proofs.Taken.{best-across, best-refused}
 use Rattle.pairs.proofs.Scanning.{onward-better, counted-better, onward-stays, onward-end, onward-append, onward-none}
 use Rattle.loads.specs.Loads.{boxesOf, measureOf}
-use Rattle.soft_relocate.specs.SoftRelocate.{inserted, givingDelta, receivingDelta, softDelta, priced}
-use Rattle.soft_relocate.specs.Offers.{priceOf, searchOf, judgeOf, bound, intoList, taken-at, offerDelta, better, bestAmong, Known, scan, Best, Scanned}
-use Rattle.soft_relocate.specs.declared.Setup.{Setup}
-use Rattle.soft_relocate.specs.declared.Pair.{Pair}
-use Rattle.soft_relocate.specs.declared.Offer.{Offer}
-use Rattle.soft_relocate.proofs.Laid.{total-inserted}
+use Rattle.soft_offers.specs.Prices.{inserted, givingDelta, receivingDelta, softDelta, priced}
+use Rattle.soft_offers.specs.Offers.{priceOf, searchOf, judgeOf, bound, intoList, taken-at, offerDelta, better, bestAmong, Known, scan, Best, Scanned}
+use Rattle.soft_offers.specs.declared.Setup.{Setup}
+use Rattle.soft_offers.specs.declared.Pair.{Pair}
+use Rattle.soft_offers.specs.declared.Offer.{Offer}
+use Rattle.soft_offers.proofs.Laid.{total-inserted}
 
 too-much : (a b : ℕ) → b < a → leb a b ≡ false
 too-much a b h = go (leb a b) refl

@@ -14,7 +14,7 @@ use Rattle.edits.specs.Total.{total, bit, total-append, total-none, total-one, 
 use Rattle.edits.specs.Edits.{swapped}
 use Rattle.edits.proofs.Cuts.{to-end, lent}
 use Rattle.evaluation.specs.Columns.{Visits}
-use Rattle.soft_relocate.specs.SoftRelocate.{without, inserted}
+use Rattle.soft_offers.specs.Prices.{without, inserted}
 
 -- ---- sums and lengths
 

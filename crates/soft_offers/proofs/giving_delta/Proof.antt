@@ -2,10 +2,10 @@
 use borrow.Author.Needs.{needs}
 use mathlib.Core.Path.{sym, ap, _∙_}
 use Rattle.evaluation.specs.Route.{effectiveCost}
-use Rattle.soft_relocate.proofs.Laid.{front, length-without, visits-without}
-use Rattle.soft_relocate.proofs.Offering.{giving-is}
-use Rattle.soft_relocate.proofs.giving_delta.Statement.{statement}
-use Rattle.soft_relocate.proofs.giving_delta.Tie as tie
+use Rattle.soft_offers.proofs.Laid.{front, length-without, visits-without}
+use Rattle.soft_offers.proofs.Offering.{giving-is}
+use Rattle.soft_offers.proofs.giving_delta.Statement.{statement}
+use Rattle.soft_offers.proofs.giving_delta.Tie as tie
 
 removed-into-requires : tie.Need-removed-into-requires
 removed-into-requires c κs = search needs

@@ -7,12 +7,12 @@ use native.Mathlib.Omega.{arith}
 use lib.ListN.{length, take}
 use Rattle.evaluation.specs.Columns.{columns}
 use Rattle.descent.specs.Order.{range}
-use Rattle.soft_relocate.specs.SoftRelocate.{inserted}
-use Rattle.soft_relocate.specs.Offers.{priceOf, bestAmong}
-use Rattle.soft_relocate.proofs.Laid.{front, visits-inserted, stepped}
-use Rattle.soft_relocate.proofs.Offering.{among-turn, among-end}
-use Rattle.soft_relocate.proofs.best_place.Statement.{statement}
-use Rattle.soft_relocate.proofs.best_place.Tie as tie
+use Rattle.soft_offers.specs.Prices.{inserted}
+use Rattle.soft_offers.specs.Offers.{priceOf, bestAmong}
+use Rattle.soft_offers.proofs.Laid.{front, visits-inserted, stepped}
+use Rattle.soft_offers.proofs.Offering.{among-turn, among-end}
+use Rattle.soft_offers.proofs.best_place.Statement.{statement}
+use Rattle.soft_offers.proofs.best_place.Tie as tie
 
 abbrev Inv-loop : tie.InvT-loop
 Inv-loop setup flags service ready due penalty distances times list buffer₀ offer end after₀ place₀ buffer after place =

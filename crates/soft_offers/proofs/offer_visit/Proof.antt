@@ -8,9 +8,9 @@ use native.Mathlib.Omega.{arith}
 use lib.ListN.{length, getD}
 use Rattle.lists.proofs.Tables.{start-within, length-list}
 use Rattle.loads.proofs.Tables.{list-visits, one-more, visit-below}
-use Rattle.soft_relocate.proofs.Choosing.{refused-as, fails-as, offered-as}
-use Rattle.soft_relocate.proofs.offer_visit.Statement.{statement}
-use Rattle.soft_relocate.proofs.offer_visit.Tie as tie
+use Rattle.soft_offers.proofs.Choosing.{refused-as, fails-as, offered-as}
+use Rattle.soft_offers.proofs.offer_visit.Statement.{statement}
+use Rattle.soft_offers.proofs.offer_visit.Tie as tie
 
 list-of-requires : tie.Need-list-of-requires
 list-of-requires c κs =

@@ -8,10 +8,10 @@ use Rattle.lists.specs.Table.{lists}
 use Rattle.evaluation.specs.Columns.{columns}
 use Rattle.descent.specs.Order.{range, each}
 use Rattle.pairs.specs.Pairs.{across, nothing}
-use Rattle.soft_relocate.specs.Offers.{bound, intoList}
-use Rattle.soft_relocate.proofs.Choosing.{Scanning, pair-start, scanning-turn, pair-end}
-use Rattle.soft_relocate.proofs.best_of_pair.Statement.{statement}
-use Rattle.soft_relocate.proofs.best_of_pair.Tie as tie
+use Rattle.soft_offers.specs.Offers.{bound, intoList}
+use Rattle.soft_offers.proofs.Choosing.{Scanning, pair-start, scanning-turn, pair-end}
+use Rattle.soft_offers.proofs.best_of_pair.Statement.{statement}
+use Rattle.soft_offers.proofs.best_of_pair.Tie as tie
 
 abbrev Inv-loop : tie.InvT-loop
 Inv-loop setup flags service ready due penalty distances times demand visits lengths buffer₀ pair n best₀ position₀ buffer best position =

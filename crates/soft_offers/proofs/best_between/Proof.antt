@@ -1,4 +1,5 @@
--- `best_between`: a list gives itself nothing, an empty one gives nothing, and a list without a price neither gives nor takes; else both are priced, and the pair is searched.
+-- `best_between`: a list gives itself nothing, an empty one gives nothing, and a list without a price neither gives nor takes; else both are priced,
+-- and the pair is searched.
 use borrow.Author.Needs.{needs}
 use borrow.Author.Tests.{not-true, not-false}
 use mathlib.Core.Path.{sym, ap, ap₂, _∙_}
@@ -8,9 +9,9 @@ use Rattle.evaluation.specs.Route.{effectiveCost}
 use Rattle.descent.proofs.Members.{and-parts}
 use Rattle.loads.proofs.Tables.{list-visits}
 use Rattle.pairs.proofs.Taken.{best-same-list}
-use Rattle.soft_relocate.proofs.Choosing.{pair-empty, no-price}
-use Rattle.soft_relocate.proofs.best_between.Statement.{statement}
-use Rattle.soft_relocate.proofs.best_between.Tie as tie
+use Rattle.soft_offers.proofs.Choosing.{pair-empty, no-price}
+use Rattle.soft_offers.proofs.best_between.Statement.{statement}
+use Rattle.soft_offers.proofs.best_between.Tie as tie
 
 nothing-below-requires : tie.Need-nothing-below-requires
 nothing-below-requires c κs = search needs

@@ -1,8 +1,8 @@
 -- `fixed_if`: the arm taken is the definition's.
 use Rattle.deltas.specs.Changes.{fixedIf}
 use lib.Ieee.{ofBits}
-use Rattle.soft_relocate.proofs.fixed_if.Statement.{statement}
-use Rattle.soft_relocate.proofs.fixed_if.Tie as tie
+use Rattle.soft_offers.proofs.fixed_if.Statement.{statement}
+use Rattle.soft_offers.proofs.fixed_if.Tie as tie
 
 returns : tie.Need-returns
 unfolding fixedIf
