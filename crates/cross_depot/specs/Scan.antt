@@ -1,6 +1,5 @@
 -- Cross-depot's search as its functions state it: one candidate more, the rows of candidates one after another, and the best so far. For src/; the engine's
 -- own definition is CrossDepot.antt. Assumes nothing.
-use mathlib.Core.Path.{_≡_}
 use mathlib.Core.Bool.{Bool, true, false, cond}
 use mathlib.Core.Option.{Option, none, some}
 use mathlib.Core.List.{List, [], _∷_}
@@ -11,13 +10,12 @@ use lib.ListN.{length, getD}
 use lib.Seq.{slice}
 use lib.Ieee.{Float, lt, neg}
 use Rattle.numbers.specs.Operations.{_⊕_, _⊖_, zero64}
-use Rattle.day.specs.declared.vehicle.Van.{Van}
 use Rattle.lists.specs.Table.{Laid, lists}
 use Rattle.lists.specs.Edits.{at}
 use Rattle.evaluation.specs.Columns.{Columns, Formed}
 use Rattle.descent.specs.Order.{range}
 use Rattle.cross_depot.specs.Boxes.{Loaded}
-use Rattle.fleet.specs.Fleet.{Fleet, Driven, Manned}
+use Rattle.fleet.specs.Fleet.{Fleet, Driven}
 use Rattle.cross_depot.specs.CrossDepot.{Plan, allowed, replaced, relocation, exchange, cuts, pairOf, sameDepot}
 use Rattle.cross_depot.specs.declared.price.Price.{Price}
 use Rattle.cross_depot.specs.declared.price.Price.the-variants.{Unallowed, Costs}

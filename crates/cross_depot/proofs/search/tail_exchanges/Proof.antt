@@ -1,5 +1,4 @@
 -- `tail_exchanges`: before each cut of the first list, the scan from here on comes to all tail exchanges.
-use borrow.Author.Needs.{needs}
 use mathlib.Core.Bool.{true}
 use mathlib.Core.Path.{_≡_, refl, sym, _∙_}
 use Prim.Native.Nat.{_+_, _-_}
