@@ -11,20 +11,20 @@ use borrow.Author.Tests.{lt-ltb, ltb-true}
 use borrow.Rule.Slice.PartMut.{putMid}
 use lib.Dec.{ltb}
 use lib.IntN.{ℤ}
-use lib.ListN.{length, getD, take, drop, replicate, length-append, length-drop, take-append-drop}
+use lib.ListN.{length, take, drop, replicate, length-append, length-drop, take-append-drop}
 use lib.Seq.{take-at, drop-at, take-length, drop-length, take-append-le, drop-append-le, length-take-le}
 use lib.Ieee.{Float}
 use Rattle.edits.specs.Total.{SameVisits}
 use Rattle.edits.proofs.Kept.{same-each, same-length}
-use Rattle.lists.specs.Table.{Laid, lists, flat, lengthsOf}
+use Rattle.lists.specs.Table.{lists}
 use Rattle.lists.proofs.Tables.{length-lists, flat-lists, lengths-lists}
 use Rattle.evaluation.specs.Columns.{Columns}
-use Rattle.descent.specs.Search.{Sweep, Outcome, settled, stopped, taken, firstMove, next, run}
+use Rattle.descent.specs.Search.{Sweep, Outcome, settled, stopped, firstMove, next, run}
 use Rattle.descent.proofs.Loops.{place-passed, place-moved, next-sweep, run-settles, run-stops, run-moves}
 use Rattle.engine.specs.Engine.{endedAs}
 use Rattle.engine.specs.declared.Ended.the-variants.{Settled, Stopped}
 use Rattle.fleet.specs.Fleet.{Fleet}
-use Rattle.cross_depot.specs.CrossDepot.{Plan, afterMove, moved, searchOf, judgeOf, runOf, ranOf}
+use Rattle.cross_depot.specs.CrossDepot.{Plan, afterMove, searchOf, judgeOf, runOf, ranOf}
 use Rattle.cross_depot.specs.Scan.{Held, planOf, moveOf}
 use Rattle.cross_depot.specs.Tables.{Made, MadeIn, Chosen, Handed, crossedOf}
 use Rattle.cross_depot.specs.declared.pair.Move.{Move}

@@ -3,17 +3,23 @@ use crate::pair::Move;
 use crate::pair::Pair;
 use crate::pair::pair_at;
 use crate::price::Price;
+use crate::price::fits;
+use crate::price::prefix_loads;
 use crate::price::replaced_price;
 use lists::list_of;
+use tests::both;
 ghost use mathlib.Core.Path.{_≡_};
-ghost use mathlib.Core.Bool.{false};
+ghost use mathlib.Core.Bool.{true, false, _&&_};
 ghost use mathlib.Core.List.{[]};
 ghost use Prim.Native.Nat.{_+_, _≤_, _<_};
 ghost use lib.ListN.{length};
-ghost use Rattle.evaluation.specs.Columns.{columnsAt};
+ghost use lib.Seq.{slice};
+ghost use Rattle.evaluation.specs.Columns.{columnsAt, Formed};
 ghost use Rattle.cross_depot.specs.declared.price.Price.the-variants.{Costs};
-ghost use Rattle.cross_depot.specs.CrossDepot.{allowed, replaced, relocation, stretchEnd, exchange, cuts, sameDepot};
-ghost use Rattle.cross_depot.specs.Scan.{Asked, Paired, Two, Stretches, single, decided, price1, better, relocateRow, exchangeRow, bestRelocation};
+ghost use Rattle.cross_depot.specs.Boxes.{Loaded, Prefixed};
+ghost use Rattle.cross_depot.specs.CrossDepot.{holds, pricedAs, allowed, replaced, relocation, stretchEnd, exchange, cuts, sameDepot};
+ghost use Rattle.cross_depot.specs.Scan.{Asked, Paired, Two, Stretches, single, made1, made2};
+ghost use Rattle.cross_depot.specs.Scan.{decided, price1, better, relocateRow, exchangeRow, bestRelocation};
 ghost use Rattle.cross_depot.specs.Scan.{bestSwap, bestTails, bestExchange, bestBetween, Held, planOf, bestFrom, bestOf};
 ghost use Rattle.fleet.specs.Fleet.{fleetAt, Manned};
 
@@ -108,11 +114,10 @@ fn exchange_of(pair: Pair, tails: bool, n1: usize, n2: usize, k1: usize, k2: usi
     }
 }
 
-// The price of the first list after a move.
+// What the first list costs after a move, whatever its load.
 fn first_price(
     l: usize,
     flags: &[u8],
-    demand: &[i32],
     service: &[f64],
     ready: &[f64],
     due: &[f64],
@@ -124,24 +129,22 @@ fn first_price(
     other: &[u16],
     tried: Move,
 ) -> Price
-    requires { ⌜ Asked (columnsAt l flags service ready due penalty distances times) (now demand) × Paired l pair × Two l (now one) (now other) ⌝ }
+    requires { ⌜ Formed (columnsAt l flags service ready due penalty distances times) × Paired l pair × Two l (now one) (now other) ⌝ }
     requires { ⌜ Stretches (now one) (now other) tried ⌝ }
     ensures { λ r.
-        ⌜ r ≡ price1
+        ⌜ r ≡ pricedAs
         (columnsAt l (flags .entry) (service .entry) (ready .entry) (due .entry) (penalty .entry) (distances .entry) (times .entry))
-        (now (demand .entry)) pair (now (one .entry)) (now (other .entry)) tried ⌝ }
+        (pair .van1) (made1 (now (one .entry)) (now (other .entry)) tried) ⌝ }
 {
     replaced_price(
         l,
         flags,
-        demand,
         service,
         ready,
         due,
         penalty,
         distances,
         times,
-        tried.tested,
         pair.van1,
         one,
         tried.from1,
@@ -152,7 +155,7 @@ fn first_price(
     )
 }
 
-// The better of the best so far and a move whose first list then costs `cost1`.
+// The better of the best so far and a move whose first list then costs `cost1`, and whose second list is within its van's capacity.
 fn try_move(
     l: usize,
     flags: &[u8],
@@ -173,6 +176,7 @@ fn try_move(
     requires { ⌜ Asked (columnsAt l flags service ready due penalty distances times) (now demand) × Paired l pair × Two l (now one) (now other) ⌝ }
     requires { ⌜ Stretches (now one) (now other) tried
         × (Costs cost1 ≡ price1 (columnsAt l flags service ready due penalty distances times) (now demand) pair (now one) (now other) tried) ⌝ }
+    requires { ⌜ holds (now demand) (pair .van2) (made2 (now one) (now other) tried) ≡ true ⌝ }
     ensures { λ r.
         ⌜ r ≡ better
         (columnsAt l (flags .entry) (service .entry) (ready .entry) (due .entry) (penalty .entry) (distances .entry) (times .entry))
@@ -181,14 +185,12 @@ fn try_move(
     let second = replaced_price(
         l,
         flags,
-        demand,
         service,
         ready,
         due,
         penalty,
         distances,
         times,
-        true,
         pair.van2,
         other,
         tried.from2,
@@ -203,9 +205,140 @@ fn try_move(
     better_of(pair, tried, cost1, cost2, best)
 }
 
+// Whether the second list is within its van's capacity after a move.
+fn second_fits(
+    l: usize,
+    demand: &[i32],
+    pair: Pair,
+    one: &[u16],
+    other: &[u16],
+    loads1: &[usize],
+    loads2: &[usize],
+    tried: Move,
+) -> bool
+    requires { ⌜ Loaded l (now demand) × Paired l pair × Two l (now one) (now other) ⌝ }
+    requires { ⌜ Prefixed (now demand) (now one) (now loads1) × Prefixed (now demand) (now other) (now loads2) ⌝ }
+    requires { ⌜ Stretches (now one) (now other) tried ⌝ }
+    ensures { λ r. ⌜ r ≡ holds (now (demand .entry)) (pair .van2) (made2 (now (one .entry)) (now (other .entry)) tried) ⌝ }
+{
+    fits(
+        l,
+        demand,
+        pair.van2,
+        other,
+        loads2,
+        tried.from2,
+        tried.to2,
+        one,
+        loads1,
+        tried.from1,
+        tried.to1,
+    )
+}
+
+// Whether both lists are within their vans' capacities after a move.
+fn both_fit(
+    l: usize,
+    demand: &[i32],
+    pair: Pair,
+    one: &[u16],
+    other: &[u16],
+    loads1: &[usize],
+    loads2: &[usize],
+    tried: Move,
+) -> bool
+    requires { ⌜ Loaded l (now demand) × Paired l pair × Two l (now one) (now other) ⌝ }
+    requires { ⌜ Prefixed (now demand) (now one) (now loads1) × Prefixed (now demand) (now other) (now loads2) ⌝ }
+    requires { ⌜ Stretches (now one) (now other) tried ⌝ }
+    ensures { λ r. ⌜ r ≡ (holds (now (demand .entry)) (pair .van1) (made1 (now (one .entry)) (now (other .entry)) tried)
+        && holds (now (demand .entry)) (pair .van2) (made2 (now (one .entry)) (now (other .entry)) tried)) ⌝ }
+{
+    let first = fits(
+        l,
+        demand,
+        pair.van1,
+        one,
+        loads1,
+        tried.from1,
+        tried.to1,
+        other,
+        loads2,
+        tried.from2,
+        tried.to2,
+    );
+    let second = second_fits(l, demand, pair, one, other, loads1, loads2, tried);
+    both(first, second)
+}
+
+// The better of the best so far and a move that is tested for both loads.
+fn try_exchange(
+    l: usize,
+    flags: &[u8],
+    demand: &[i32],
+    service: &[f64],
+    ready: &[f64],
+    due: &[f64],
+    penalty: &[f64],
+    distances: &[f64],
+    times: &[f64],
+    pair: Pair,
+    one: &[u16],
+    other: &[u16],
+    loads1: &[usize],
+    loads2: &[usize],
+    tried: Move,
+    best: Choice,
+) -> Choice
+    requires { ⌜ Asked (columnsAt l flags service ready due penalty distances times) (now demand) × Paired l pair × Two l (now one) (now other) ⌝ }
+    requires { ⌜ Prefixed (now demand) (now one) (now loads1) × Prefixed (now demand) (now other) (now loads2) ⌝ }
+    requires { ⌜ Stretches (now one) (now other) tried × (tried .tested ≡ true) ⌝ }
+    ensures { λ r.
+        ⌜ r ≡ better
+        (columnsAt l (flags .entry) (service .entry) (ready .entry) (due .entry) (penalty .entry) (distances .entry) (times .entry))
+        (now (demand .entry)) pair (now (one .entry)) (now (other .entry)) tried best ⌝ }
+{
+    if !both_fit(l, demand, pair, one, other, loads1, loads2, tried) {
+        return best;
+    }
+    let first = first_price(
+        l,
+        flags,
+        service,
+        ready,
+        due,
+        penalty,
+        distances,
+        times,
+        pair,
+        one,
+        other,
+        tried,
+    );
+    let Price::Costs(cost1) = first else {
+        return best;
+    };
+    try_move(
+        l,
+        flags,
+        demand,
+        service,
+        ready,
+        due,
+        penalty,
+        distances,
+        times,
+        pair,
+        one,
+        other,
+        tried,
+        cost1,
+        best,
+    )
+}
+
 // ---- two lists
 
-// The best after a visit of the first list, which then costs `cost1`, was tried at every place of the second.
+// The best after a visit of the first list, which then costs `cost1`, was tried at every place of the second, which has room for it.
 fn relocate_row(
     l: usize,
     flags: &[u8],
@@ -227,6 +360,7 @@ fn relocate_row(
     requires { ⌜ (position < length (now one))
         × (Costs cost1 ≡ allowed (columnsAt l flags service ready due penalty distances times) (now demand) false (pair .van1)
         (replaced (now one) position (position + 1) [])) ⌝ }
+    requires { ⌜ holds (now demand) (pair .van2) (replaced (now other) 0 0 (slice position (position + 1) (now one))) ≡ true ⌝ }
     ensures { λ r.
         ⌜ r ≡ relocateRow
         (columnsAt l (flags .entry) (service .entry) (ready .entry) (due .entry) (penalty .entry) (distances .entry) (times .entry))
@@ -272,9 +406,12 @@ fn relocations(
     pair: Pair,
     one: &[u16],
     other: &[u16],
+    loads1: &[usize],
+    loads2: &[usize],
     best: Choice,
 ) -> Choice
     requires { ⌜ Asked (columnsAt l flags service ready due penalty distances times) (now demand) × Paired l pair × Two l (now one) (now other) ⌝ }
+    requires { ⌜ Prefixed (now demand) (now one) (now loads1) × Prefixed (now demand) (now other) (now loads2) ⌝ }
     ensures { λ r.
         ⌜ r ≡ bestRelocation
         (columnsAt l (flags .entry) (service .entry) (ready .entry) (due .entry) (penalty .entry) (distances .entry) (times .entry))
@@ -286,10 +423,12 @@ fn relocations(
         let position = next;
         next += 1;
         let tried = relocation_of(pair, position, 0);
+        if !second_fits(l, demand, pair, one, other, loads1, loads2, tried) {
+            continue;
+        }
         let first = first_price(
             l,
             flags,
-            demand,
             service,
             ready,
             due,
@@ -339,12 +478,15 @@ fn exchange_row(
     pair: Pair,
     one: &[u16],
     other: &[u16],
+    loads1: &[usize],
+    loads2: &[usize],
     tails: bool,
     k1: usize,
     count: usize,
     best: Choice,
 ) -> Choice
     requires { ⌜ Asked (columnsAt l flags service ready due penalty distances times) (now demand) × Paired l pair × Two l (now one) (now other) ⌝ }
+    requires { ⌜ Prefixed (now demand) (now one) (now loads1) × Prefixed (now demand) (now other) (now loads2) ⌝ }
     requires { ⌜ (k1 + single tails ≤ length (now one)) × (count + single tails ≤ length (now other) + 1) ⌝ }
     ensures { λ r.
         ⌜ r ≡ exchangeRow
@@ -356,7 +498,7 @@ fn exchange_row(
     while next < count {
         let tried = exchange_of(pair, tails, one.len(), other.len(), k1, next);
         next += 1;
-        let first = first_price(
+        found = try_exchange(
             l,
             flags,
             demand,
@@ -369,26 +511,9 @@ fn exchange_row(
             pair,
             one,
             other,
+            loads1,
+            loads2,
             tried,
-        );
-        let Price::Costs(cost1) = first else {
-            continue;
-        };
-        found = try_move(
-            l,
-            flags,
-            demand,
-            service,
-            ready,
-            due,
-            penalty,
-            distances,
-            times,
-            pair,
-            one,
-            other,
-            tried,
-            cost1,
             found,
         );
     }
@@ -409,9 +534,12 @@ fn swaps(
     pair: Pair,
     one: &[u16],
     other: &[u16],
+    loads1: &[usize],
+    loads2: &[usize],
     best: Choice,
 ) -> Choice
     requires { ⌜ Asked (columnsAt l flags service ready due penalty distances times) (now demand) × Paired l pair × Two l (now one) (now other) ⌝ }
+    requires { ⌜ Prefixed (now demand) (now one) (now loads1) × Prefixed (now demand) (now other) (now loads2) ⌝ }
     ensures { λ r.
         ⌜ r ≡ bestSwap
         (columnsAt l (flags .entry) (service .entry) (ready .entry) (due .entry) (penalty .entry) (distances .entry) (times .entry))
@@ -433,6 +561,8 @@ fn swaps(
             pair,
             one,
             other,
+            loads1,
+            loads2,
             false,
             k1,
             other.len(),
@@ -457,9 +587,12 @@ fn tail_exchanges(
     pair: Pair,
     one: &[u16],
     other: &[u16],
+    loads1: &[usize],
+    loads2: &[usize],
     best: Choice,
 ) -> Choice
     requires { ⌜ Asked (columnsAt l flags service ready due penalty distances times) (now demand) × Paired l pair × Two l (now one) (now other) ⌝ }
+    requires { ⌜ Prefixed (now demand) (now one) (now loads1) × Prefixed (now demand) (now other) (now loads2) ⌝ }
     ensures { λ r.
         ⌜ r ≡ bestTails
         (columnsAt l (flags .entry) (service .entry) (ready .entry) (due .entry) (penalty .entry) (distances .entry) (times .entry))
@@ -482,6 +615,8 @@ fn tail_exchanges(
             pair,
             one,
             other,
+            loads1,
+            loads2,
             true,
             k1,
             count,
@@ -506,9 +641,12 @@ fn exchanges(
     pair: Pair,
     one: &[u16],
     other: &[u16],
+    loads1: &[usize],
+    loads2: &[usize],
     best: Choice,
 ) -> Choice
     requires { ⌜ Asked (columnsAt l flags service ready due penalty distances times) (now demand) × Paired l pair × Two l (now one) (now other) ⌝ }
+    requires { ⌜ Prefixed (now demand) (now one) (now loads1) × Prefixed (now demand) (now other) (now loads2) ⌝ }
     ensures { λ r.
         ⌜ r ≡ bestExchange
         (columnsAt l (flags .entry) (service .entry) (ready .entry) (due .entry) (penalty .entry) (distances .entry) (times .entry))
@@ -530,6 +668,8 @@ fn exchanges(
         pair,
         one,
         other,
+        loads1,
+        loads2,
         best,
     );
     tail_exchanges(
@@ -545,6 +685,8 @@ fn exchanges(
         pair,
         one,
         other,
+        loads1,
+        loads2,
         swapped,
     )
 }
@@ -571,6 +713,10 @@ fn between_lists(
         (columnsAt l (flags .entry) (service .entry) (ready .entry) (due .entry) (penalty .entry) (distances .entry) (times .entry))
         (now (demand .entry)) pair (now (one .entry)) (now (other .entry)) best ⌝ }
 {
+    let mut loads1 = [0usize; 64];
+    prefix_loads(l, demand, one, &mut loads1);
+    let mut loads2 = [0usize; 64];
+    prefix_loads(l, demand, other, &mut loads2);
     let relocated = relocations(
         l,
         flags,
@@ -584,6 +730,8 @@ fn between_lists(
         pair,
         one,
         other,
+        &loads1,
+        &loads2,
         best,
     );
     exchanges(
@@ -599,6 +747,8 @@ fn between_lists(
         pair,
         one,
         other,
+        &loads1,
+        &loads2,
         relocated,
     )
 }

@@ -1,6 +1,5 @@
 -- `drop_costs`: proofs/Dropping.antt has where the loop stands, its start, its turn and its end.
 use borrow.Author.Needs.{needs}
-use mathlib.Core.Path.{refl, _∙_}
 use Prim.Native.Nat.{_-_}
 use native.Mathlib.Omega.{arith}
 use lib.ListN.{length}

@@ -1,7 +1,6 @@
 -- `make_move`: proofs/Making.antt has what the five edits leave together.
 use borrow.Author.Needs.{needs}
 use native.Mathlib.Omega.{arith}
-use mathlib.Core.Path.{_∙_}
 use Rattle.cross_depot.proofs.Making.{move-made}
 use Rattle.cross_depot.proofs.change.make_move.Statement.{statement}
 use Rattle.cross_depot.proofs.change.make_move.Tie as tie

@@ -1,5 +1,4 @@
 -- `pair_at`: each field is its definition.
-use borrow.Author.Needs.{needs}
 use native.Mathlib.Omega.{arith}
 use Rattle.cross_depot.specs.CrossDepot.{pairOf}
 use Rattle.cross_depot.proofs.pair.pair_at.Statement.{statement}

@@ -1,5 +1,4 @@
 -- `exchange_of`: both ends are those of the definition.
-use mathlib.Core.Path.{_≡_}
 use Rattle.cross_depot.proofs.search.exchange_of.Statement.{statement}
 use Rattle.cross_depot.proofs.search.exchange_of.Tie as tie
 

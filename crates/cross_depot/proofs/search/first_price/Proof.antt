@@ -1,4 +1,5 @@
 -- `first_price`: the price of the list that the move makes.
+
 use Rattle.cross_depot.proofs.search.first_price.Statement.{statement}
 use Rattle.cross_depot.proofs.search.first_price.Tie as tie
 
@@ -16,4 +17,8 @@ returns : tie.Need-returns
 returns c = c .replaced-price .ensures
 
 pub first-price-spec : {M : Type 1} → statement M
-first-price-spec = tie.close (tie.spec replaced-price-requires returns)
+first-price-spec =
+    tie.close
+    (tie.spec
+    replaced-price-requires
+    returns)

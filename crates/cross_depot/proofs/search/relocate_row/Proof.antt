@@ -1,4 +1,5 @@
--- `relocate_row`: before each place, the scan from here on comes to the whole row; what is left of the first list costs the same for every place.
+-- `relocate_row`: before each place, the scan from here on comes to the whole row; what is left of the first list costs the same for every place, and the
+-- second has room for the visit at every place.
 use mathlib.Core.Path.{_≡_, refl, sym, _∙_}
 use Prim.Native.Nat.{_+_, _-_}
 use native.Mathlib.Omega.{arith}
@@ -6,7 +7,7 @@ use lib.ListN.{length}
 use Rattle.evaluation.specs.Columns.{columns}
 use Rattle.descent.specs.Order.{range}
 use Rattle.cross_depot.specs.Scan.{scan, tryRelocation, relocateRow}
-use Rattle.cross_depot.proofs.Scanning.{scan-turn, scan-done, relocation-inside, relocation-left, relocation-tried}
+use Rattle.cross_depot.proofs.Scanning.{scan-turn, scan-done, relocation-inside, relocation-held, relocation-left, relocation-tried}
 use Rattle.cross_depot.proofs.search.relocate_row.Statement.{statement}
 use Rattle.cross_depot.proofs.search.relocate_row.Tie as tie
 
@@ -25,7 +26,7 @@ loop-holds c = refl
 relocation-of-requires : tie.Need-relocation-of-requires Inv-loop μ-loop
 relocation-of-requires c κs =
     let start = c .before .before .before .before .before .before .before .before .before .before .before in
-    omega (arith, start .pre .1 .0, start .pre .0 .2 .few)
+    omega (arith, start .pre .1 .0 .0, start .pre .0 .2 .few)
 
 try-move-requires : tie.Need-try-move-requires Inv-loop μ-loop
 try-move-requires c κs =
@@ -34,9 +35,12 @@ try-move-requires c κs =
     let start = at-loop .before .before .before .before .before .before .before .before .before .before in (
       start .pre .0,
       (
-        relocation-inside (start .args .pair) _ _ (start .args .position) (at-loop .loop .place) _ (c .relocation-of .ensures) (start .pre .1 .0)
-            (at-loop-test .loop-test .taken),
-        relocation-left (start .args .pair) _ _ _ _ _ (c .relocation-of .ensures) _ _ _ (start .pre .1 .1),
+        (
+          relocation-inside (start .args .pair) _ _ (start .args .position) (at-loop .loop .place) _ (c .relocation-of .ensures) (start .pre .1 .0 .0)
+              (at-loop-test .loop-test .taken),
+          relocation-left (start .args .pair) _ _ _ _ _ (c .relocation-of .ensures) _ _ _ (start .pre .1 .0 .1),
+        ),
+        relocation-held (start .args .pair) _ _ _ _ _ (c .relocation-of .ensures) _ (start .pre .1 .1),
       ),
     )
 
@@ -48,7 +52,8 @@ add-place c =
 
 loop-less : tie.Need-loop-less Inv-loop μ-loop
 loop-less c =
-    omega (arith, c .before .before .loop-test .taken)
+    let at-loop-test = c .before .before in
+    omega (arith, at-loop-test .loop-test .taken)
 
 loop-again : tie.Need-loop-again Inv-loop μ-loop
 loop-again c =

@@ -2,15 +2,15 @@
 use borrow.Author.Needs.{needs}
 use mathlib.Core.Path.{refl}
 use Rattle.cross_depot.proofs.Stretch.{two-turned}
-use Rattle.cross_depot.proofs.Scanning.{better-not2, better-both}
+use Rattle.cross_depot.proofs.Scanning.{price2-held, better-not2, better-both}
 use Rattle.cross_depot.proofs.search.try_move.Statement.{statement}
 use Rattle.cross_depot.proofs.search.try_move.Tie as tie
 
 replaced-price-requires : tie.Need-replaced-price-requires
 replaced-price-requires c κs =
     let start = c .before .before .before .before .before .before .before .before .before in
-    let inside = start .pre .1 .0 in (
-      (start .pre .0 .0, start .pre .0 .1 .driven2),
+    let inside = start .pre .1 .0 .0 in (
+      (start .pre .0 .0 .formed, start .pre .0 .1 .driven2),
       (
         (two-turned _ _ _ (start .pre .0 .2), inside .ordered2, inside .within2),
         (inside .ordered1, inside .within1),
@@ -27,8 +27,8 @@ returns : tie.Need-returns
 returns c =
     let at-replaced-price = c .before .before in
     let start = at-replaced-price .before .before .before .before .before .before .before .before .before .before in
-    better-not2 _ _ (start .args .pair) _ _ (start .args .tried) _ _ (start .pre .1 .1) _ refl _ (at-replaced-price .replaced-price .ensures)
-    (c .enum-told .given .1)
+    let second = price2-held _ _ (start .args .pair) _ _ (start .args .tried) _ (at-replaced-price .replaced-price .ensures) (start .pre .1 .1) in
+    better-not2 _ _ (start .args .pair) _ _ (start .args .tried) _ _ (start .pre .1 .0 .1) _ refl _ second (c .enum-told .given .1)
 
 better-of-requires : tie.Need-better-of-requires
 better-of-requires c κs = search needs
@@ -38,8 +38,9 @@ returns-2 c =
     let at-second = c .before .before in
     let at-replaced-price = at-second .before .before in
     let start = at-replaced-price .before .before .before .before .before .before .before .before .before .before in
-    better-both _ _ (start .args .pair) _ _ (start .args .tried) _ _ (start .pre .1 .1) _ refl _ (at-replaced-price .replaced-price .ensures) _ _
-    (at-second .second .given .1) (c .better-of .ensures)
+    let second = price2-held _ _ (start .args .pair) _ _ (start .args .tried) _ (at-replaced-price .replaced-price .ensures) (start .pre .1 .1) in
+    better-both _ _ (start .args .pair) _ _ (start .args .tried) _ _ (start .pre .1 .0 .1) _ refl _ second _ _ (at-second .second .given .1)
+    (c .better-of .ensures)
 
 pub try-move-spec : {M : Type 1} → statement M
 try-move-spec =
