@@ -38,9 +38,14 @@ second-fits-requires : tie.Need-second-fits-requires Inv-loop μ-loop
 second-fits-requires c κs =
     let at-loop-test = c .before in
     let at-loop = at-loop-test .before in
-    let start = at-loop .before .before .before .before .before .before .before .before .before .before .before .before in
-    ((start .pre .0 .0 .loaded, start .pre .0 .1, start .pre .0 .2), (start .pre .1, relocation-inside (start .args .pair) _ _ (at-loop .loop .next) 0 _
-    (c .relocation-of .ensures) (at-loop-test .loop-test .taken) (omega arith)))
+    let start = at-loop .before .before .before .before .before .before .before .before .before .before .before .before in (
+      (start .pre .0 .0 .loaded, start .pre .0 .1, start .pre .0 .2),
+      (
+        start .pre .1,
+        relocation-inside (start .args .pair) _ _ (at-loop .loop .next) 0 _
+            (c .relocation-of .ensures) (at-loop-test .loop-test .taken) (omega arith),
+      ),
+    )
 
 loop-less : tie.Need-loop-less Inv-loop μ-loop
 loop-less c =
@@ -63,9 +68,11 @@ first-price-requires c κs =
     let at-relocation-of = c .before .before in
     let at-loop-test = at-relocation-of .before in
     let at-loop = at-loop-test .before in
-    let start = at-loop .before .before .before .before .before .before .before .before .before .before .before .before in
-    ((start .pre .0 .0 .formed, start .pre .0 .1, start .pre .0 .2), relocation-inside (start .args .pair) _ _ (at-loop .loop .next) 0 _
-    (at-relocation-of .relocation-of .ensures) (at-loop-test .loop-test .taken) (omega arith))
+    let start = at-loop .before .before .before .before .before .before .before .before .before .before .before .before in (
+      (start .pre .0 .0 .formed, start .pre .0 .1, start .pre .0 .2),
+      relocation-inside (start .args .pair) _ _ (at-loop .loop .next) 0 _
+          (at-relocation-of .relocation-of .ensures) (at-loop-test .loop-test .taken) (omega arith),
+    )
 
 enum-known-first : tie.Need-enum-known-first Inv-loop μ-loop
 enum-known-first c = search needs
