@@ -106,5 +106,5 @@ fn row(bench: &mut Bench, engine: Engine, both: &Both) {
     let mut changed = Changed::of(both);
     let refusal = changed.run(engine, both);
     agree(&row, &expected, refusal, &changed.ran());
-    bench.measure(Row { moves: Some((expected.1, expected.2)), ..row }, || engine.rust(both), || both.refusal(), || changed.run(engine, both));
+    bench.measure(Row { moves: Some((expected.1, expected.2)), ..row }, || engine.rust(both), || both.refusal_of_lists(), || changed.run(engine, both));
 }
