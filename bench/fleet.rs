@@ -10,7 +10,7 @@ use std::hint::black_box;
 
 /// Offices and lists.
 const DAYS: [(usize, usize); 6] = [(30, 2), (10, 4), (30, 4), (60, 4), (30, 16), (60, 16)];
-const LIMIT: u32 = 200;
+const LIMIT: u32 = 20;
 
 pub fn rows(bench: &mut Bench) {
     for kind in KINDS {

@@ -50,8 +50,8 @@ The figures are what one run measured; nothing is put in by hand.
   these tests, and is measured for itself: 'less' is the entry without them.
 - The Rust's matrix keeps the largest distance and the symmetry from call to call. An entry works them out at each call (table is
   that work, and there the Rust does it as well); it is a part of 'less'.
-- Time is the thread's own processor time. The three sides are called in turn, in rounds of 20 microseconds or one call, for half
-  a second a row and seven rounds at least. Times are medians of the rounds, and a ratio is the median of the rounds' ratios.
+- Time is the thread's own processor time. The three sides are called in turn, in rounds of 20 microseconds or one call, for 0.3
+  seconds a row and seven rounds at least. Times are medians of the rounds, and a ratio is the median of the rounds' ratios.
 - Instructions are those of one call under callgrind: load does not change them.
 - Of the checks (table to schedule) the refusals take many times the check itself: 'less' is then a small difference of large
   times, and the ratio of instructions says more.

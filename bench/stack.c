@@ -18,10 +18,18 @@ static double service[PLACES], ready[PLACES], due[PLACES], penalty[PLACES], dist
 static struct planner_van van;
 static uint16_t visits[PLACES], lengths[LISTS];
 static size_t offices, lists;
+static uint32_t ids[LISTS], van_ids[VANS];
+static size_t van_depots[VANS];
+static int32_t capacities[VANS];
+static uint8_t van_flags[VANS];
+static double prices[LISTS], costs[VANS], fixed_costs[VANS], unlimited[VANS], earliest[VANS], latest[VANS], durations[VANS];
 
 #define DAY                                                                                                                       \
-    PLACES, flags, PLACES, demand, PLACES, service, PLACES, ready, PLACES, due, PLACES, penalty, PLACES, distances, PLACES *PLACES, \
+    PLACES, flags, PLACES, demand, PLACES, service, PLACES, ready, PLACES, due, PLACES, penalty, PLACES, distances, PLACES * PLACES, \
         NULL, 0
+#define FLEET                                                                                                               \
+    van_ids, VANS, van_depots, VANS, capacities, VANS, costs, VANS, fixed_costs, VANS, van_flags, VANS, unlimited, VANS,    \
+        unlimited, VANS, earliest, VANS, latest, VANS, durations, VANS
 #define ALL_LISTS visits, offices, lengths, lists
 
 /* Each entry with places for its answers; the first list is asked for. */
@@ -43,6 +51,11 @@ static void or_opt(void) { refusal = planner_or_opt_improve(DAY, van, ALL_LISTS,
 static void three_opt(void) { refusal = planner_three_opt_improve(DAY, van, ALL_LISTS, 0, LIMIT, &settled, &moves, &distance); }
 static void relocate(void) { refusal = planner_relocate_improve(DAY, van, ALL_LISTS, LIMIT, 1, &settled, &moves, &remaining); }
 static void exchange(void) { refusal = planner_exchange_improve(DAY, van, ALL_LISTS, LIMIT, &settled, &moves, &remaining); }
+static void refusal_of_lists(void) { refusal = planner_refusal_of_lists(DAY, van, ALL_LISTS); }
+static void refusal_of_fleet(void) { refusal = planner_refusal_of_fleet(DAY, FLEET, ALL_LISTS, ids, lists, prices, lists); }
+static void cross_depot(void) {
+    refusal = planner_cross_depot_improve(DAY, FLEET, ALL_LISTS, ids, lists, prices, lists, LIMIT, &settled, &moves, &remaining);
+}
 static void nothing(void) {}
 
 static const struct row {
@@ -61,6 +74,9 @@ static const struct row {
     {"planner_three_opt_improve", three_opt, 1, 1},
     {"planner_relocate_improve", relocate, 1, LISTS},
     {"planner_exchange_improve", exchange, 1, LISTS},
+    {"planner_refusal_of_lists", refusal_of_lists, 1, LISTS},
+    {"planner_refusal_of_fleet", refusal_of_fleet, 2, LISTS},
+    {"planner_cross_depot_improve", cross_depot, 2, LISTS},
 };
 
 /* Places in no order with whole distances, and windows: soft ones that close one after another, or hard ones that stay open. */
@@ -87,6 +103,20 @@ static void make_lists(size_t leading, size_t count) {
     for (size_t r = 0; r < count; r++) lengths[r] = (uint16_t)(offices / count + (r < offices % count));
 }
 
+/* A van with a break for each list, from the depots in turn. */
+static void make_fleet(size_t leading) {
+    for (size_t k = 0; k < VANS; k++) {
+        van_ids[k] = ids[k] = (uint32_t)k;
+        van_depots[k] = k % leading;
+        capacities[k] = PLACES;
+        van_flags[k] = 4;
+        costs[k] = 1;
+        latest[k] = 1000;
+        durations[k] = 5;
+        prices[k] = 1000;
+    }
+}
+
 static size_t depth(void (*entry)(void)) {
     memset(stack, MARK, sizeof stack);
     getcontext(&callee);
@@ -106,6 +136,7 @@ static size_t depth_of(const struct row *row, int soft) {
     for (int call = 0; call < 2; call++) {
         make_day(row->depots, soft);
         make_lists(row->depots, row->lists);
+        make_fleet(row->depots);
         deepest = depth(row->entry) - depth(nothing);
     }
     return deepest;
