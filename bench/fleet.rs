@@ -4,7 +4,7 @@ use crate::local_search;
 use crate::models::Solution;
 use crate::oracle;
 use crate::planner::*;
-use crate::rows::{agree, Bench, Both, Row};
+use crate::rows::{agree, lists_of, Bench, Both, Row};
 use crate::timed_days::KINDS;
 use std::hint::black_box;
 
@@ -57,13 +57,8 @@ impl Changed {
     }
 
     fn ran(&self) -> Ran {
-        let mut lists = Vec::new();
-        let mut rest = &self.visits[..];
-        for (length, id) in self.lengths[..self.remaining].iter().zip(&self.van_ids) {
-            let (list, behind) = rest.split_at(usize::from(*length));
-            lists.push((*id as usize, list.iter().map(|visit| usize::from(*visit)).collect()));
-            rest = behind;
-        }
+        let ids = self.van_ids.iter().map(|id| *id as usize);
+        let lists = ids.zip(lists_of(&self.visits, &self.lengths[..self.remaining])).collect();
         (lists, u64::from(self.moves), self.settled == 1)
     }
 }

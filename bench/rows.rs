@@ -88,6 +88,12 @@ impl Both {
     }
 }
 
+/// The lists of a table of visits, as the Rust has them.
+pub fn lists_of(visits: &[u16], lengths: &[u16]) -> Vec<Vec<usize>> {
+    let mut rest = visits.iter().map(|visit| usize::from(*visit));
+    lengths.iter().map(|length| rest.by_ref().take(usize::from(*length)).collect()).collect()
+}
+
 /// Ends the run where the sides differ.
 pub fn agree<T: PartialEq + Debug>(row: &Row, rust: &T, refusal: u8, entry: &T) {
     assert_eq!(refusal, 0, "the library refuses: {row}");
