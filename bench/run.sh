@@ -39,8 +39,8 @@ introduction() {
     cat << END
 # Benchmarks
 
-Written by \`bench/run.sh OUT\` on $(date -u +%F), on a machine of $(nproc) cores ($(uname -m)) that other work shared: load
-$(cut -d' ' -f1 /proc/loadavg) at the start. The Rust is compiled by $(rustc --version | cut -d' ' -f1,2), opt-level 3.
+Written by \`bench/run.sh OUT\` on $(date -u +%F), on a machine of $(nproc) cores ($(uname -m)), load $(cut -d' ' -f1 /proc/loadavg) at the start. The Rust is
+compiled by $(rustc --version | cut -d' ' -f1,2), opt-level 3.
 The figures are what one run measured; nothing is put in by hand.
 
 - Every entry of include/planner.h that answers more than a refusal runs against the published Rust's function of the same work, in
