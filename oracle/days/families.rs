@@ -15,6 +15,8 @@ pub const FAMILIES: [&str; 45] = [
     "empty-lists", "many-lists", "long", "fleet", "big", "full", "any", "vans", "vans-windows", "vans-whole", "vans-rules", "vans-ids",
     "vans-prices", "vans-over", "vans-16", "vans-few", "vans-empty-lists", "vans-full",
 ];
+/// The first of those for cross-depot.
+pub const FOR_FLEETS: usize = 34;
 
 /// The runs that compare only values; every one of them ends.
 pub const CHECKS: [&str; 5] = ["feasible", "eval", "schedule", "distance", "table"];
@@ -172,11 +174,12 @@ pub fn day(family: usize, seed: u64, number: u64, small: bool, engines: &[&str])
         Some(crew) => equip(&mut day, crew, &mut random),
         None => loads(&mut day, recipe.fleet, &mut random),
     }
-    let list = random.index(day.lists.len().max(1));
     if recipe.rest != Rest::None {
+        let list = random.index(day.lists.len());
         rest(&mut day, 0, list, recipe.rest, &mut random);
     }
     if recipe.limits {
+        let list = random.index(day.lists.len());
         limits(&mut day, 0, list, &mut random);
     }
     if FAMILIES[family] == "demand-3" {

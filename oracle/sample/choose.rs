@@ -1,6 +1,6 @@
 //! Which days and runs are stored, with the reference's answers.
 use crate::days::day::{Day, Run};
-use crate::days::families::{day, engines_named, ACROSS, FAMILIES, WITHIN};
+use crate::days::families::{day, engines_named, ACROSS, FAMILIES, FOR_FLEETS, WITHIN};
 use crate::days::options::{fail, Options};
 use crate::days::text::Reader;
 use crate::encode;
@@ -18,8 +18,8 @@ const LARGE_FOR_MANY: i64 = 6;
 const MANY: usize = 24;
 /// The same for the engines over all lists, of which some runs never end.
 const LARGE_ACROSS: i64 = 40;
-/// The engines over all lists that are stored: cross-depot isn't.
-const STORED_ACROSS: usize = 3;
+/// The engines over all lists of one van; cross-depot has its own days.
+const OF_ONE_VAN: usize = 3;
 
 type Answered = (Day, Lines);
 
@@ -33,7 +33,7 @@ pub fn checks(options: &Options, reference: &Program) -> Vec<Vec<u8>> {
     let (seed, largest) = (options.number("seed", 1), options.number("largest", 400) as usize);
     let names = options.text("runs", "feasible,eval,schedule,distance");
     let engines = engines_named(&names);
-    in_turn(|family| {
+    in_turn(0..FOR_FLEETS, |family| {
         let days = (0..TRIED).map(|number| day(family, seed, number, true, &engines)).collect();
         encoded(answered(days, reference), largest)
     })
@@ -42,17 +42,36 @@ pub fn checks(options: &Options, reference: &Program) -> Vec<Vec<u8>> {
 /// Days of any size with runs of the engines, families in turn.
 pub fn engines(options: &Options, reference: &Program) -> Vec<Vec<u8>> {
     let (seed, largest) = (options.number("seed", 1), options.number("engines-largest", 7_000) as usize);
-    in_turn(|family| {
+    in_turn(0..FOR_FLEETS, |family| {
         let days = (0..TRIED_ENGINES).map(|number| asking_engines(day(family, seed, number, false, &[]))).collect();
-        let told = answered(days, reference).into_iter().enumerate();
-        let moving = told.filter(|(number, (_, lines))| number % IDLE == 0 || lines.iter().any(|line| moves(line) > 0));
-        encoded(moving.map(|(_, day)| without_repeats(day)).collect(), largest)
+        encoded(moving(answered(days, reference)), largest)
     })
 }
 
+/// Days with runs of cross-depot, the families made for it in turn.
+pub fn fleets(options: &Options, reference: &Program) -> Vec<Vec<u8>> {
+    let (seed, largest) = (options.number("seed", 1), options.number("fleets-largest", 3_000) as usize);
+    in_turn(FOR_FLEETS..FAMILIES.len(), |family| {
+        let asking = |number| {
+            let mut day = day(family, seed, number, false, &[]);
+            let large = if day.locations() > MANY { LARGE_FOR_MANY } else { LARGE_ACROSS };
+            ask(&mut day, "cross", 0, large);
+            day
+        };
+        encoded(moving(answered((0..TRIED).map(asking).collect(), reference)), largest)
+    })
+}
+
+/// The days on which something moves, and some of the others.
+fn moving(days: Vec<Answered>) -> Vec<Answered> {
+    let told = days.into_iter().enumerate();
+    let moving = told.filter(|(number, (_, lines))| number % IDLE == 0 || lines.iter().any(|line| moves(line) > 0));
+    moving.map(|(_, day)| without_repeats(day)).collect()
+}
+
 /// The first day of each family, then the second of each, and so on.
-fn in_turn(of_family: impl Fn(usize) -> Vec<Vec<u8>>) -> Vec<Vec<u8>> {
-    let families: Vec<Vec<Vec<u8>>> = (0..FAMILIES.len()).map(of_family).collect();
+fn in_turn(families: std::ops::Range<usize>, of_family: impl Fn(usize) -> Vec<Vec<u8>>) -> Vec<Vec<u8>> {
+    let families: Vec<Vec<Vec<u8>>> = families.map(of_family).collect();
     let turns = families.iter().map(Vec::len).max().unwrap_or(0);
     (0..turns).flat_map(|turn| families.iter().filter_map(move |days| days.get(turn).cloned())).collect()
 }
@@ -91,7 +110,7 @@ fn asking_engines(mut day: Day) -> Day {
             ask(&mut day, engine, list, if many { LARGE_FOR_MANY } else { LARGE });
         }
     }
-    for engine in &ACROSS[..STORED_ACROSS] {
+    for engine in &ACROSS[..OF_ONE_VAN] {
         ask(&mut day, engine, 0, if many { LARGE_FOR_MANY } else { LARGE_ACROSS });
     }
     day

@@ -1,5 +1,5 @@
 //! Reads the stored sample back, from README.md's words alone, as days and the lines of their runs.
-use crate::days::day::{Day, Run, Van};
+use crate::days::day::{Day, Fleet, Run, Van};
 use crate::days::text::hex;
 
 struct Bytes<'a> {
@@ -33,6 +33,10 @@ impl Bytes<'_> {
     fn whole(&mut self) -> Option<u64> {
         let byte = self.byte()?;
         if byte < 128 { Some(u64::from(byte)) } else { self.entry(byte) }
+    }
+
+    fn wholes(&mut self, count: usize) -> Option<Vec<u64>> {
+        (0..count).map(|_| self.whole()).collect()
     }
 
     fn number(&mut self) -> Option<f64> {
@@ -109,7 +113,7 @@ fn runs(input: &mut Bytes, day: &mut Day) -> Option<Vec<String>> {
     for _ in 0..input.byte()? {
         let tag = input.byte()?;
         let end = usize::from(input.byte()?) + input.at;
-        if let Some((run, answer)) = run(input, &day.lists, tag)? {
+        if let Some((run, answer)) = run(input, day, tag)? {
             lines.push(format!("{} {answer}", run.engine));
             day.runs.push(run);
         } else {
@@ -123,7 +127,7 @@ fn runs(input: &mut Bytes, day: &mut Day) -> Option<Vec<String>> {
 }
 
 /// A run and its answer; within, none for a tag that isn't known.
-fn run(input: &mut Bytes, lists: &[Vec<u16>], tag: u8) -> Option<Option<(Run, String)>> {
+fn run(input: &mut Bytes, day: &mut Day, tag: u8) -> Option<Option<(Run, String)>> {
     let engine = match tag {
         1 => "feasible",
         2 => "eval",
@@ -135,11 +139,17 @@ fn run(input: &mut Bytes, lists: &[Vec<u16>], tag: u8) -> Option<Option<(Run, St
         19 => "relocate",
         20 => "relocate_np",
         21 => "exchange",
+        22 => "cross",
         _ => return Some(None),
     };
+    if tag == 22 {
+        for_fleet(input, day)?;
+    }
+    let lists = &day.lists;
     if tag > 18 {
         let limit = input.whole()? as i64;
-        return Some(Some((Run { engine: engine.to_string(), limit, list: 0 }, end_of_all(input, lists)?)));
+        let answer = end_of_all(input, lists, tag == 22)?;
+        return Some(Some((Run { engine: engine.to_string(), limit, list: 0 }, answer)));
     }
     let list = u64::from(input.byte()?);
     let limit = if tag < 16 { 0 } else { input.whole()? as i64 };
@@ -150,6 +160,28 @@ fn run(input: &mut Bytes, lists: &[Vec<u16>], tag: u8) -> Option<Option<(Run, St
         _ => end(input, lists.get(list as usize)?.len())?,
     };
     Some(Some((Run { engine: engine.to_string(), limit, list }, answer)))
+}
+
+/// Reads the fleet, the van ids and the prices of the lists, which stand in every run for a fleet, into the day.
+fn for_fleet(input: &mut Bytes, day: &mut Day) -> Option<()> {
+    let (vans, lists) = (usize::from(input.byte()?), day.lists.len());
+    let fleet = Fleet {
+        ids: input.wholes(vans)?.into_iter().map(|id| id as u32).collect(),
+        depots: input.wholes(vans)?.into_iter().map(|depot| depot as usize).collect(),
+        capacities: input.wholes(vans)?.into_iter().map(|capacity| capacity as i32).collect(),
+        distance_costs: input.numbers(vans)?,
+        fixed_costs: input.numbers(vans)?,
+        flags: input.bytes(vans)?,
+        max_distances: input.numbers(vans)?,
+        max_durations: input.numbers(vans)?,
+        earliest: input.numbers(vans)?,
+        latest: input.numbers(vans)?,
+        durations: input.numbers(vans)?,
+    };
+    day.vans = fleet.vans();
+    day.van_ids = input.wholes(lists)?.into_iter().map(|id| id as u32).collect();
+    day.prices = input.numbers(lists)?;
+    Some(())
 }
 
 /// What a list comes to, with the break where it is a schedule.
@@ -177,8 +209,9 @@ fn visits(input: &mut Bytes, count: usize) -> Option<String> {
     Some(input.bytes(count)?.iter().map(u8::to_string).collect::<Vec<_>>().join(","))
 }
 
-/// How a run over all lists ended, the lists handed back and how many remain. The lengths behind these are 0, and all visits are there.
-fn end_of_all(input: &mut Bytes, lent: &[Vec<u16>]) -> Option<String> {
+/// How a run over all lists ended, the lists handed back, where they have ids these too, and how many remain. The lengths and
+/// ids behind these are 0, and all visits are there.
+fn end_of_all(input: &mut Bytes, lent: &[Vec<u16>], with_ids: bool) -> Option<String> {
     let word = if input.byte()? == 0 { "settled" } else { "stopped" };
     let (moves, remaining) = (input.whole()?, usize::from(input.byte()?));
     let lengths: Vec<usize> = input.bytes(lent.len())?.into_iter().map(usize::from).collect();
@@ -186,5 +219,14 @@ fn end_of_all(input: &mut Bytes, lent: &[Vec<u16>]) -> Option<String> {
         return None;
     }
     let lists: Option<Vec<String>> = lengths.iter().take(remaining).map(|length| visits(input, *length)).collect();
-    Some(format!("{word} {moves} [{}] {remaining}", lists?.join("|")))
+    let lists = lists?.join("|");
+    if !with_ids {
+        return Some(format!("{word} {moves} [{lists}] {remaining}"));
+    }
+    let ids = input.wholes(lent.len())?;
+    if ids.iter().skip(remaining).any(|id| *id > 0) {
+        return None;
+    }
+    let ids = ids.iter().take(remaining).map(u64::to_string).collect::<Vec<_>>().join(",");
+    Some(format!("{word} {moves} [{lists}] ids {ids} {remaining}"))
 }

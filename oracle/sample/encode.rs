@@ -1,11 +1,12 @@
 //! A day and its answers as bytes (README.md, 'The stored sample').
-use crate::days::day::{Day, Run};
+use crate::days::day::{Day, Fleet, Run};
+use crate::days::fleet;
 
 /// From this byte on a number stands in the day's table.
 const TABLED: u8 = 128;
 
 /// The runs that are stored, with their tags.
-pub const TAGS: [(&str, u8); 10] = [
+pub const TAGS: [(&str, u8); 11] = [
     ("feasible", 1),
     ("eval", 2),
     ("schedule", 3),
@@ -16,6 +17,7 @@ pub const TAGS: [(&str, u8); 10] = [
     ("relocate", 19),
     ("relocate_np", 20),
     ("exchange", 21),
+    ("cross", 22),
 ];
 
 pub const ENDS: [&str; 2] = ["settled", "stopped"];
@@ -61,10 +63,13 @@ impl Table {
     }
 }
 
-/// The day's bytes; none where it has too many numbers, or a run that isn't stored.
+/// The day's bytes; none where it has too many numbers, no run, or a run that isn't stored.
 pub fn day(day: &Day, lines: &[String]) -> Option<Vec<u8>> {
     let mut table = Table(Vec::new());
     let mut rest = Vec::new();
+    if day.runs.is_empty() {
+        return None;
+    }
     columns(day, &mut table, &mut rest)?;
     van(day, &mut table, &mut rest)?;
     rest.push(day.lists.len() as u8);
@@ -72,7 +77,7 @@ pub fn day(day: &Day, lines: &[String]) -> Option<Vec<u8>> {
     rest.extend(day.lists.iter().flatten().map(|visit| *visit as u8));
     rest.push(u8::try_from(day.runs.len()).ok()?);
     for (run, line) in day.runs.iter().zip(lines) {
-        let (tag, payload) = answer(run, line, day.lists.len(), &mut table)?;
+        let (tag, payload) = answer(day, run, line, &mut table)?;
         rest.extend([tag, u8::try_from(payload.len()).ok()?]);
         rest.extend(payload);
     }
@@ -96,8 +101,9 @@ fn columns(day: &Day, table: &mut Table, out: &mut Vec<u8>) -> Option<()> {
     table.numbers(out, &day.times)
 }
 
+/// The first van; of a day without one, any.
 fn van(day: &Day, table: &mut Table, out: &mut Vec<u8>) -> Option<()> {
-    let van = &day.vans[0];
+    let van = day.vans.first().cloned().unwrap_or_else(|| fleet::van(0, 0, 0.0, 0.0));
     for whole in [u64::from(van.id), van.depot, van.capacity as u64] {
         out.push(table.whole(whole)?);
     }
@@ -107,11 +113,21 @@ fn van(day: &Day, table: &mut Table, out: &mut Vec<u8>) -> Option<()> {
 }
 
 /// The run's tag and what stands behind its size.
-fn answer(run: &Run, line: &str, lists: usize, table: &mut Table) -> Option<(u8, Vec<u8>)> {
+fn answer(day: &Day, run: &Run, line: &str, table: &mut Table) -> Option<(u8, Vec<u8>)> {
     let words: Vec<&str> = line.split(' ').skip(1).collect();
-    let tag = tag(&run.engine)?;
-    if let ("relocate" | "relocate_np" | "exchange", [end, moves, back, remaining]) = (run.engine.as_str(), &words[..]) {
-        return Some((tag, over_all_lists(run.limit, [end, moves, back, remaining], lists, table)?));
+    let (tag, lists) = (tag(&run.engine)?, day.lists.len());
+    match (run.engine.as_str(), &words[..]) {
+        ("relocate" | "relocate_np" | "exchange", [end, moves, back, remaining]) => {
+            return Some((tag, over_all_lists(run.limit, [end, moves, back, remaining], lists, table)?));
+        }
+        ("cross", [end, moves, back, "ids", ids, remaining]) => {
+            let mut out = for_fleet(day, table)?;
+            out.extend(over_all_lists(run.limit, [end, moves, back, remaining], lists, table)?);
+            let ids: Vec<u64> = ids.split(',').filter(|id| !id.is_empty()).map(|id| id.parse().ok()).collect::<Option<_>>()?;
+            put_wholes(&mut out, ids.into_iter().chain(std::iter::repeat(0)).take(lists), table)?;
+            return Some((tag, out));
+        }
+        _ => {}
     }
     let mut out = vec![run.list as u8];
     match (run.engine.as_str(), &words[..]) {
@@ -131,6 +147,31 @@ fn answer(run: &Run, line: &str, lists: usize, table: &mut Table) -> Option<(u8,
         _ => return None,
     }
     Some((tag, out))
+}
+
+fn put_wholes(out: &mut Vec<u8>, wholes: impl Iterator<Item = u64>, table: &mut Table) -> Option<()> {
+    for whole in wholes {
+        out.push(table.whole(whole)?);
+    }
+    Some(())
+}
+
+/// The number of vans, the fleet's columns, the van ids and the prices of the lists.
+fn for_fleet(day: &Day, table: &mut Table) -> Option<Vec<u8>> {
+    let fleet = Fleet::of(&day.vans);
+    let mut out = vec![fleet.ids.len() as u8];
+    put_wholes(&mut out, fleet.ids.iter().map(|id| u64::from(*id)), table)?;
+    put_wholes(&mut out, fleet.depots.iter().map(|depot| *depot as u64), table)?;
+    put_wholes(&mut out, fleet.capacities.iter().map(|capacity| *capacity as u64), table)?;
+    table.numbers(&mut out, &fleet.distance_costs)?;
+    table.numbers(&mut out, &fleet.fixed_costs)?;
+    out.extend(&fleet.flags);
+    for column in [&fleet.max_distances, &fleet.max_durations, &fleet.earliest, &fleet.latest, &fleet.durations] {
+        table.numbers(&mut out, column)?;
+    }
+    put_wholes(&mut out, day.van_ids.iter().map(|id| u64::from(*id)), table)?;
+    table.numbers(&mut out, &day.prices)?;
+    Some(out)
 }
 
 /// Limit, end word, moves, distance and the list handed back.

@@ -1,8 +1,8 @@
 //! sample: a file of days with the reference's answers, for a program that has no Rust at hand (README.md has the format).
 //!   sample write FILE [--kept DAYS] [--seed N] [--bytes N] [--largest N] [--runs NAME,..] [--engines-bytes N]
-//!                     [--engines-largest N] [--reference PROGRAM]
+//!                     [--engines-largest N] [--fleets-bytes N] [--fleets-largest N] [--reference PROGRAM]
 //!                                               the days of the text file DAYS first, then generated ones: small days
-//!                                               for the checks, then days for the engines
+//!                                               for the checks, days for the engines, days for cross-depot
 //!   sample check FILE [--reference PROGRAM]     reads the file back and holds it to the reference
 //!   sample count FILE                           prints how many runs it has of each kind and answer
 //!   sample text FILE                            prints it in the text format
@@ -19,7 +19,9 @@ use days::text::put_day;
 use programs::{Lines, Program};
 use std::collections::BTreeMap;
 
-const NAMES: [&str; 8] = ["seed", "bytes", "largest", "runs", "engines-bytes", "engines-largest", "reference", "kept"];
+const NAMES: [&str; 10] = [
+    "seed", "bytes", "largest", "runs", "engines-bytes", "engines-largest", "fleets-bytes", "fleets-largest", "reference", "kept",
+];
 
 fn main() {
     let options = Options::read(&NAMES);
@@ -35,7 +37,7 @@ fn main() {
     }
 }
 
-/// The kept days, then the days for the checks and those for the engines, of each as many as there is room for.
+/// The kept days, then the days for the checks, for the engines and for cross-depot, of each as many as there is room for.
 fn write(file: &str, options: &Options, reference: &Program) {
     let mut out = vec![0, 0];
     let room = options.number("bytes", 60_000) as usize;
@@ -44,6 +46,8 @@ fn write(file: &str, options: &Options, reference: &Program) {
     count += put(&mut out, choose::checks(options, reference), room);
     let room = out.len() + options.number("engines-bytes", 350_000) as usize;
     count += put(&mut out, choose::engines(options, reference), room);
+    let room = out.len() + options.number("fleets-bytes", 80_000) as usize;
+    count += put(&mut out, choose::fleets(options, reference), room);
     out[..2].copy_from_slice(&count.to_le_bytes());
     if std::fs::write(file, &out).is_err() {
         fail(&format!("can't write {file}"));

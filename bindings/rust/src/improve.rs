@@ -42,7 +42,7 @@ pub struct Improved {
     pub distance: f64,
 }
 
-/// An entry and the words of its documentation. The two tables are the caller's; the lengths stay as they are.
+/// An engine within a list: its words, its name here, and the library's entry.
 macro_rules! engine {
     ($(#[$words:meta])* $name:ident, $entry:ident) => {
         $(#[$words])*

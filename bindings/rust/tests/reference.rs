@@ -45,29 +45,31 @@ fn the_days_of_the_text_have_the_reference_s_answers() {
 
 fn answer(day: &Day, run: &Run) -> String {
     let lent = Lent::of(day);
-    let van = vehicle(day.vans.first().expect("a stored day has a van"));
+    let answer = if run.engine == "cross" { cross(day, &lent, run) } else { answer_for_van(day, &lent, run) };
+    answer.unwrap_or_else(|refusal| refusal.to_string())
+}
+
+fn answer_for_van(day: &Day, lent: &Lent, run: &Run) -> Result<String, Refusal> {
+    let van = vehicle(day.vans.first().expect("a day of such runs has a van"));
     let lists = Lists { visits: &lent.visits, lengths: &lent.lengths };
     let list = run.list as usize;
-    let borrowed = &columns(&lent);
-    assert_eq!(refusal_of(lists, list, borrowed, &van), Ok(()));
-    let answer = match run.engine.as_str() {
+    let borrowed = &columns(lent);
+    refusal_of(lists, list, borrowed, &van)?;
+    refusal_of_lists(lists, borrowed, &van)?;
+    match run.engine.as_str() {
         "feasible" => route_feasible(lists, list, borrowed, &van).map(|passes| u8::from(passes).to_string()),
-        "eval" => {
-            route_eval(lists, list, borrowed, &van).map(|eval| eval.map_or("none".to_string(), |eval| format!("some {}", totals(eval))))
-        }
+        "eval" => route_eval(lists, list, borrowed, &van).map(evaluated),
         "schedule" => schedule(lists, list, borrowed, &van).map(scheduled),
         "distance" => route_distance(lists, list, borrowed, &van).map(hex),
         "table" => table_of(borrowed, &van).map(table),
-        "two_opt" => within(two_opt_improve, &lent, run, &van),
-        "or_opt" => within(or_opt_improve, &lent, run, &van),
-        "three_opt" => within(three_opt_improve, &lent, run, &van),
-        "relocate" => across(relocate_improve, &lent, run, &van),
-        "relocate_np" => across(relocate_improve_unpruned, &lent, run, &van),
-        "exchange" => across(exchange_improve, &lent, run, &van),
-        "cross" => cross(day, &lent, run),
+        "two_opt" => within(two_opt_improve, lent, run, &van),
+        "or_opt" => within(or_opt_improve, lent, run, &van),
+        "three_opt" => within(three_opt_improve, lent, run, &van),
+        "relocate" => across(relocate_improve, lent, run, &van),
+        "relocate_np" => across(relocate_improve_unpruned, lent, run, &van),
+        "exchange" => across(exchange_improve, lent, run, &van),
         engine => panic!("no run is called {engine}"),
-    };
-    answer.unwrap_or_else(|refusal| refusal.to_string())
+    }
 }
 
 fn columns(lent: &Lent) -> planner::Day<'_> {
@@ -107,6 +109,10 @@ fn limit(run: &Run) -> u32 {
 
 fn totals(eval: RouteEval) -> String {
     [eval.distance, eval.duration, eval.lateness, eval.lateness_cost].map(hex).join(" ")
+}
+
+fn evaluated(passes: Option<RouteEval>) -> String {
+    passes.map_or("none".to_string(), |eval| format!("some {}", totals(eval)))
 }
 
 fn scheduled(found: Option<Scheduled>) -> String {
@@ -155,6 +161,7 @@ fn cross(day: &Day, lent: &Lent, run: &Run) -> Result<String, Refusal> {
     let (mut visits, mut lengths, mut ids) = (lent.visits.clone(), lent.lengths.clone(), lent.van_ids.clone());
     let lists = &mut ListsMut { visits: &mut visits, lengths: &mut lengths };
     let fleet = FleetColumns::of(&day.vans.iter().map(vehicle).collect::<Vec<_>>());
+    refusal_of_fleet(lists.as_lists(), &ids, &lent.prices, &columns(lent), &fleet.fleet())?;
     let Rearranged { end, moves, remaining } =
         cross_depot_improve(lists, &mut ids, &lent.prices, &columns(lent), &fleet.fleet(), limit(run))?;
     let lists = remaining_lists(lists.as_lists(), remaining);

@@ -48,6 +48,13 @@ pub record Two (l : ℕ) (X Y : List ℕ) : Type 0 where
   pub other-below : (k : ℕ) → k < length Y → getD Y k 0 < l
   pub few : length X + length Y ≤ 63
 
+-- of a move between two lists: its stretches lie in them
+pub record Stretches (X Y : List ℕ) (m : Move) : Type 0 where
+  pub ordered1 : m .from1 ≤ m .to1
+  pub within1 : m .to1 ≤ length X
+  pub ordered2 : m .from2 ≤ m .to2
+  pub within2 : m .to2 ≤ length Y
+
 -- of the tables: the lists are laid out, each visit is a location, and there are at most 63
 pub record Held (l : ℕ) (visits lengths : List ℕ) : Type 0 where
   pub laid : Laid visits lengths

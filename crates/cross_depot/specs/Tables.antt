@@ -58,6 +58,15 @@ pub record Made (p : Plan) (m : Move) (cost1 cost2 : Float) (visits visits′ le
   pub no-lengths : drop kept lengths′ ≡ replicate (length lengths′ - kept) 0
   pub no-ids : drop kept ids′ ≡ replicate (length ids′ - kept) 0
 
+-- the same for the first n lists of the tables: what stands behind them stays as it is
+pub record MadeIn (n : ℕ) (m : Move) (cost1 cost2 : Float) (visits lengths ids : List ℕ) (costs : List Float) (visits′ lengths′ ids′ : List ℕ)
+    (costs′ : List Float) (kept : ℕ) : Type 0 where
+  pub made : Made (planOf visits (take n lengths) (take n ids) (take n costs)) m cost1 cost2 visits
+      visits′ (take n lengths′) (take n ids′) (take n costs′) kept
+  pub other-lengths : drop n lengths′ ≡ drop n lengths
+  pub other-ids : drop n ids′ ≡ drop n ids
+  pub other-costs : drop n costs′ ≡ drop n costs
+
 -- ---- the run
 
 -- of the choice of a search: it is the definition's, and where there is a move it can be made, and its costs are those of its two lists

@@ -12,9 +12,9 @@ ghost use Prim.Native.Nat.{_+_, _≤_, _<_};
 ghost use lib.ListN.{length};
 ghost use Rattle.evaluation.specs.Columns.{columnsAt};
 ghost use Rattle.cross_depot.specs.declared.price.Price.the-variants.{Costs};
-ghost use Rattle.cross_depot.specs.CrossDepot.{allowed, replaced, stretchEnd, cuts, sameDepot};
-ghost use Rattle.cross_depot.specs.Scan.{Asked, Paired, Two, single, decided, relocateRow, exchangeRow, bestRelocation, bestSwap, bestTails};
-ghost use Rattle.cross_depot.specs.Scan.{bestBetween, Held, planOf, bestFrom, bestOf};
+ghost use Rattle.cross_depot.specs.CrossDepot.{allowed, replaced, relocation, stretchEnd, exchange, cuts, sameDepot};
+ghost use Rattle.cross_depot.specs.Scan.{Asked, Paired, Two, Stretches, single, decided, price1, better, relocateRow, exchangeRow, bestRelocation};
+ghost use Rattle.cross_depot.specs.Scan.{bestSwap, bestTails, bestExchange, bestBetween, Held, planOf, bestFrom, bestOf};
 ghost use Rattle.fleet.specs.Fleet.{fleetAt, Manned};
 
 // The best move so far, with its delta and what its two lists cost; while none is found, the delta is minus the floor.
@@ -72,6 +72,137 @@ fn is_same_depot(pair: Pair) -> bool
     pair.van1.depot == pair.van2.depot
 }
 
+// ---- a move between two lists
+
+// The visit at `position` of the first list goes to `place` of the second.
+fn relocation_of(pair: Pair, position: usize, place: usize) -> Move
+    requires { ⌜ position ≤ 65535 ⌝ }
+    ensures { λ r. ⌜ r ≡ relocation (pair .one) (pair .other) position place ⌝ }
+{
+    Move {
+        one: pair.one,
+        from1: position,
+        to1: position + 1,
+        other: pair.other,
+        from2: place,
+        to2: place,
+        tested: false,
+    }
+}
+
+// The visit k1 of the first list of n1, or its tail from k1 on, goes in the place of that of the second.
+fn exchange_of(pair: Pair, tails: bool, n1: usize, n2: usize, k1: usize, k2: usize) -> Move
+    requires { ⌜ (k1 ≤ 65535) × (k2 ≤ 65535) ⌝ }
+    ensures { λ r. ⌜ r ≡ exchange tails (pair .one) (pair .other) n1 n2 k1 k2 ⌝ }
+{
+    let end1 = stretch_end(tails, n1, k1);
+    let end2 = stretch_end(tails, n2, k2);
+    Move {
+        one: pair.one,
+        from1: k1,
+        to1: end1,
+        other: pair.other,
+        from2: k2,
+        to2: end2,
+        tested: true,
+    }
+}
+
+// The price of the first list after a move.
+fn first_price(
+    l: usize,
+    flags: &[u8],
+    demand: &[i32],
+    service: &[f64],
+    ready: &[f64],
+    due: &[f64],
+    penalty: &[f64],
+    distances: &[f64],
+    times: &[f64],
+    pair: Pair,
+    one: &[u16],
+    other: &[u16],
+    tried: Move,
+) -> Price
+    requires { ⌜ Asked (columnsAt l flags service ready due penalty distances times) (now demand) × Paired l pair × Two l (now one) (now other) ⌝ }
+    requires { ⌜ Stretches (now one) (now other) tried ⌝ }
+    ensures { λ r.
+        ⌜ r ≡ price1
+        (columnsAt l (flags .entry) (service .entry) (ready .entry) (due .entry) (penalty .entry) (distances .entry) (times .entry))
+        (now (demand .entry)) pair (now (one .entry)) (now (other .entry)) tried ⌝ }
+{
+    replaced_price(
+        l,
+        flags,
+        demand,
+        service,
+        ready,
+        due,
+        penalty,
+        distances,
+        times,
+        tried.tested,
+        pair.van1,
+        one,
+        tried.from1,
+        tried.to1,
+        other,
+        tried.from2,
+        tried.to2,
+    )
+}
+
+// The better of the best so far and a move whose first list then costs `cost1`.
+fn try_move(
+    l: usize,
+    flags: &[u8],
+    demand: &[i32],
+    service: &[f64],
+    ready: &[f64],
+    due: &[f64],
+    penalty: &[f64],
+    distances: &[f64],
+    times: &[f64],
+    pair: Pair,
+    one: &[u16],
+    other: &[u16],
+    tried: Move,
+    cost1: f64,
+    best: Choice,
+) -> Choice
+    requires { ⌜ Asked (columnsAt l flags service ready due penalty distances times) (now demand) × Paired l pair × Two l (now one) (now other) ⌝ }
+    requires { ⌜ Stretches (now one) (now other) tried
+        × (Costs cost1 ≡ price1 (columnsAt l flags service ready due penalty distances times) (now demand) pair (now one) (now other) tried) ⌝ }
+    ensures { λ r.
+        ⌜ r ≡ better
+        (columnsAt l (flags .entry) (service .entry) (ready .entry) (due .entry) (penalty .entry) (distances .entry) (times .entry))
+        (now (demand .entry)) pair (now (one .entry)) (now (other .entry)) tried best ⌝ }
+{
+    let second = replaced_price(
+        l,
+        flags,
+        demand,
+        service,
+        ready,
+        due,
+        penalty,
+        distances,
+        times,
+        true,
+        pair.van2,
+        other,
+        tried.from2,
+        tried.to2,
+        one,
+        tried.from1,
+        tried.to1,
+    );
+    let Price::Costs(cost2) = second else {
+        return best;
+    };
+    better_of(pair, tried, cost1, cost2, best)
+}
+
 // ---- two lists
 
 // The best after a visit of the first list, which then costs `cost1`, was tried at every place of the second.
@@ -101,13 +232,11 @@ fn relocate_row(
         (columnsAt l (flags .entry) (service .entry) (ready .entry) (due .entry) (penalty .entry) (distances .entry) (times .entry))
         (now (demand .entry)) pair (now (one .entry)) (now (other .entry)) position best ⌝ }
 {
-    let behind = position + 1;
     let mut found = best;
-    let mut next = 0;
-    while next <= other.len() {
-        let place = next;
-        next += 1;
-        let second = replaced_price(
+    let mut place = 0;
+    while place <= other.len() {
+        let tried = relocation_of(pair, position, place);
+        found = try_move(
             l,
             flags,
             demand,
@@ -117,28 +246,14 @@ fn relocate_row(
             penalty,
             distances,
             times,
-            true,
-            pair.van2,
-            other,
-            place,
-            place,
+            pair,
             one,
-            position,
-            behind,
+            other,
+            tried,
+            cost1,
+            found,
         );
-        let Price::Costs(cost2) = second else {
-            continue;
-        };
-        let tried = Move {
-            one: pair.one,
-            from1: position,
-            to1: behind,
-            other: pair.other,
-            from2: place,
-            to2: place,
-            tested: false,
-        };
-        found = better_of(pair, tried, cost1, cost2, found);
+        place += 1;
     }
     found
 }
@@ -170,7 +285,8 @@ fn relocations(
     while next < one.len() {
         let position = next;
         next += 1;
-        let first = replaced_price(
+        let tried = relocation_of(pair, position, 0);
+        let first = first_price(
             l,
             flags,
             demand,
@@ -180,14 +296,10 @@ fn relocations(
             penalty,
             distances,
             times,
-            false,
-            pair.van1,
+            pair,
             one,
-            position,
-            next,
             other,
-            0,
-            0,
+            tried,
         );
         let Price::Costs(cost1) = first else {
             continue;
@@ -239,14 +351,12 @@ fn exchange_row(
         (columnsAt l (flags .entry) (service .entry) (ready .entry) (due .entry) (penalty .entry) (distances .entry) (times .entry))
         (now (demand .entry)) pair (now (one .entry)) (now (other .entry)) tails k1 count best ⌝ }
 {
-    let end1 = stretch_end(tails, one.len(), k1);
     let mut found = best;
     let mut next = 0;
     while next < count {
-        let k2 = next;
+        let tried = exchange_of(pair, tails, one.len(), other.len(), k1, next);
         next += 1;
-        let end2 = stretch_end(tails, other.len(), k2);
-        let first = replaced_price(
+        let first = first_price(
             l,
             flags,
             demand,
@@ -256,19 +366,15 @@ fn exchange_row(
             penalty,
             distances,
             times,
-            true,
-            pair.van1,
+            pair,
             one,
-            k1,
-            end1,
             other,
-            k2,
-            end2,
+            tried,
         );
         let Price::Costs(cost1) = first else {
             continue;
         };
-        let second = replaced_price(
+        found = try_move(
             l,
             flags,
             demand,
@@ -278,28 +384,13 @@ fn exchange_row(
             penalty,
             distances,
             times,
-            true,
-            pair.van2,
-            other,
-            k2,
-            end2,
+            pair,
             one,
-            k1,
-            end1,
+            other,
+            tried,
+            cost1,
+            found,
         );
-        let Price::Costs(cost2) = second else {
-            continue;
-        };
-        let tried = Move {
-            one: pair.one,
-            from1: k1,
-            to1: end1,
-            other: pair.other,
-            from2: k2,
-            to2: end2,
-            tested: true,
-        };
-        found = better_of(pair, tried, cost1, cost2, found);
     }
     found
 }
@@ -401,7 +492,64 @@ fn tail_exchanges(
     found
 }
 
-// The best after every move between two lists; swaps and tail exchanges are tried once a pair.
+// The best after every swap and every tail exchange of two lists, which are tried once a pair.
+fn exchanges(
+    l: usize,
+    flags: &[u8],
+    demand: &[i32],
+    service: &[f64],
+    ready: &[f64],
+    due: &[f64],
+    penalty: &[f64],
+    distances: &[f64],
+    times: &[f64],
+    pair: Pair,
+    one: &[u16],
+    other: &[u16],
+    best: Choice,
+) -> Choice
+    requires { ⌜ Asked (columnsAt l flags service ready due penalty distances times) (now demand) × Paired l pair × Two l (now one) (now other) ⌝ }
+    ensures { λ r.
+        ⌜ r ≡ bestExchange
+        (columnsAt l (flags .entry) (service .entry) (ready .entry) (due .entry) (penalty .entry) (distances .entry) (times .entry))
+        (now (demand .entry)) pair (now (one .entry)) (now (other .entry)) best ⌝ }
+{
+    if pair.one >= pair.other {
+        return best;
+    }
+    let swapped = swaps(
+        l,
+        flags,
+        demand,
+        service,
+        ready,
+        due,
+        penalty,
+        distances,
+        times,
+        pair,
+        one,
+        other,
+        best,
+    );
+    tail_exchanges(
+        l,
+        flags,
+        demand,
+        service,
+        ready,
+        due,
+        penalty,
+        distances,
+        times,
+        pair,
+        one,
+        other,
+        swapped,
+    )
+}
+
+// The best after every move between two lists.
 fn between_lists(
     l: usize,
     flags: &[u8],
@@ -438,10 +586,7 @@ fn between_lists(
         other,
         best,
     );
-    if pair.one >= pair.other {
-        return relocated;
-    }
-    let swapped = swaps(
+    exchanges(
         l,
         flags,
         demand,
@@ -455,21 +600,6 @@ fn between_lists(
         one,
         other,
         relocated,
-    );
-    tail_exchanges(
-        l,
-        flags,
-        demand,
-        service,
-        ready,
-        due,
-        penalty,
-        distances,
-        times,
-        pair,
-        one,
-        other,
-        swapped,
     )
 }
 
@@ -505,7 +635,8 @@ fn best_from(
     best: Choice,
 ) -> Choice
     requires { ⌜ Asked (columnsAt l flags service ready due penalty distances times) (now demand) ⌝ }
-    requires { ⌜ Manned l (fleetAt «van_ids» depots capacities «distance_costs» «fixed_costs» «van_flags» «max_distances» «max_durations» earliest latest durations) ⌝ }
+    requires { ⌜ Manned l (fleetAt «van_ids» depots capacities «distance_costs» «fixed_costs» «van_flags» «max_distances» «max_durations»
+        earliest latest durations) ⌝ }
     requires { ⌜ Held l (now visits) (now lengths) × (length (now ids) ≡ length (now lengths)) × (length (now costs) ≡ length (now lengths)) ⌝ }
     requires { ⌜ a < length (now lengths) ⌝ }
     ensures { λ r.
@@ -591,7 +722,8 @@ pub fn best_move(
     best: Choice,
 ) -> Choice
     requires { ⌜ Asked (columnsAt l flags service ready due penalty distances times) (now demand) ⌝ }
-    requires { ⌜ Manned l (fleetAt «van_ids» depots capacities «distance_costs» «fixed_costs» «van_flags» «max_distances» «max_durations» earliest latest durations) ⌝ }
+    requires { ⌜ Manned l (fleetAt «van_ids» depots capacities «distance_costs» «fixed_costs» «van_flags» «max_distances» «max_durations»
+        earliest latest durations) ⌝ }
     requires { ⌜ Held l (now visits) (now lengths) × (length (now ids) ≡ length (now lengths)) × (length (now costs) ≡ length (now lengths)) ⌝ }
     ensures { λ r.
         ⌜ r ≡ bestOf

@@ -13,8 +13,10 @@ use Rattle.pairs.specs.Pairs.{Short, Table, Sized, Before, Renewed, Agree}
 use Rattle.pairs.proofs.Kept.{stored-sized, right-start, right-turn, right-row, right-end, renew-both, renew-end}
 use Rattle.pairs.proofs.Kept as pairs
 use Rattle.pairs.proofs.Taken.{short-lists, edited-other, right-moved}
-use Rattle.relocate.specs.Relocate.{Held, searchOf, judgeOf, Searched, SearchedBoth, PairsRight, Every}
-use Rattle.relocate.specs.declared.pair.Setup.{Setup}
+use Rattle.loads.specs.Loads.{Held}
+use Rattle.offers.specs.Offers.{searchOf, judgeOf}
+use Rattle.relocate.specs.Relocate.{Searched, SearchedBoth, PairsRight, Every}
+use Rattle.offers.specs.declared.Setup.{Setup}
 
 module _ (c : Columns) (demand : List ℤ) (s : Setup) (visits lengths : List ℕ) (held : Held (c .l) visits lengths) where
   abbrev n : ℕ

@@ -3,32 +3,29 @@
 // pass, the giver isn't tested.
 //
 // As in the Rust the best move of every pair of lists is kept in a table (crate `pairs`), and so is what it costs at least to insert a visit into a list
-// (cache.rt), by which most visits need not be offered (pair.rt). A move changes two lists, so that only the pairs with one of them in it are searched
-// again. The move taken is the one that a scan of all candidates takes, which is the definition.
-pub mod cache;
-pub mod pair;
-
-use crate::cache::after_insertion;
-use crate::cache::after_removal;
-use crate::cache::wide;
-use crate::pair::Setup;
-use crate::pair::best_between;
+// (crate `insertions`), by which most visits need not be offered (crate `offers`). A move changes two lists, so that only the pairs with one of them in it are
+// searched again. The move taken is the one that a scan of all candidates takes, which is the definition.
 use day::matrix::scale;
 use day::vehicle::RouteLimits;
 use engine::Ended;
 use evaluation::route::route_checks_needed;
+use insertions::after_insertion;
+use insertions::after_removal;
+use insertions::forget_at;
+use insertions::wide;
 use lists::list_of;
 use lists::move_visit;
 use numbers::gain_floor;
 use numbers::unknown;
+use offers::Setup;
+use offers::best_between;
 use pairs::best_pair;
 use pairs::put_pair;
 ghost use mathlib.Core.Path.{_≡_};
 ghost use mathlib.Core.Bool.{true, false};
 ghost use mathlib.Core.List.{[], _∷_};
 ghost use Prim.Native.Nat.{_+_, _<_, _≤_};
-ghost use lib.ListN.{length, getD, set};
-ghost use lib.Ieee.{nan};
+ghost use lib.ListN.{length, getD};
 ghost use Rattle.day.specs.Matrix.{leg, Square};
 ghost use Rattle.day.specs.Refusal.{capacityOk};
 ghost use Rattle.lists.specs.Table.{Laid, lists, listOf};
@@ -40,9 +37,10 @@ ghost use Rattle.deltas.specs.Deltas.{insertionDelta};
 ghost use Rattle.deltas.specs.Judged.{float-judge};
 ghost use Rattle.engine.specs.Engine.{checksOf, mapOf, endedAs};
 ghost use Rattle.pairs.specs.Pairs.{Sized, Before, Renewed, tableAt};
-ghost use Rattle.relocate.specs.Cache.{cell, Known};
-ghost use Rattle.relocate.specs.Relocate.{boxes, measureOf, Boxed, Held, Prepared, Cached, Searched, SearchedBoth};
-ghost use Rattle.relocate.specs.Relocate.{PairsRight, Every};
+ghost use Rattle.insertions.specs.Cache.{Known};
+ghost use Rattle.loads.specs.Loads.{boxes, measureOf, Loaded, Held};
+ghost use Rattle.offers.specs.Offers.{Prepared, Cached};
+ghost use Rattle.relocate.specs.Relocate.{Searched, SearchedBoth, PairsRight, Every};
 
 // ---- the table of pairs
 
@@ -70,7 +68,7 @@ fn search_pair(
     to: usize,
 )
     requires { ⌜ Prepared setup (columnsAt (setup .l) flags service ready due penalty distances times) ⌝ }
-    requires { ⌜ Boxed (setup .l) (now demand) × Held (setup .l) (now visits) (now lengths) × (64 ≤ length (now buffer)) ⌝ }
+    requires { ⌜ Loaded (setup .l) (now demand) × Held (setup .l) (now visits) (now lengths) × (64 ≤ length (now buffer)) ⌝ }
     requires { ⌜ Cached (columnsAt (setup .l) flags service ready due penalty distances times) setup (lists (now visits) (now lengths))
         (now figures) (now places) ⌝ }
     requires { ⌜ Sized (tableAt deltas positions «to_places») × (from < length (now lengths)) × (to < length (now lengths)) ⌝ }
@@ -126,7 +124,7 @@ fn search_row(
     from: usize,
 )
     requires { ⌜ Prepared setup (columnsAt (setup .l) flags service ready due penalty distances times) ⌝ }
-    requires { ⌜ Boxed (setup .l) (now demand) × Held (setup .l) (now visits) (now lengths) × (64 ≤ length (now buffer)) ⌝ }
+    requires { ⌜ Loaded (setup .l) (now demand) × Held (setup .l) (now visits) (now lengths) × (64 ≤ length (now buffer)) ⌝ }
     requires { ⌜ Cached (columnsAt (setup .l) flags service ready due penalty distances times) setup (lists (now visits) (now lengths))
         (now figures) (now places) ⌝ }
     requires { ⌜ PairsRight (columnsAt (setup .l) flags service ready due penalty distances times) (now demand) setup
@@ -189,7 +187,7 @@ fn search_all(
     pruning: bool,
 )
     requires { ⌜ Prepared setup (columnsAt (setup .l) flags service ready due penalty distances times) ⌝ }
-    requires { ⌜ Boxed (setup .l) (now demand) × Held (setup .l) (now visits) (now lengths) × (64 ≤ length (now buffer)) ⌝ }
+    requires { ⌜ Loaded (setup .l) (now demand) × Held (setup .l) (now visits) (now lengths) × (64 ≤ length (now buffer)) ⌝ }
     requires { ⌜ Cached (columnsAt (setup .l) flags service ready due penalty distances times) setup (lists (now visits) (now lengths))
         (now figures) (now places) ⌝ }
     requires { ⌜ Sized (tableAt deltas positions «to_places») ⌝ }
@@ -251,7 +249,7 @@ fn search_both(
     other: usize,
 )
     requires { ⌜ Prepared setup (columnsAt (setup .l) flags service ready due penalty distances times) ⌝ }
-    requires { ⌜ Boxed (setup .l) (now demand) × Held (setup .l) (now visits) (now lengths) × (64 ≤ length (now buffer)) ⌝ }
+    requires { ⌜ Loaded (setup .l) (now demand) × Held (setup .l) (now visits) (now lengths) × (64 ≤ length (now buffer)) ⌝ }
     requires { ⌜ Cached (columnsAt (setup .l) flags service ready due penalty distances times) setup (lists (now visits) (now lengths))
         (now figures) (now places) ⌝ }
     requires { ⌜ Sized (tableAt deltas positions «to_places») × (r < length (now lengths)) × (other < length (now lengths)) ⌝ }
@@ -332,7 +330,7 @@ fn search_changed(
     b: usize,
 )
     requires { ⌜ Prepared setup (columnsAt (setup .l) flags service ready due penalty distances times) ⌝ }
-    requires { ⌜ Boxed (setup .l) (now demand) × Held (setup .l) (now visits) (now lengths) × (64 ≤ length (now buffer)) ⌝ }
+    requires { ⌜ Loaded (setup .l) (now demand) × Held (setup .l) (now visits) (now lengths) × (64 ≤ length (now buffer)) ⌝ }
     requires { ⌜ Cached (columnsAt (setup .l) flags service ready due penalty distances times) setup (lists (now visits) (now lengths))
         (now figures) (now places) ⌝ }
     requires { ⌜ PairsRight (columnsAt (setup .l) flags service ready due penalty distances times) (now demand) setup
@@ -412,14 +410,6 @@ fn narrow(position: usize) -> u16
     ensures { λ r. ⌜ r ≡ position ⌝ }
 {
     position as u16
-}
-
-// Forgets what is known of a visit and a list.
-fn forget_at(figures: &mut [f64], visit: usize, r: usize)
-    requires { ⌜ (length (now figures) ≡ 1024) × (visit < 64) × (r < 16) ⌝ }
-    ensures { λ _. ⌜ now (figures .exit) ≡ set (now (figures .entry)) (cell visit r) nan ⌝ }
-{
-    figures[16 * visit + r] = unknown();
 }
 
 // Makes a move, and brings the cache up to date. The visit sits in `to` now, and what it costs to insert it there is not asked; `from` and `to` are the
@@ -504,7 +494,7 @@ fn descend(
     limit: u32,
 ) -> Ended
     requires { ⌜ Prepared setup (columnsAt (setup .l) flags service ready due penalty distances times) ⌝ }
-    requires { ⌜ Boxed (setup .l) (now demand) × Held (setup .l) (now visits) (now lengths) × (64 ≤ length (now buffer)) ⌝ }
+    requires { ⌜ Loaded (setup .l) (now demand) × Held (setup .l) (now visits) (now lengths) × (64 ≤ length (now buffer)) ⌝ }
     requires { ⌜ Cached (columnsAt (setup .l) flags service ready due penalty distances times) setup (lists (now visits) (now lengths))
         (now figures) (now places) ⌝ }
     requires { ⌜ Sized (tableAt deltas positions «to_places») ⌝ }
@@ -539,7 +529,7 @@ fn descend(
     let mut moves = 0;
     loop {
         let best = best_pair(lengths.len(), -setup.floor, deltas, positions, to_places);
-        if !best.found {
+        if best.found == 0 {
             return Ended::Settled(moves);
         }
         if limit <= moves {
@@ -605,7 +595,7 @@ pub fn relocate_improve(
     pruning: bool,
 ) -> Ended
     requires { ⌜ Formed (columnsAt l flags service ready due penalty distances times) ⌝ }
-    requires { ⌜ Boxed l (now demand) × (capacityOk capacity ≡ true) ⌝ }
+    requires { ⌜ Loaded l (now demand) × (capacityOk capacity ≡ true) ⌝ }
     requires { ⌜ (depot < l) × Held l (now visits) (now lengths) ⌝ }
     ensures { λ r.
         ⌜ (let c = columnsAt l (flags .entry) (service .entry) (ready .entry) (due .entry) (penalty .entry) (distances .entry) (times .entry) in

@@ -125,6 +125,47 @@ pub fn short(value: u64) -> u32 {
     0
 }
 
+// Ids, each 0 where it is too large.
+pub fn ids(table: &[u8], day: &[u8], at: usize, n: usize) -> [u32; 64]
+    ensures { λ r. ⌜ 64 ≡ length r ⌝ }
+{
+    let bytes = part(day, at, n);
+    let mut column = [0u32; 64];
+    let mut i = 0;
+    while i < 64 {
+        column[i] = short(value(table, byte_at(bytes, i)));
+        i += 1;
+    }
+    column
+}
+
+pub fn depots(table: &[u8], day: &[u8], at: usize, n: usize) -> [usize; 64]
+    ensures { λ r. ⌜ 64 ≡ length r ⌝ }
+{
+    let bytes = part(day, at, n);
+    let mut column = [0usize; 64];
+    let mut i = 0;
+    while i < 64 {
+        column[i] = value(table, byte_at(bytes, i)) as usize;
+        i += 1;
+    }
+    column
+}
+
+pub fn first_ids(column: &[u32], n: usize) -> &[u32] {
+    if n > column.len() {
+        return &column[0..0];
+    }
+    &column[0..n]
+}
+
+pub fn first_depots(column: &[usize], n: usize) -> &[usize] {
+    if n > column.len() {
+        return &column[0..0];
+    }
+    &column[0..n]
+}
+
 // The van at a position.
 pub fn van(table: &[u8], day: &[u8], at: usize) -> Van {
     let bytes = part(day, at, 11);

@@ -8,6 +8,7 @@ mod whole; // whether the file has the stored form
 mod stored; // whether an answer is the one stored
 mod improve; // the kinds of run that change one list
 mod rearrange; // the kinds of run that change all lists
+mod cross; // the kind of run that has a fleet
 mod runs; // one function for each kind of run
 mod score; // how many runs of a kind agree
 
@@ -38,6 +39,7 @@ fn replay(data: &[u8]) {
     line(b"relocate ", data, rearrange::RELOCATE);
     line(b"relocate_np ", data, rearrange::RELOCATE_WITHOUT_PRUNING);
     line(b"exchange ", data, rearrange::EXCHANGE);
+    line(b"cross ", data, cross::CROSS);
 }
 
 // Room for the file, 524,288 bytes.

@@ -18,7 +18,7 @@ pub const RELOCATE_WITHOUT_PRUNING: u8 = 20;
 pub const EXCHANGE: u8 = 21;
 
 // The bytes before the lengths handed back: limit, end word, moves, lists that remain.
-const BEFORE: usize = 4;
+pub const BEFORE: usize = 4;
 
 fn is_end(run: &[u8], table: &[u8], word: u8, moves: u32, remaining: usize) -> bool {
     if byte_at(run, 1) != word || !is_count(run, table, 2, moves) {
@@ -28,7 +28,7 @@ fn is_end(run: &[u8], table: &[u8], word: u8, moves: u32, remaining: usize) -> b
 }
 
 // Whether the run ended as stored.
-fn ends_as_stored(run: &[u8], table: &[u8], answer: Rearranged) -> bool {
+pub fn ends_as_stored(run: &[u8], table: &[u8], answer: Rearranged) -> bool {
     match answer {
         Rearranged::Refused(_) => false,
         Rearranged::Settled {
@@ -55,7 +55,7 @@ fn are_stored(handed: &[u8], own: &[u16]) -> bool {
 }
 
 // Whether both tables are the stored ones, the lengths before the visits.
-fn are_handed_back(run: &[u8], visits: &[u16], lengths: &[u16]) -> bool {
+pub fn are_handed_back(run: &[u8], visits: &[u16], lengths: &[u16]) -> bool {
     let m = lengths.len();
     let n = visits.len();
     if m > 64 {

@@ -2,6 +2,7 @@
 // stored one to the last bit. A refused run differs, and so does one that hasn't the form of its kind. A new kind is a tag, a function and an arm.
 use crate::bytes::byte_at;
 use crate::bytes::count_at;
+use crate::cross;
 use crate::improve;
 use crate::rearrange;
 use crate::stored::is_number;
@@ -251,6 +252,23 @@ fn engine_agrees(
             distances,
             times,
             van,
+            visits,
+            lengths,
+        );
+    }
+    if tag == cross::CROSS {
+        return cross::agrees(
+            run,
+            table,
+            l,
+            flags,
+            demand,
+            service,
+            ready,
+            due,
+            penalty,
+            distances,
+            times,
             visits,
             lengths,
         );

@@ -15,7 +15,7 @@ use crate::layout::head_of;
 use crate::layout::tail_of;
 
 // Whether every byte stands for something.
-fn are_known(table: &[u8], bytes: &[u8]) -> bool {
+pub fn are_known(table: &[u8], bytes: &[u8]) -> bool {
     let mut i = 0;
     while i < bytes.len() {
         if !is_known(table, byte_at(bytes, i)) {

@@ -30,7 +30,8 @@ use Rattle.pairs.specs.Pairs.{across, moveOf, nothing, IsBest}
 use Rattle.pairs.specs.declared.Choice.{Choice}
 use Rattle.pairs.proofs.Taken.{best-across, best-refused}
 use Rattle.pairs.proofs.Scanning.{onward-better, counted-better, onward-stays, onward-end, onward-append, onward-none}
-use Rattle.soft_relocate.specs.SoftRelocate.{boxesOf, measureOf, inserted, givingDelta, receivingDelta, softDelta, priced}
+use Rattle.loads.specs.Loads.{boxesOf, measureOf}
+use Rattle.soft_relocate.specs.SoftRelocate.{inserted, givingDelta, receivingDelta, softDelta, priced}
 use Rattle.soft_relocate.specs.Offers.{priceOf, searchOf, judgeOf, bound, intoList, taken-at, offerDelta, better, bestAmong, Known, scan, Best, Scanned}
 use Rattle.soft_relocate.specs.declared.Setup.{Setup}
 use Rattle.soft_relocate.specs.declared.Pair.{Pair}
@@ -136,7 +137,7 @@ module _ (c : Columns) (demand : List ℤ) (s : Setup) (visits lengths : List �
       && passOf (record { from = from; position = position; to = to; place = place })) ≡ true
       → delta ≡ deltaOf (record { from = from; position = position; to = to; place = place })
       → Scanned c demand s visits lengths (record { from = from; position = position; to = to; place = place } ∷ []) best
-      (record { found = true; from = from; position = position; to = to; place = place; delta = delta })
+      (record { found = 1; from = from; position = position; to = to; place = place; delta = delta })
   unfolding moveOf figure
   taken-there from position to place delta best counted tested is-delta =
       let m : Relocation = record { from = from; position = position; to = to; place = place } in

@@ -5,14 +5,13 @@ use mathlib.Core.Bool.{true, cond}
 use mathlib.Core.Option.{Option}
 use mathlib.Core.List.{List, [], _∷_, map}
 use Prim.Native.Nat.{ℕ, suc, _≤_, _<_}
-use lib.IntN.{ℤ, pos}
-use lib.ListN.{length, getD}
+use lib.IntN.{ℤ}
+use lib.ListN.{length}
 use lib.Ieee.{Float, lt, neg}
 use lib.Ieee.Scale.{finite}
 use Rattle.numbers.specs.Operations.{_⊕_, _⊖_}
-use Rattle.day.specs.Refusal.{demandOk}
 use Rattle.edits.specs.Total.{total}
-use Rattle.lists.specs.Table.{Laid, lists, listOf}
+use Rattle.lists.specs.Table.{lists, listOf}
 use Rattle.evaluation.specs.Columns.{Columns, Formed}
 use Rattle.evaluation.specs.Route.{effectiveCost}
 use Rattle.descent.specs.Order.{range}
@@ -21,23 +20,13 @@ use Rattle.descent.specs.Across.{at, Relocation}
 use Rattle.pairs.specs.Scan.{onward, figure, Counted}
 use Rattle.pairs.specs.Pairs.{moveOf, Table, IsBest, Stored, StoredBoth, RightWhere}
 use Rattle.pairs.specs.declared.Choice.{Choice}
-use Rattle.soft_relocate.specs.SoftRelocate.{boxesOf, measureOf, inserted, soft-relocate-search, soft-relocate-judge}
+use Rattle.loads.specs.Loads.{boxesOf, measureOf}
+use Rattle.soft_relocate.specs.SoftRelocate.{inserted, soft-relocate-search, soft-relocate-judge}
 use Rattle.soft_relocate.specs.declared.Setup.{Setup}
 use Rattle.soft_relocate.specs.declared.Pair.{Pair}
 use Rattle.soft_relocate.specs.declared.Offer.{Offer}
 
--- ---- what a run asks (as relocate's own)
-
--- a demand a location, 'Demands 0 to 1,000,000'
-pub record Boxed (l : ℕ) (demand : List ℤ) : Type 0 where
-  pub size : length demand ≡ l
-  pub each : (k : ℕ) → k < l → demandOk (getD demand k (pos 0)) ≡ true
-
--- the lists lie in the table, each visit is a location, and all lists together are no longer than one may be
-pub record Held (l : ℕ) (visits lengths : List ℕ) : Type 0 where
-  pub laid : Laid visits lengths
-  pub below : (k : ℕ) → k < length visits → getD visits k 0 < l
-  pub few : length visits ≤ 63
+-- ---- what a run asks
 
 -- the columns can be walked from the depot
 pub record Prepared (s : Setup) (c : Columns) : Type 0 where
@@ -78,7 +67,7 @@ intoList ls from to position =
 -- an offer, taken at a place
 abbrev pub taken-at : Offer → ℕ → Float → Choice
 taken-at offer place delta =
-    record { found = true; from = offer .from; position = offer .position; to = offer .to; place = place; delta = delta }
+    record { found = 1; from = offer .from; position = offer .position; to = offer .to; place = place; delta = delta }
 
 -- what an offer changes, by the price of the list that it would make
 unfoldable pub offerDelta : Offer → Float → Float

@@ -4,7 +4,7 @@ use Prim.Native.Nat.{ℕ, suc}
 use mathlib.Core.Bool.{Bool, _&&_}
 use mathlib.Core.List.{List, [], _∷_, _++_}
 use lib.Dec.{eqb}
-use lib.IntN.{ℤ, pos, natAbs}
+use lib.IntN.{ℤ}
 use lib.ListN.{length, getD, set, take, drop}
 use lib.Ieee.{Float, lt}
 use lib.Ieee.Scale.{finite}
@@ -17,20 +17,7 @@ use Rattle.descent.specs.Permitted.{Measure, room}
 use Rattle.descent.specs.Search.{begins-again, Search, Judge, Sweep, Outcome, next, run}
 use Rattle.descent.specs.Across.{at, Relocation, relocations, giver, receiver}
 use Rattle.deltas.specs.Changes.{fixedIf}
-
--- ---- boxes (as relocate's own)
-
--- the boxes of a visit: a demand isn't below 0
-unfoldable pub boxesOf : List ℤ → ℕ → ℕ
-boxesOf demand visit = natAbs (getD demand visit (pos 0))
-
--- boxes against so many
-abbrev pub measureOf : List ℤ → ℕ → Measure
-measureOf demand capacity = record { demand = boxesOf demand; capacity = capacity }
-
--- 01: 'a list's load, its visits' demands added up', and the van's capacity
-abbrev pub boxes : List ℤ → ℤ → Measure
-boxes demand capacity = measureOf demand (natAbs capacity)
+use Rattle.loads.specs.Loads.{boxes}
 
 -- ---- what a move changes; `price` is the Rust's `eval`, and the operations are in its order
 

@@ -15,6 +15,8 @@ use evaluation::route::effective_cost;
 use lists::length_of;
 use lists::list_of;
 use lists::move_visit;
+use loads::boxes_of;
+use loads::load_of;
 use numbers::gain_floor;
 use numbers::is_finite;
 use pairs::Choice;
@@ -25,12 +27,10 @@ ghost use mathlib.Core.Path.{_≡_};
 ghost use mathlib.Core.Logic.{_≢_};
 ghost use mathlib.Core.Bool.{true};
 ghost use Prim.Native.Nat.{suc, _+_, _-_, _<_, _≤_};
-ghost use lib.IntN.{pos};
 ghost use lib.ListN.{length, take, getD};
 ghost use Rattle.numbers.specs.Floor.{gainFloor};
 ghost use Rattle.day.specs.Matrix.{scaleOf};
-ghost use Rattle.day.specs.Refusal.{demandOk, capacityOk};
-ghost use Rattle.edits.specs.Total.{total};
+ghost use Rattle.day.specs.Refusal.{capacityOk};
 ghost use Rattle.edits.specs.Edits.{swapped};
 ghost use Rattle.lists.specs.Table.{lists};
 ghost use Rattle.lists.specs.Edits.{Edited};
@@ -38,9 +38,10 @@ ghost use Rattle.evaluation.specs.Columns.{columnsAt, Formed, Visits};
 ghost use Rattle.descent.specs.Order.{range};
 ghost use Rattle.deltas.specs.Changes.{fixedIf};
 ghost use Rattle.engine.specs.Engine.{endedAs};
+ghost use Rattle.loads.specs.Loads.{Loaded, Held};
 ghost use Rattle.pairs.specs.Pairs.{nothing, tableAt, Sized, Before, Renewed};
-ghost use Rattle.soft_relocate.specs.SoftRelocate.{boxesOf, without, inserted, givingDelta, soft-relocate-run};
-ghost use Rattle.soft_relocate.specs.Offers.{Boxed, Held, Prepared, priceOf, intoList, better, bestAmong, Known, Best, Scanned};
+ghost use Rattle.soft_relocate.specs.SoftRelocate.{without, inserted, givingDelta, soft-relocate-run};
+ghost use Rattle.soft_relocate.specs.Offers.{Prepared, priceOf, intoList, better, bestAmong, Known, Best, Scanned};
 ghost use Rattle.soft_relocate.specs.Offers.{runFrom, BestOf, StoredOf, StoredBothOf, RightOf, AllRight};
 
 // What is worked out once before the first move.
@@ -77,36 +78,10 @@ pub struct Offer {
     pub paid: f64,
 }
 
-// ---- boxes
-
 fn wide(v: u16) -> usize
     ensures { λ r. ⌜ r ≡ v ⌝ }
 {
     v as usize
-}
-
-// The boxes of a visit.
-fn boxes_of(demand: &[i32], visit: usize) -> usize
-    requires { ⌜ visit < length (now demand) ⌝ }
-    requires { ⌜ demandOk (getD (now demand) visit (pos 0)) ≡ true ⌝ }
-    ensures { λ r. ⌜ (r ≡ boxesOf (now (demand .entry)) visit) × (r ≤ 1000000) ⌝ }
-{
-    let boxes = demand[visit];
-    boxes as usize
-}
-
-// The load of a list.
-fn load_of(l: usize, demand: &[i32], list: &[u16]) -> usize
-    requires { ⌜ Boxed l (now demand) × Visits l (now list) ⌝ }
-    ensures { λ r. ⌜ (r ≡ total (boxesOf (now (demand .entry))) (now (list .entry))) × (r ≤ 63000000) ⌝ }
-{
-    let mut load = 0;
-    let mut i = 0;
-    while i < list.len() {
-        load += boxes_of(demand, wide(list[i]));
-        i += 1;
-    }
-    load
 }
 
 // ---- the two lists of a move
@@ -268,7 +243,7 @@ fn better_of(
     let delta = offer.giving + (new - offer.old + offer.paid);
     if delta < best.delta {
         return Choice {
-            found: true,
+            found: 1,
             from: offer.from,
             position: offer.position,
             to: offer.to,
@@ -358,7 +333,7 @@ fn offer_visit(
     best: Choice,
 ) -> Choice
     requires { ⌜ Prepared setup (columnsAt (setup .l) flags service ready due penalty distances times) ⌝ }
-    requires { ⌜ Boxed (setup .l) (now demand) × Held (setup .l) (now visits) (now lengths) ⌝ }
+    requires { ⌜ Loaded (setup .l) (now demand) × Held (setup .l) (now visits) (now lengths) ⌝ }
     requires { ⌜ 64 ≤ length (now buffer) ⌝ }
     requires { ⌜ Best (columnsAt (setup .l) flags service ready due penalty distances times) (now demand) setup (now visits) (now lengths) best ⌝ }
     requires { ⌜ Known (columnsAt (setup .l) flags service ready due penalty distances times) (now demand) setup (now visits) (now lengths) pair ⌝ }
@@ -427,7 +402,7 @@ fn nothing_below(bound: f64) -> Choice
     ensures { λ r. ⌜ r ≡ nothing bound ⌝ }
 {
     Choice {
-        found: false,
+        found: 0,
         from: 0,
         position: 0,
         to: 0,
@@ -453,7 +428,7 @@ fn best_of_pair(
     pair: Pair,
 ) -> Choice
     requires { ⌜ Prepared setup (columnsAt (setup .l) flags service ready due penalty distances times) ⌝ }
-    requires { ⌜ Boxed (setup .l) (now demand) × Held (setup .l) (now visits) (now lengths) ⌝ }
+    requires { ⌜ Loaded (setup .l) (now demand) × Held (setup .l) (now visits) (now lengths) ⌝ }
     requires { ⌜ 64 ≤ length (now buffer) ⌝ }
     requires { ⌜ Known (columnsAt (setup .l) flags service ready due penalty distances times) (now demand) setup (now visits) (now lengths) pair ⌝ }
     requires { ⌜ (pair .from < length (now lengths)) × (pair .to < length (now lengths)) × (pair .from ≢ pair .to) ⌝ }
@@ -505,7 +480,7 @@ fn best_between(
     to: usize,
 ) -> Choice
     requires { ⌜ Prepared setup (columnsAt (setup .l) flags service ready due penalty distances times) ⌝ }
-    requires { ⌜ Boxed (setup .l) (now demand) × Held (setup .l) (now visits) (now lengths) ⌝ }
+    requires { ⌜ Loaded (setup .l) (now demand) × Held (setup .l) (now visits) (now lengths) ⌝ }
     requires { ⌜ 64 ≤ length (now buffer) ⌝ }
     requires { ⌜ (from < length (now lengths)) × (to < length (now lengths)) ⌝ }
     ensures { λ r.
@@ -590,7 +565,7 @@ fn search_pair(
     to: usize,
 )
     requires { ⌜ Prepared setup (columnsAt (setup .l) flags service ready due penalty distances times) ⌝ }
-    requires { ⌜ Boxed (setup .l) (now demand) × Held (setup .l) (now visits) (now lengths) ⌝ }
+    requires { ⌜ Loaded (setup .l) (now demand) × Held (setup .l) (now visits) (now lengths) ⌝ }
     requires { ⌜ 64 ≤ length (now buffer) ⌝ }
     requires { ⌜ Sized (tableAt deltas positions places) × (from < length (now lengths)) × (to < length (now lengths)) ⌝ }
     ensures { λ _.
@@ -637,7 +612,7 @@ fn search_row(
     from: usize,
 )
     requires { ⌜ Prepared setup (columnsAt (setup .l) flags service ready due penalty distances times) ⌝ }
-    requires { ⌜ Boxed (setup .l) (now demand) × Held (setup .l) (now visits) (now lengths) ⌝ }
+    requires { ⌜ Loaded (setup .l) (now demand) × Held (setup .l) (now visits) (now lengths) ⌝ }
     requires { ⌜ 64 ≤ length (now buffer) ⌝ }
     requires { ⌜ RightOf (columnsAt (setup .l) flags service ready due penalty distances times) (now demand) setup (now visits) (now lengths) (Before from 0)
         (tableAt deltas positions places)
@@ -691,7 +666,7 @@ fn search_all(
     places: &mut [u16],
 )
     requires { ⌜ Prepared setup (columnsAt (setup .l) flags service ready due penalty distances times) ⌝ }
-    requires { ⌜ Boxed (setup .l) (now demand) × Held (setup .l) (now visits) (now lengths) ⌝ }
+    requires { ⌜ Loaded (setup .l) (now demand) × Held (setup .l) (now visits) (now lengths) ⌝ }
     requires { ⌜ 64 ≤ length (now buffer) ⌝ }
     requires { ⌜ Sized (tableAt deltas positions places) ⌝ }
     ensures { λ _.
@@ -743,7 +718,7 @@ fn search_both(
     other: usize,
 )
     requires { ⌜ Prepared setup (columnsAt (setup .l) flags service ready due penalty distances times) ⌝ }
-    requires { ⌜ Boxed (setup .l) (now demand) × Held (setup .l) (now visits) (now lengths) ⌝ }
+    requires { ⌜ Loaded (setup .l) (now demand) × Held (setup .l) (now visits) (now lengths) ⌝ }
     requires { ⌜ 64 ≤ length (now buffer) ⌝ }
     requires { ⌜ Sized (tableAt deltas positions places) × (r < length (now lengths)) × (other < length (now lengths)) ⌝ }
     ensures { λ _.
@@ -812,7 +787,7 @@ fn search_again(
     b: usize,
 )
     requires { ⌜ Prepared setup (columnsAt (setup .l) flags service ready due penalty distances times) ⌝ }
-    requires { ⌜ Boxed (setup .l) (now demand) × Held (setup .l) (now visits) (now lengths) ⌝ }
+    requires { ⌜ Loaded (setup .l) (now demand) × Held (setup .l) (now visits) (now lengths) ⌝ }
     requires { ⌜ 64 ≤ length (now buffer) ⌝ }
     requires { ⌜ RightOf (columnsAt (setup .l) flags service ready due penalty distances times) (now demand) setup (now visits) (now lengths)
         (Renewed a b 0) (tableAt deltas positions places) ⌝ }
@@ -887,7 +862,7 @@ fn descend(
     limit: u32,
 ) -> Ended
     requires { ⌜ Prepared setup (columnsAt (setup .l) flags service ready due penalty distances times) ⌝ }
-    requires { ⌜ Boxed (setup .l) (now demand) × Held (setup .l) (now visits) (now lengths) ⌝ }
+    requires { ⌜ Loaded (setup .l) (now demand) × Held (setup .l) (now visits) (now lengths) ⌝ }
     requires { ⌜ (64 ≤ length (now buffer)) × Sized (tableAt deltas positions places) ⌝ }
     ensures { λ r.
         ⌜ (let c = columnsAt (setup .l) (flags .entry) (service .entry) (ready .entry) (due .entry) (penalty .entry) (distances .entry) (times .entry) in
@@ -915,7 +890,7 @@ fn descend(
     let mut moves = 0;
     loop {
         let best = best_pair(lengths.len(), -setup.floor, deltas, positions, places);
-        if !best.found {
+        if best.found == 0 {
             return Ended::Settled(moves);
         }
         if limit <= moves {
@@ -972,7 +947,7 @@ pub fn improve(
     limit: u32,
 ) -> Ended
     requires { ⌜ Formed (columnsAt l flags service ready due penalty distances times) ⌝ }
-    requires { ⌜ Boxed l (now demand) × (capacityOk capacity ≡ true) ⌝ }
+    requires { ⌜ Loaded l (now demand) × (capacityOk capacity ≡ true) ⌝ }
     requires { ⌜ (depot < l) × Held l (now visits) (now lengths) ⌝ }
     ensures { λ r.
         ⌜ (let c = columnsAt l (flags .entry) (service .entry) (ready .entry) (due .entry) (penalty .entry) (distances .entry) (times .entry) in

@@ -8,6 +8,7 @@ mod asked; // the list asked for
 mod improve; // 2-opt, Or-opt, 3-opt
 mod rearrange; // relocate, tail exchange
 mod refused; // refusals 1 to 10
+mod depots; // cross-depot, refusals 11 and 12
 
 fn main() {
     table::table();
@@ -22,8 +23,13 @@ fn main() {
     improve::three_opt();
     rearrange::relocate();
     rearrange::exchange();
+    depots::moved();
+    depots::emptied();
+    depots::unmoved();
+    depots::unmanned();
     refused::by_size();
     refused::by_numbers();
     refused::by_van();
     refused::by_lists();
+    depots::by_fleet();
 }

@@ -37,3 +37,17 @@ pub fn visits(list: &[u16]) {
         i += 1;
     }
 }
+
+fn id(id: u32) {
+    text(b" ");
+    io::print_decimal(1, id as u64);
+}
+
+// The ids of vans, each behind a blank.
+pub fn ids(column: &[u32]) {
+    let mut i = 0;
+    while i < column.len() {
+        id(column[i]);
+        i += 1;
+    }
+}

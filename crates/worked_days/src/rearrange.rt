@@ -21,7 +21,8 @@ fn ended(moves: u32, remaining: usize, word: &[u8]) {
     text(word);
 }
 
-fn rearranged(answer: Rearranged) {
+// How a run over all lists ended.
+pub fn rearranged(answer: Rearranged) {
     match answer {
         Rearranged::Refused(_) => {
             text(b", refused\n");

@@ -3,7 +3,7 @@ use crate::line;
 use crate::print::text;
 use day::vehicle::Van;
 
-fn wide(number: u8) -> u64 {
+pub fn wide(number: u8) -> u64 {
     number as u64
 }
 

@@ -6,7 +6,8 @@ use lib.ListN.{length}
 use Rattle.lists.specs.Table.{lists}
 use Rattle.evaluation.specs.Columns.{columns}
 use Rattle.pairs.specs.Pairs.{table, Before}
-use Rattle.relocate.specs.Relocate.{Cached, PairsRight}
+use Rattle.offers.specs.Offers.{Cached}
+use Rattle.relocate.specs.Relocate.{PairsRight}
 use Rattle.relocate.proofs.Searching.{rows-start, rows-end}
 use Rattle.relocate.proofs.search_all.Statement.{statement}
 use Rattle.relocate.proofs.search_all.Tie as tie

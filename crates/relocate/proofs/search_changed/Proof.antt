@@ -6,7 +6,8 @@ use lib.ListN.{length}
 use Rattle.lists.specs.Table.{lists}
 use Rattle.evaluation.specs.Columns.{columns}
 use Rattle.pairs.specs.Pairs.{table, Renewed}
-use Rattle.relocate.specs.Relocate.{Cached, PairsRight}
+use Rattle.offers.specs.Offers.{Cached}
+use Rattle.relocate.specs.Relocate.{PairsRight}
 use Rattle.relocate.proofs.Searching.{both-sized, again-turn, again-end}
 use Rattle.relocate.proofs.search_changed.Statement.{statement}
 use Rattle.relocate.proofs.search_changed.Tie as tie

@@ -6,7 +6,7 @@ use mathlib.Core.Bool.{_&&_}
 use Rattle.edits.specs.Total.{total}
 use Rattle.evaluation.specs.Route.{effectiveCost}
 use Rattle.descent.proofs.Members.{and-parts}
-use Rattle.soft_relocate.proofs.Boxes.{list-visits}
+use Rattle.loads.proofs.Tables.{list-visits}
 use Rattle.pairs.proofs.Taken.{best-same-list}
 use Rattle.soft_relocate.proofs.Choosing.{no-price}
 use Rattle.soft_relocate.proofs.best_between.Statement.{statement}

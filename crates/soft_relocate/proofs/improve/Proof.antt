@@ -7,7 +7,7 @@ use mir.ValLaws.{toZ-ofZ}
 use Rattle.numbers.specs.Floor.{gainFloor}
 use Rattle.soft_relocate.specs.SoftRelocate.{soft-relocate-run}
 use Rattle.soft_relocate.specs.Offers.{runFrom, searchOf, judgeOf}
-use Rattle.soft_relocate.proofs.Boxes.{capacity-plain}
+use Rattle.loads.proofs.Boxes.{capacity-plain}
 use Rattle.soft_relocate.proofs.improve.Statement.{statement}
 use Rattle.soft_relocate.proofs.improve.Tie as tie
 

@@ -7,7 +7,7 @@ use Prim.Native.Nat.{ℕ}
 use native.Mathlib.Omega.{arith}
 use lib.ListN.{length, getD}
 use Rattle.lists.proofs.Tables.{start-within, length-list}
-use Rattle.soft_relocate.proofs.Boxes.{list-visits, one-more, visit-below}
+use Rattle.loads.proofs.Tables.{list-visits, one-more, visit-below}
 use Rattle.soft_relocate.proofs.Choosing.{refused-as, fails-as, offered-as}
 use Rattle.soft_relocate.proofs.offer_visit.Statement.{statement}
 use Rattle.soft_relocate.proofs.offer_visit.Tie as tie
@@ -49,7 +49,7 @@ boxes-of-requires c κs =
     let start = at-list-of .before .before .before .before .before .before .before .before .before .before .before in
     let below = visit-below _ _ _ (start .pre .1 .0 .1) _ _ (start .pre .1 .1 .1 .1 .1 .1) in
     let is = c .wide .ensures ∙ ap (λ (xs : List ℕ). getD xs (start .args .position) 0) (at-list-of .list-of .ensures) in
-    (omega (arith, is, below, start .pre .1 .0 .0 .size), rw is (start .pre .1 .0 .0 .each _ below))
+    (omega (arith, is, below, start .pre .1 .0 .0 .column), rw is (start .pre .1 .0 .0 .in-range _ below))
 
 add-load : tie.Need-add-load
 add-load c =

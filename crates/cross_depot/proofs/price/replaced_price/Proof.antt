@@ -36,7 +36,8 @@ allowed-price-requires c κs =
 returns : tie.Need-returns
 returns c =
     let at-replaced-into = c .before .before .before .before in
-    c .allowed-price .ensures ∙ ap (allowed _ _ _ _) (front (at-replaced-into .replaced-into .result) (at-replaced-into .replaced-into .last .0) _ (at-replaced-into .replaced-into .ensures .1))
+    c .allowed-price .ensures ∙ ap (allowed _ _ _ _) (front (at-replaced-into .replaced-into .result) (at-replaced-into .replaced-into .last .0) _
+    (at-replaced-into .replaced-into .ensures .1))
 
 pub replaced-price-spec : {M : Type 1} → statement M
 replaced-price-spec =

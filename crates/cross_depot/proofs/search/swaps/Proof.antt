@@ -14,7 +14,8 @@ use Rattle.cross_depot.proofs.search.swaps.Tie as tie
 
 abbrev Inv-loop : tie.InvT-loop
 Inv-loop l flags demand service ready due penalty distances times pair one other found₀ k1₀ found k1 =
-    scan (λ k. exchangeRow (columns l flags service ready due penalty distances times) demand pair one other false k (length other)) (range k1 (length one)) found
+    scan (λ k. exchangeRow (columns l flags service ready due penalty distances times) demand pair one other false k (length other)) (range k1 (length one))
+    found
     ≡ bestSwap (columns l flags service ready due penalty distances times) demand pair one other found₀
 
 abbrev μ-loop : tie.MeasureT-loop

@@ -15,7 +15,8 @@ use Rattle.cross_depot.proofs.search.tail_exchanges.Tie as tie
 
 abbrev Inv-loop : tie.InvT-loop
 Inv-loop l flags demand service ready due penalty distances times pair one other found₀ k1₀ found k1 =
-    scan (λ k. exchangeRow (columns l flags service ready due penalty distances times) demand pair one other true k (cuts (length one) (length other) k)) (range k1 (length one + 1)) found
+    scan (λ k. exchangeRow (columns l flags service ready due penalty distances times) demand pair one other true k (cuts (length one) (length other) k))
+    (range k1 (length one + 1)) found
     ≡ bestTails (columns l flags service ready due penalty distances times) demand pair one other found₀
 
 abbrev μ-loop : tie.MeasureT-loop
@@ -55,7 +56,8 @@ loop-again c =
     let at-loop-test = at-cuts-of .before in
     let at-loop = at-loop-test .before in
     let start = at-loop .before .before .before .before .before .before .before .before .before .before in
-    scan-turn _ (at-loop .loop .k1) (length (start .args .one .now) + 1) _ _ (omega (arith, at-loop-test .loop-test .taken)) (row-counted _ _ (start .args .pair) _ _ _ _ _ _ _ (at-cuts-of .cuts-of .ensures) (c .exchange-row .ensures)) ∙ at-loop .loop .inv
+    scan-turn _ (at-loop .loop .k1) (length (start .args .one .now) + 1) _ _ (omega (arith, at-loop-test .loop-test .taken))
+    (row-counted _ _ (start .args .pair) _ _ _ _ _ _ _ (at-cuts-of .cuts-of .ensures) (c .exchange-row .ensures)) ∙ at-loop .loop .inv
 
 returns : tie.Need-returns Inv-loop μ-loop
 returns c =
