@@ -11,8 +11,8 @@ mod programs;
 mod show;
 mod shrink;
 use days::day::Day;
-use days::options::{fail, Options};
-use days::text::Reader;
+use days::options::Options;
+use days::text::days_of_file;
 use days::{damage, families};
 use expected::{expected, refusals};
 use programs::{Lines, Program};
@@ -69,8 +69,7 @@ fn main() {
         generated(&options, damaged, &mut comparison);
     }
     for file in &options.words {
-        let text = std::fs::read_to_string(file).unwrap_or_else(|error| fail(&format!("{file}: {error}")));
-        comparison.batch(&read(&text).unwrap_or_else(|what| fail(&format!("{file}: {what}"))), Vec::new);
+        comparison.batch(&days_of_file(file), Vec::new);
     }
     comparison.report();
 }
@@ -90,15 +89,6 @@ fn generated(options: &Options, damaged: bool, comparison: &mut Comparison) {
         at += size;
         days = comparison.batch(&days, || source.batch(at, size));
     }
-}
-
-fn read(text: &str) -> Result<Vec<Day>, String> {
-    let mut reader = Reader::new(text);
-    let mut days = Vec::new();
-    while let Some(day) = reader.day()? {
-        days.push(day);
-    }
-    Ok(days)
 }
 
 /// The words of a line by which runs are counted: the engine, the refusal, the case of the answer, and of an engine's

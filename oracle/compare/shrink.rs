@@ -26,7 +26,7 @@ pub fn shrink(day: &Day, differ: &dyn Fn(&[Day]) -> Vec<bool>) -> Day {
 
 /// A day that is smaller by one step, the greatest steps first.
 fn smaller(day: &Day, differ: &dyn Fn(&[Day]) -> Vec<bool>) -> Option<Day> {
-    let kinds: [Steps; 5] = [fewer_lists, fewer_places, fewer_flags, simpler_columns, simpler_numbers];
+    let kinds: [Steps; 6] = [fewer_lists, fewer_places, fewer_flags, simpler_columns, simpler_numbers, simpler_counts];
     kinds.iter().find_map(|steps| {
         let mut days = Vec::new();
         steps(day, &mut days);
@@ -75,10 +75,13 @@ fn fewer_lists(day: &Day, days: &mut Vec<Day>) {
             });
         }
     }
-    for van in 1..day.vans.len() {
+    for van in 0..if day.vans.len() > 1 { day.vans.len() } else { 0 } {
         with(day, days, |next| drop(next.vans.remove(van)));
     }
     for run in 0..day.runs.len() {
+        if day.runs[run].limit < 0 {
+            with(day, days, |next| next.runs[run].limit = 1000);
+        }
         if day.runs[run].limit > 0 {
             with(day, days, |next| next.runs[run].limit /= 2);
             with(day, days, |next| next.runs[run].limit -= 1);
@@ -208,20 +211,28 @@ fn simpler_numbers(day: &Day, days: &mut Vec<Day>) {
                 with(day, days, |next| *van_numbers(&mut next.vans[van])[field] = new);
             }
         }
-        for capacity in [0, 1, day.vans[van].capacity / 2] {
-            if capacity < day.vans[van].capacity {
-                with(day, days, |next| next.vans[van].capacity = capacity);
-            }
+    }
+}
+
+/// Demands, capacities and ids made smaller.
+fn simpler_counts(day: &Day, days: &mut Vec<Day>) {
+    let smaller = |count: i32| [0, 1, count / 2].into_iter().filter(move |new| *new < count);
+    for van in 0..day.vans.len() {
+        for capacity in smaller(day.vans[van].capacity) {
+            with(day, days, |next| next.vans[van].capacity = capacity);
         }
         if day.vans[van].id > 0 {
             with(day, days, |next| next.vans[van].id = 0);
         }
     }
+    for list in 0..day.van_ids.len() {
+        if day.van_ids[list] > 0 {
+            with(day, days, |next| next.van_ids[list] = 0);
+        }
+    }
     for place in 0..day.locations() {
-        for demand in [0, 1, day.demand[place] / 2] {
-            if demand < day.demand[place] {
-                with(day, days, |next| next.demand[place] = demand);
-            }
+        for demand in smaller(day.demand[place]) {
+            with(day, days, |next| next.demand[place] = demand);
         }
     }
 }

@@ -12,7 +12,7 @@ pub const FAMILIES: [&str; 45] = [
     "line", "grid", "plane", "whole", "whole-one-way", "fraction", "fraction-one-way", "tenths", "zero", "ties", "large",
     "small", "mixed", "demand-3", "own-times", "hard-windows", "soft-windows", "both-windows", "waiting", "depot-windows",
     "break-tight", "break-loose", "break-impossible", "break-and-windows", "limits", "limits-and-break", "depots",
-    "empty-lists", "many-lists", "long", "fleet", "big", "full", "any", "vans", "vans-windows", "vans-whole", "vans-rules", "vans-ids",
+    "empty-lists", "many-lists", "long", "fleet", "big", "full", "any", "vans-any", "vans-windows", "vans-whole", "vans-rules", "vans-ids",
     "vans-prices", "vans-over", "vans-16", "vans-few", "vans-empty-lists", "vans-full",
 ];
 /// The first of those for cross-depot.
@@ -422,7 +422,7 @@ fn limits(day: &mut Day, van: usize, list: usize, random: &mut Random) {
 }
 
 /// Numbers that aren't plain where a flag is off.
-fn unread(day: &mut Day, random: &mut Random) {
+pub fn unread(day: &mut Day, random: &mut Random) {
     let odd = [f64::NAN, -f64::NAN, -1.0, -0.0, f64::INFINITY, f64::NEG_INFINITY, MOST.next_up()];
     for place in 0..day.locations() {
         if day.flags[place] & 2 == 0 {
@@ -465,13 +465,20 @@ fn runs(day: &mut Day, engines: &[&str], random: &mut Random) {
     }
 }
 
-/// The families named, or all of them.
+/// The families named, parted by commas: `all`, `vans` (those for cross-depot), names, and `-NAME` for one that is left out of those before.
 pub fn families_named(names: &str) -> Vec<usize> {
-    if names == "all" {
-        return (0..FAMILIES.len()).collect();
-    }
     let number = |name: &str| FAMILIES.iter().position(|family| *family == name);
-    names.split(',').map(|name| number(name).unwrap_or_else(|| fail(&format!("no family {name}; there are {}", FAMILIES.join(", "))))).collect()
+    let known = |name: &str| number(name).unwrap_or_else(|| fail(&format!("no family {name}; there are {}", FAMILIES.join(", "))));
+    let mut families: Vec<usize> = Vec::new();
+    for name in names.split(',') {
+        match name.strip_prefix('-') {
+            Some(left_out) => families.retain(|family| *family != known(left_out)),
+            None if name == "all" => families.extend(0..FAMILIES.len()),
+            None if name == "vans" => families.extend(FOR_FLEETS..FAMILIES.len()),
+            None => families.push(known(name)),
+        }
+    }
+    families
 }
 
 /// The engines named, parted by commas: names of runs, or `checks`, `engines`, `all` (both), `numbers` (of refusals).

@@ -1,6 +1,7 @@
 //! The text format: that of ../shared/oracle/shims/main.rs, and lines `trim COLUMN K`, `size L` and `length LIST N`
 //! between `prices` and `runs`, which only the port reads.
 use super::day::{Change, Day, Run, Van, COLUMNS};
+use super::options::fail;
 use std::fmt::Write;
 use std::str::SplitAsciiWhitespace;
 
@@ -67,6 +68,21 @@ fn put_lists(out: &mut String, day: &Day) {
 }
 
 type Read<T> = Result<T, String>;
+
+fn days(text: &str) -> Read<Vec<Day>> {
+    let mut reader = Reader::new(text);
+    let mut days = Vec::new();
+    while let Some(day) = reader.day()? {
+        days.push(day);
+    }
+    Ok(days)
+}
+
+/// The days of a file; the program ends where it has none in the format.
+pub fn days_of_file(file: &str) -> Vec<Day> {
+    let text = std::fs::read_to_string(file).unwrap_or_else(|error| fail(&format!("{file}: {error}")));
+    days(&text).unwrap_or_else(|what| fail(&format!("{file}: {what}")))
+}
 
 /// Reads days one by one; nothing is made room for before its words are there.
 pub struct Reader<'a> {

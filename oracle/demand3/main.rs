@@ -21,7 +21,7 @@ use answer::{Answer, End};
 use check::Started;
 use days::day::{Day, Run};
 use days::options::{fail, Options};
-use days::text::Reader;
+use days::text::days_of_file;
 use instance::{Instance, Lists};
 use moves::{Engine, Reached, ENGINES};
 use programs::{Lines, Program};
@@ -67,8 +67,7 @@ fn main() {
         made(&options, &mut trial);
     }
     for file in &options.words {
-        let text = std::fs::read_to_string(file).unwrap_or_else(|error| fail(&format!("{file}: {error}")));
-        trial.batch(&read(&text).unwrap_or_else(|what| fail(&format!("{file}: {what}"))));
+        trial.batch(&days_of_file(file));
     }
     trial.report();
 }
@@ -105,15 +104,6 @@ fn made(options: &Options, trial: &mut Trial) {
         trial.batch(&(at..to).map(day).collect::<Vec<Day>>());
         at = to;
     }
-}
-
-fn read(text: &str) -> Result<Vec<Day>, String> {
-    let mut reader = Reader::new(text);
-    let mut days = Vec::new();
-    while let Some(day) = reader.day()? {
-        days.push(day);
-    }
-    Ok(days)
 }
 
 /// What a run of the engine starts from: within a list, that list alone.

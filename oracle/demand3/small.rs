@@ -1,8 +1,9 @@
 //! Small days under demand 3's premises. A day depends on seed and number alone.
 use crate::days::day::{Day, Run, Van};
+use crate::days::families::unread;
 use crate::days::maps::{any_plain, near, plainly, table, Map};
 use crate::days::random::Random;
-use crate::days::refusal::{LEAST_COST, MOST};
+use crate::days::refusal::LEAST_COST;
 use crate::days::walk;
 use crate::instance::{Instance, FARTHEST};
 use crate::moves::Engine;
@@ -220,29 +221,6 @@ fn limits(day: &mut Day, step: Step, random: &mut Random) {
     let van = &mut day.vans[0];
     van.flags |= random.pick(&[1, 2, 3]);
     (van.max_distance, van.max_duration) = (far, long);
-}
-
-/// Numbers that aren't plain where a flag is off.
-fn unread(day: &mut Day, random: &mut Random) {
-    let odd = [f64::NAN, -1.0, f64::INFINITY, MOST.next_up()];
-    for place in 0..day.locations() {
-        if day.flags[place] & 2 == 0 {
-            (day.ready[place], day.due[place]) = (random.pick(&odd), random.pick(&odd));
-        }
-        if day.flags[place] & 4 == 0 {
-            day.penalty[place] = random.pick(&odd);
-        }
-    }
-    let van = &mut day.vans[0];
-    if van.flags & 1 == 0 {
-        van.max_distance = random.pick(&odd);
-    }
-    if van.flags & 2 == 0 {
-        van.max_duration = random.pick(&odd);
-    }
-    if van.flags & 4 == 0 {
-        (van.earliest, van.latest, van.duration) = (random.pick(&odd), random.pick(&odd), random.pick(&odd));
-    }
 }
 
 /// Each engine, within a list on every one, at limits 0 to 3, the starting sum, and the most that a u32 holds.

@@ -1,8 +1,8 @@
 //! Which days and runs are stored, with the reference's answers.
 use crate::days::day::{Day, Run};
 use crate::days::families::{day, engines_named, ACROSS, FAMILIES, FOR_FLEETS, WITHIN};
-use crate::days::options::{fail, Options};
-use crate::days::text::Reader;
+use crate::days::options::Options;
+use crate::days::text::days_of_file;
 use crate::encode;
 use crate::programs::{Lines, Program};
 
@@ -92,12 +92,9 @@ fn kept_days(options: &Options) -> Vec<Day> {
     if file.is_empty() {
         return Vec::new();
     }
-    let text = std::fs::read_to_string(&file).unwrap_or_else(|error| fail(&format!("{file}: {error}")));
-    let mut reader = Reader::new(&text);
-    let mut days = Vec::new();
-    while let Some(mut day) = reader.day().unwrap_or_else(|what| fail(&format!("{file}: {what}"))) {
+    let mut days = days_of_file(&file);
+    for day in &mut days {
         day.runs.retain(|run| encode::tag(&run.engine).is_some());
-        days.push(day);
     }
     days
 }

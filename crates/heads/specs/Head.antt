@@ -58,5 +58,6 @@ unfoldable pub priceBy : Rest → Columns → RouteLimits → ℕ → Head → L
 priceBy NoBreak c limits depot head others = costFrom c limits depot head others
 priceBy (Break pause) c limits depot head others = effectiveCost c limits depot others
 
+-- the price of the list of a head and the visits behind it, or, with a break, of the whole list
 abbrev pub priceFrom : Columns → RouteLimits → ℕ → Head → List ℕ → Float
 priceFrom c limits depot head others = priceBy (limits .rest) c limits depot head others

@@ -292,6 +292,15 @@ module _ (c : Columns) (demand : List ℤ) (s : Setup) (visits lengths : List �
       let whole : X ≡ at (lists visits lengths) from = is-giver ∙ sym (at-lists visits lengths from) in
       best-across _ _ _ _ from to best apart (rw whole at (done .scanned)) (done .still .figured)
 
+  -- an empty list has none
+  pub pair-empty : (floor : Float) → floor ≡ s .floor → (figures : List Float) (places : List ℕ) → Cached c s (lists visits lengths) figures places
+      → from ≢ to → getD lengths from 0 ≡ 0
+      → IsBest (judgeOf c s .delta (lists visits lengths)) (searchOf c demand s .passes (lists visits lengths)) (bound c) (lists visits lengths) from to
+      (nothing (neg floor))
+  pair-empty floor e figures places k apart empty =
+      let long : length X ≡ getD lengths from 0 = ap length is-giver ∙ length-list visits lengths (held .laid .add-up) from in
+      pairing-end floor 0 (nothing (neg floor)) figures places (pairing-start floor e figures places k) apart (omega (arith, long, empty))
+
   -- and a list has none into itself
   pub pair-none : (floor : Float) → floor ≡ s .floor → from ≡ to
       → IsBest (judgeOf c s .delta (lists visits lengths)) (searchOf c demand s .passes (lists visits lengths)) (bound c) (lists visits lengths) from to

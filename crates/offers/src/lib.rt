@@ -13,6 +13,7 @@ use engine::passes;
 use insertions::Least;
 use insertions::lesser_of;
 use insertions::wide;
+use lists::length_of;
 use lists::list_of;
 use loads::boxes_of;
 use loads::load_of;
@@ -387,7 +388,7 @@ fn offer_visit(
 
 // ---- a pair of lists
 
-// The best move out of list `from` into list `to`; a list has none into itself. The receiver's load is added up once.
+// The best move out of list `from` into list `to`; a list has none into itself, and an empty one has none. The receiver's load is added up once.
 pub fn best_between(
     setup: Setup,
     flags: &[u8],
@@ -427,6 +428,9 @@ pub fn best_between(
         delta: -setup.floor,
     };
     if from == to {
+        return best;
+    }
+    if length_of(lengths, from) == 0 {
         return best;
     }
     let giver = list_of(visits, lengths, from);

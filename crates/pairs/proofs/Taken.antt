@@ -19,7 +19,8 @@ use Rattle.descent.specs.Search.{begins-again, Search, Judge, ok, taken, firstM
 use Rattle.descent.specs.Across.{at, Relocation, relocations, relocate-search}
 use Rattle.descent.proofs.Loops.{place-passed, place-moved, next-sweep}
 use Rattle.pairs.specs.Scan.{onward, figure}
-use Rattle.pairs.specs.Pairs.{across, Moves, Short, isFound, asMove, moveOf, nothing, Table, leastEntry, pairBest, IsBest, RightWhere, Right, Renewed, Agree}
+use Rattle.pairs.specs.Pairs.{across, Moves, Short, isFound, asMove, moveOf, nothing, Table, leastEntry, pairBest}
+use Rattle.pairs.specs.Pairs.{IsBest, RightWhere, Right, Renewed, Agree}
 use Rattle.pairs.specs.declared.Choice.{Choice}
 use Rattle.pairs.proofs.Scanning.{onward-end, onward-none}
 use Rattle.pairs.proofs.Best.{Best, best-sorted}

@@ -20,7 +20,7 @@ use Rattle.engine.specs.declared.Ended.{Ended}
 use Rattle.engine.specs.declared.Ended.the-variants.{Settled, Stopped}
 use Rattle.loads.specs.Loads.{measureOf, boxes}
 use Rattle.offers.specs.Offers.{Prepared, searchOf, judgeOf, bound}
-use Rattle.relocate.specs.Relocate.{PairsRight, Every}
+use Rattle.relocations.specs.Relocations.{PairsRight, Every}
 use Rattle.offers.specs.declared.Setup.{Setup}
 use Rattle.pairs.specs.declared.Choice.{Choice}
 use Rattle.pairs.specs.Pairs.{Moves, isFound, moveOf, Table, leastEntry}

@@ -1,5 +1,4 @@
--- `Searching`: the table of pairs. `Moving`: the cache through a move. `Going`: a run under way. `Claimed`: demand 3.
-pub mod Searching
+-- `Moving`: the cache through a move. `Going`: a run under way. `Claimed`: demand 3.
 pub mod Moving
 pub mod Going
 pub mod Claimed

@@ -80,7 +80,13 @@ fn are_ids(handed: &[u8], table: &[u8], ids: &[u32]) -> bool {
 }
 
 // Whether the three tables are the stored ones: lengths, visits, van ids.
-fn are_all_handed_back(end: &[u8], table: &[u8], visits: &[u16], lengths: &[u16], ids: &[u32]) -> bool {
+fn are_all_handed_back(
+    end: &[u8],
+    table: &[u8],
+    visits: &[u16],
+    lengths: &[u16],
+    ids: &[u32],
+) -> bool {
     let m = lengths.len();
     let n = visits.len();
     if m > 64 {

@@ -16,12 +16,41 @@ fn distances() -> [f64; 25]
     ensures { λ r. ⌜ 25 ≡ length r ⌝ }
 {
     [
-        0.0, 100.0, 5.0, 90.0, 95.0, 100.0, 0.0, 95.0, 10.0, 5.0, 5.0, 95.0, 0.0, 85.0, 90.0, 90.0, 10.0, 85.0, 0.0, 5.0, 95.0, 5.0, 90.0, 5.0, 0.0,
+        0.0,
+        100.0,
+        5.0,
+        90.0,
+        95.0,
+        100.0,
+        0.0,
+        95.0,
+        10.0,
+        5.0,
+        5.0,
+        95.0,
+        0.0,
+        85.0,
+        90.0,
+        90.0,
+        10.0,
+        85.0,
+        0.0,
+        5.0,
+        95.0,
+        5.0,
+        90.0,
+        5.0,
+        0.0,
     ]
 }
 
 // The run with a van of id 0 at depot 0 and one of id 1 at depot 1.
-fn with_two_vans(visits: &mut [u16], lengths: &mut [u16], ids: &mut [u32], prices: &[f64]) -> Rearranged {
+fn with_two_vans(
+    visits: &mut [u16],
+    lengths: &mut [u16],
+    ids: &mut [u32],
+    prices: &[f64],
+) -> Rearranged {
     let zeros = [0.0f64; 5];
     let gaps = distances();
     let none = [0.0f64; 2];
@@ -55,7 +84,12 @@ fn with_two_vans(visits: &mut [u16], lengths: &mut [u16], ids: &mut [u32], price
 }
 
 // The run with no van.
-fn with_no_van(visits: &mut [u16], lengths: &mut [u16], ids: &mut [u32], prices: &[f64]) -> Rearranged {
+fn with_no_van(
+    visits: &mut [u16],
+    lengths: &mut [u16],
+    ids: &mut [u32],
+    prices: &[f64],
+) -> Rearranged {
     let zeros = [0.0f64; 5];
     let gaps = distances();
     planner::depots::cross_depot_improve(

@@ -12,8 +12,8 @@ use Rattle.pairs.proofs.Least.{is-none, is-some}
 use Rattle.pairs.proofs.Taken.{relocates}
 use Rattle.loads.specs.Loads.{Held}
 use Rattle.offers.specs.Offers.{Cached}
-use Rattle.relocate.specs.Relocate.{PairsRight, Every}
-use Rattle.relocate.proofs.Searching.{moved-right}
+use Rattle.relocations.specs.Relocations.{PairsRight, Every}
+use Rattle.relocations.proofs.Searching.{moved-right}
 use Rattle.pairs.proofs.Going.{going-start, unedited, edited-again}
 use Rattle.relocate.proofs.Going.{Running, table-choice, choice-there, answers-settled, answers-stopped, goes-on}
 use Rattle.loads.proofs.Tables.{still-held}

@@ -10,7 +10,7 @@ use Rattle.pairs.specs.Pairs.{table}
 use Rattle.pairs.proofs.Least.{is-none, is-some}
 use Rattle.pairs.proofs.Going.{going-start, unedited, edited-again}
 use Rattle.loads.specs.Loads.{Held}
-use Rattle.soft_relocate.specs.Offers.{AllRight}
+use Rattle.soft_relocate.specs.Running.{AllRight}
 use Rattle.loads.proofs.Tables.{still-held}
 use Rattle.soft_relocate.proofs.Running.{Running, least-taken, least-there, after-move, answers-settled, answers-stopped, goes-on}
 use Rattle.soft_relocate.proofs.descend.Statement.{statement}

@@ -41,10 +41,10 @@ loop-less : tie.Need-loop-less Inv-loop μ-loop
 loop-less c = omega (arith, c .next-larger2 .ensures .0 .0, c .next-larger2 .ensures .0 .1, c .before .before .before .loop-test .taken)
 
 loop-again : tie.Need-loop-again Inv-loop μ-loop
-loop-again c = (
-  c .next-larger2 .ensures .0 .1,
-  c .next-larger2 .ensures .1 ∙ rw (c .before .larger-of .ensures) (sym (largest-turn _ _ _ (c .before .before .before .loop-test .taken)) ∙ c .before .before .before .before .loop .inv .1),
-)
+loop-again c =
+    let at-loop-test = c .before .before .before in
+    let whole = sym (largest-turn _ _ _ (at-loop-test .loop-test .taken)) ∙ at-loop-test .before .loop .inv .1 in
+    (c .next-larger2 .ensures .0 .1, c .next-larger2 .ensures .1 ∙ rw (c .before .larger-of .ensures) whole)
 
 returns : tie.Need-returns Inv-loop μ-loop
 unfolding scaleOf ofBits
