@@ -60,8 +60,10 @@ fn above(text: &mut String, figures: &[Figures]) {
     }
 }
 
+/// Functions with their shares. The program's own is the call: the arguments that it puts down, and the lists that it lays out.
 fn functions(counts: &Counts) -> String {
-    let share = |share: &Share| format!("{} {:.0} %", share.function, share.percent);
+    let name = |share: &Share| if share.function.starts_with("bench::") { "the call".to_string() } else { share.function.clone() };
+    let share = |share: &Share| format!("{} {:.0} %", name(share), share.percent);
     counts.functions.iter().map(share).collect::<Vec<_>>().join(", ")
 }
 
