@@ -17,6 +17,7 @@ mod planner;
 mod callgrind;
 mod checks;
 mod dumps;
+mod fleet;
 mod improve;
 mod published;
 mod rearrange;
@@ -32,6 +33,7 @@ fn run_all(bench: &mut Bench) {
     checks::rows(bench);
     improve::rows(bench);
     rearrange::rows(bench);
+    fleet::rows(bench);
 }
 
 fn main() {

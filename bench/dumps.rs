@@ -4,7 +4,7 @@ use std::collections::HashMap;
 use std::fmt::Write;
 use std::path::Path;
 
-/// Instructions of one call of each side, and the functions that have most of the entry's.
+/// Instructions of one call of each side, and the functions that have most of the entry's, refusals aside.
 #[derive(Clone, Default)]
 pub struct Counts {
     pub rust: u64,
@@ -59,12 +59,16 @@ impl Dump {
 /// The counts by row.
 pub fn totals(folder: &Path) -> HashMap<String, Counts> {
     let mut counts: HashMap<String, Counts> = HashMap::new();
-    for dump in dumps(folder) {
+    for mut dump in dumps(folder) {
+        let total = dump.total();
         let of_row = counts.entry(dump.row.clone()).or_default();
         match SIDES.iter().position(|side| *side == dump.side) {
-            Some(0) => of_row.rust = dump.total(),
-            Some(1) => of_row.refusals = dump.total(),
-            _ => (of_row.entry, of_row.functions) = (dump.total(), dump.shares(10.0)),
+            Some(0) => of_row.rust = total,
+            Some(1) => of_row.refusals = total,
+            _ => {
+                dump.own.retain(|function, _| !function.contains("::refusal::"));
+                (of_row.entry, of_row.functions) = (total, dump.shares(10.0));
+            }
         }
     }
     counts

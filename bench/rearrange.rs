@@ -5,7 +5,7 @@ use crate::local_search;
 use crate::models::{Customer, Solution, Vehicle};
 use crate::oracle;
 use crate::planner::*;
-use crate::rows::{agree, Bench, Both, Row};
+use crate::rows::{agree, lists_of, Bench, Both, Row};
 use crate::timed_days::KINDS;
 use std::hint::black_box;
 
@@ -85,14 +85,7 @@ impl Changed {
     }
 
     fn ran(&self) -> Ran {
-        let mut lists = Vec::new();
-        let mut rest = &self.visits[..];
-        for length in &self.lengths[..self.remaining] {
-            let (list, behind) = rest.split_at(usize::from(*length));
-            lists.push(list.iter().map(|visit| usize::from(*visit)).collect());
-            rest = behind;
-        }
-        (lists, u64::from(self.moves), self.settled == 1)
+        (lists_of(&self.visits, &self.lengths[..self.remaining]), u64::from(self.moves), self.settled == 1)
     }
 }
 
@@ -106,5 +99,5 @@ fn row(bench: &mut Bench, engine: Engine, both: &Both) {
     let mut changed = Changed::of(both);
     let refusal = changed.run(engine, both);
     agree(&row, &expected, refusal, &changed.ran());
-    bench.measure(Row { moves: Some((expected.1, expected.2)), ..row }, || engine.rust(both), || both.refusal(), || changed.run(engine, both));
+    bench.measure(Row { moves: Some((expected.1, expected.2)), ..row }, || engine.rust(both), || both.refusal_of_lists(), || changed.run(engine, both));
 }

@@ -52,7 +52,7 @@ fn above(text: &mut String, figures: &[Figures]) {
     let mut rows: Vec<&Figures> = figures.iter().filter(|one| (100.0 * one.times.less).round() > GOAL).collect();
     rows.sort_by(|a, b| b.times.less.total_cmp(&a.times.less));
     writeln!(text, "{} of {} rows have a ratio less refusals above {}:\n", rows.len(), figures.len(), GOAL / 100.0).unwrap();
-    text.push_str("| entry | day | offices | lists | time | instructions | where the entry has them |\n|---|---|--:|--:|--:|--:|---|\n");
+    text.push_str("| entry | day | offices | lists | time | instructions | where the entry has them, refusals aside |\n|---|---|--:|--:|--:|--:|---|\n");
     for Figures { row, times, counts } in rows {
         write!(text, "| {} | {} | {} | {} | {:.2} |", row.entry, row.kind, row.offices, row.lists, times.less).unwrap();
         let counted = counts.as_ref().map(|counts| format!(" {:.2} | {} |", counts.less(), functions(counts)));
@@ -60,8 +60,10 @@ fn above(text: &mut String, figures: &[Figures]) {
     }
 }
 
+/// Functions with their shares. The program's own is the call: the arguments that it puts down, and the lists that it lays out.
 fn functions(counts: &Counts) -> String {
-    let share = |share: &Share| format!("{} {:.0} %", share.function, share.percent);
+    let name = |share: &Share| if share.function.starts_with("bench::") { "the call".to_string() } else { share.function.clone() };
+    let share = |share: &Share| format!("{} {:.0} %", name(share), share.percent);
     counts.functions.iter().map(share).collect::<Vec<_>>().join(", ")
 }
 

@@ -1,10 +1,11 @@
 //! A row: one entry on one day, by three sides. An entry tests its whole input for refusals, which the Rust doesn't; so the
 //! refusals alone are a side of their own.
 use crate::call;
+use crate::call_of_fleet;
 use crate::callgrind;
 use crate::days::day::{Day, Lent};
 use crate::dumps::Counts;
-use crate::planner::{planner_refusal, Van};
+use crate::planner::{planner_refusal, planner_refusal_of_fleet, planner_refusal_of_lists, Van};
 use crate::published::Published;
 use crate::timed_days::Kind;
 use crate::timing::{self, Times};
@@ -68,11 +69,29 @@ impl Both {
         Row { entry, kind: self.kind.name, offices: self.offices, lists: self.lists, moves: None }
     }
 
-    /// The refusals of a call that asks for the first list; those of a call over all lists are the same.
+    /// The refusals of a call that asks for the first list.
     pub fn refusal(&self) -> u8 {
         let lent = black_box(&self.lent);
         call!(planner_refusal, lent, self.van, lent.visits.as_ptr(), lent.visits.len(), lent.lengths.as_ptr(), lent.lengths.len(), 0)
     }
+
+    /// The refusals of a call over all lists.
+    pub fn refusal_of_lists(&self) -> u8 {
+        let lent = black_box(&self.lent);
+        call!(planner_refusal_of_lists, lent, self.van, lent.visits.as_ptr(), lent.visits.len(), lent.lengths.as_ptr(), lent.lengths.len())
+    }
+
+    /// The refusals of a call over the lists of a fleet.
+    pub fn refusal_of_fleet(&self) -> u8 {
+        let lent = black_box(&self.lent);
+        call_of_fleet!(planner_refusal_of_fleet, lent, lent.visits.as_ptr(), lent.lengths.as_ptr(), lent.van_ids.as_ptr())
+    }
+}
+
+/// The lists of a table of visits, as the Rust has them.
+pub fn lists_of(visits: &[u16], lengths: &[u16]) -> Vec<Vec<usize>> {
+    let mut rest = visits.iter().map(|visit| usize::from(*visit));
+    lengths.iter().map(|length| rest.by_ref().take(usize::from(*length)).collect()).collect()
 }
 
 /// Ends the run where the sides differ.

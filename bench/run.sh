@@ -39,19 +39,21 @@ introduction() {
     cat << END
 # Benchmarks
 
-Written by \`bench/run.sh OUT\` on $(date -u +%F), on a machine of $(nproc) cores ($(uname -m)) that other work shared: load
-$(cut -d' ' -f1 /proc/loadavg) at the start. The Rust is compiled by $(rustc --version | cut -d' ' -f1,2), opt-level 3.
+Written by \`bench/run.sh OUT\` on $(date -u +%F), on a machine of $(nproc) cores ($(uname -m)), load $(cut -d' ' -f1 /proc/loadavg) at the start. The Rust is
+compiled by $(rustc --version | cut -d' ' -f1,2), opt-level 3.
 The figures are what one run measured; nothing is put in by hand.
 
-- Every entry of include/planner.h runs against the published Rust's function of the same work, in one program, on the same days:
-  10, 30 and 63 offices at random places of a square, from a fixed seed, on 1, 4 or 16 lists (bench/timed_days.rs). Before a row
-  is measured both sides' answers are compared: lists, bits of the numbers, moves and end words. A difference ends the run.
-- An entry tests its whole input for refusals, the tables of distances and times too; the Rust doesn't. planner_refusal makes just
-  these tests, and is measured for itself: 'less' is the entry without them.
+- Every entry of include/planner.h that answers more than a refusal runs against the published Rust's function of the same work, in
+  one program, on the same days: 10, 30 and 63 offices at random places of a square, from a fixed seed, on 1, 4 or 16 lists; for
+  cross-depot 10, 30 and 60 offices beside up to four depots, a van a list, of unlike capacities and costs (bench/timed_days.rs).
+  Before a row is measured both sides' answers are compared: lists, bits of the numbers, moves and end words. A difference ends the
+  run.
+- An entry tests its whole input for refusals, the tables of distances and times too; the Rust doesn't. planner_refusal and those of
+  lists and of a fleet make just these tests, and are measured for themselves: 'less' is the entry without them.
 - The Rust's matrix keeps the largest distance and the symmetry from call to call. An entry works them out at each call (table is
   that work, and there the Rust does it as well); it is a part of 'less'.
-- Time is the thread's own processor time. The three sides are called in turn, in rounds of 20 microseconds or one call, for half
-  a second a row and seven rounds at least. Times are medians of the rounds, and a ratio is the median of the rounds' ratios.
+- Time is the thread's own processor time. The three sides are called in turn, in rounds of 20 microseconds or one call, for 0.3
+  seconds a row and seven rounds at least. Times are medians of the rounds, and a ratio is the median of the rounds' ratios.
 - Instructions are those of one call under callgrind: load does not change them.
 - Of the checks (table to schedule) the refusals take many times the check itself: 'less' is then a small difference of large
   times, and the ratio of instructions says more.

@@ -2,7 +2,7 @@
 use crate::rows::Sides;
 
 /// Of a row's rounds, in nanoseconds a call of the thread's own time.
-const ROW: f64 = 0.5e9;
+const ROW: f64 = 0.3e9;
 /// A round has as many calls of each side as the Rust makes in this time, and one at least.
 const ROUND: f64 = 20e3;
 const FEWEST: usize = 7;
