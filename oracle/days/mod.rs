@@ -1,5 +1,5 @@
 //! Days of the oracle: their text, what is lent of them, how they are made and what document 01 says of them.
-//! Shared by generate, compare, sample and port; each uses a part of it.
+//! Shared by generate, compare, sample, port and bench; each uses a part of it.
 #![allow(dead_code)]
 
 pub mod damage;

@@ -1,2 +1,1 @@
 pub mod Hard
-pub mod Asked

@@ -14,7 +14,7 @@ use Rattle.descent.specs.Search.{Word, Outcome, Sweep}
 use Rattle.descent.specs.Engines.{run-of}
 use Rattle.deltas.specs.Judged.{Map, float-judge}
 use Rattle.engine.specs.Engine.{checksOf, mapOf}
-use Rattle.exchange.specs.Boxes.{boxes}
+use Rattle.loads.specs.Loads.{boxes}
 use Rattle.soft_exchange.specs.SoftExchange.{soft-exchange-run}
 use Rattle.soft_relocate.specs.SoftRelocate.{soft-relocate-run}
 

@@ -14,8 +14,7 @@ ghost use Rattle.lists.specs.Table.{lists};
 ghost use Rattle.lists.specs.Edits.{Edited};
 ghost use Rattle.evaluation.specs.Columns.{columnsAt, Formed};
 ghost use Rattle.engine.specs.Engine.{endedAs};
-ghost use Rattle.exchange.specs.Boxes.{Loaded};
-ghost use Rattle.exchange.specs.Exchange.{Held};
+ghost use Rattle.loads.specs.Loads.{Loaded, Held};
 ghost use Rattle.across.specs.Across.{settingAt, exchangeRan, relocateRan};
 
 // The lists changed in place, under their numbers, by at most `limit` exchanges. No exchange reads the fixed cost.

@@ -1,24 +1,24 @@
 -- What the public run answers: the lists as given where there are fewer than two or no van, and else what the search leaves. Assumes nothing.
-use mathlib.Core.Path.{_≡_, refl, sym, ap, _∙_}
+use mathlib.Core.Path.{_≡_, refl, sym, _∙_}
 use mathlib.Core.Logic.{_≢_}
 use mathlib.Core.Bool.{Bool, true, false, _||_, false≢true}
-use mathlib.Core.List.{List, [], _++_, append-nil}
+use mathlib.Core.List.{List, append-nil}
 use Prim.Native.Nat.{ℕ, _-_, _<_}
 use native.Mathlib.Omega.{arith}
 use borrow.Author.Tests.{eqb-false}
 use lib.Dec.{eqb, ltb}
 use lib.IntN.{ℤ}
-use lib.ListN.{length, replicate}
+use lib.ListN.{length}
 use lib.Ieee.{Float}
 use Rattle.edits.specs.Total.{SameVisits}
-use Rattle.lists.specs.Table.{Laid, lists, flat, lengthsOf}
+use Rattle.lists.specs.Table.{Laid, lists}
 use Rattle.lists.proofs.Tables.{length-lists, flat-lists, lengths-lists}
 use Rattle.evaluation.specs.Columns.{Columns}
 use Rattle.descent.specs.Search.{settled}
 use Rattle.engine.specs.Engine.{endedAs}
 use Rattle.engine.specs.declared.Ended.the-variants.{Settled}
 use Rattle.fleet.specs.Fleet.{Fleet}
-use Rattle.cross_depot.specs.CrossDepot.{Ran, lentPlan, runOf, ranOf, crossRan, Carried}
+use Rattle.cross_depot.specs.CrossDepot.{lentPlan, runOf, ranOf, crossRan, Carried}
 use Rattle.cross_depot.specs.Tables.{Handed, crossedOf}
 use Rattle.cross_depot.specs.declared.run.Crossed.{Crossed}
 use Rattle.cross_depot.proofs.Going.{Answered}

@@ -1,10 +1,10 @@
 -- The loads along a run: a move passes where the receiver's load, or both, are within the capacity, and a list that gives a visit away carries less than
 -- before. So each list is within its van's capacity or carries no more than a list lent under the same van. Assumes nothing.
-use mathlib.Core.Path.{_≡_, refl, sym, ap, subst, _∙_}
-use mathlib.Core.Logic.{_⊎_, inl, inr}
+use mathlib.Core.Path.{_≡_, refl, ap, _∙_}
+use mathlib.Core.Logic.{inl, inr}
 use mathlib.Core.Bool.{Bool, true, false, not, cond, _&&_, _||_, false≢true}
 use mathlib.Core.Option.{some}
-use mathlib.Core.List.{List, [], _∷_, _++_, map}
+use mathlib.Core.List.{List, [], _∷_, _++_}
 use Prim.Native.Nat.{ℕ, zero, suc, _+_, _-_, _≤_, _<_}
 use native.Mathlib.Omega.{arith}
 use native.Mathlib.Decide.{ℕ-discrete}
@@ -19,16 +19,16 @@ use Rattle.edits.specs.Total.{total, total-append}
 use Rattle.lists.specs.Table.{lengthsOf}
 use Rattle.lists.specs.Edits.{at, filled}
 use Rattle.evaluation.specs.Columns.{Columns}
-use Rattle.descent.specs.Order.{_∈_, here}
+use Rattle.descent.specs.Order.{here}
 use Rattle.descent.specs.Search.{Sweep, ok, next}
-use Rattle.descent.proofs.Members.{and-parts, not-in}
+use Rattle.descent.proofs.Members.{and-parts}
 use Rattle.descent.proofs.Runs.{ran, chain-map}
 use Rattle.descent.proofs.Sweeps.{next-some}
 use Rattle.fleet.specs.Fleet.{Fleet, fleetVehicle}
 use Rattle.fleet.proofs.Numbered.{found-again}
 use Rattle.cross_depot.specs.Boxes.{boxesAt}
 use Rattle.cross_depot.specs.CrossDepot.{Plan, foundIds, lentPlan, pricedAs, holds, allowed, hasPrice, first, second, exchangedBy, ofFilled, dropped}
-use Rattle.cross_depot.specs.CrossDepot.{afterMove, moves, firstPrice, secondPrice, moved, searchOf, judgeOf, runOf, Carries, Carried}
+use Rattle.cross_depot.specs.CrossDepot.{afterMove, firstPrice, secondPrice, moved, searchOf, judgeOf, runOf, Carries, Carried}
 use Rattle.cross_depot.specs.declared.price.Price.the-variants.{Unallowed}
 use Rattle.cross_depot.specs.declared.pair.Move.{Move}
 use Rattle.cross_depot.proofs.Loads.{load-parts}

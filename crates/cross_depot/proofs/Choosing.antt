@@ -2,13 +2,12 @@
 -- choice. Assumes nothing.
 use mathlib.Core.Path.{_≡_, refl, sym, ap, _∙_}
 use mathlib.Core.Bool.{Bool, true, false, cond, _&&_, false≢true}
-use mathlib.Core.Option.{Option, none, some}
 use mathlib.Core.List.{List, [], _∷_, _++_, map}
-use Prim.Native.Nat.{ℕ, suc, _+_}
+use Prim.Native.Nat.{ℕ, _+_}
 use lib.Dec.{ltb}
 use lib.IntN.{ℤ}
-use lib.ListN.{length, getD}
-use lib.Ieee.{Float, nan, lt, neg}
+use lib.ListN.{length}
+use lib.Ieee.{Float, lt, neg}
 use Rattle.numbers.specs.Operations.{_⊕_, _⊖_}
 use Rattle.numbers.specs.Floor.{gainFloor}
 use Rattle.day.specs.Matrix.{scaleOf}
@@ -17,7 +16,8 @@ use Rattle.evaluation.specs.Columns.{Columns}
 use Rattle.descent.specs.Order.{range, each}
 use Rattle.descent.specs.Search.{ok, taken}
 use Rattle.fleet.specs.Fleet.{Fleet}
-use Rattle.cross_depot.specs.CrossDepot.{Plan, relocation, exchange, cuts, relocations, swaps, tailExchanges, pairOf, sameDepot, betweenLists, ofPair, moves}
+use Rattle.cross_depot.specs.CrossDepot.{Plan, relocation, exchange, cuts, relocations, swaps, tailExchanges, pairOf, sameDepot}
+use Rattle.cross_depot.specs.CrossDepot.{betweenLists, ofPair, moves}
 use Rattle.cross_depot.specs.CrossDepot.{hasPrice, amount, firstPrice, secondPrice, searchOf, judgeOf}
 use Rattle.cross_depot.specs.Scan.{scan, decided, better, tryRelocation, tryExchange, relocateRow, exchangeRow, bestRelocation, bestSwap, bestTails}
 use Rattle.cross_depot.specs.Scan.{bestExchange, bestBetween, bestOfPair, bestFrom, bestOf, betterIn, nothing, moveOf}
@@ -222,7 +222,8 @@ module _ (c : Columns) (demand : List ℤ) (fleet : Fleet) (p : Plan) where
   unfolding moveOf figure Counted
   none-yet floor e = record { figured = ap neg e; counted = tt; costs = λ h. absurd (false≢true h) }
 
-  from-nothing : (floor : Float) → onward delta pass bound (moveOf (nothing floor)) (moves fleet p) ≡ taken (searchOf c demand fleet) (judgeOf c demand fleet) p tt
+  from-nothing : (floor : Float) → onward delta pass bound (moveOf (nothing floor)) (moves fleet p)
+      ≡ taken (searchOf c demand fleet) (judgeOf c demand fleet) p tt
   unfolding moveOf onward taken ok searchOf judgeOf
   from-nothing floor = refl
 

@@ -11,22 +11,22 @@ use borrow.Author.Tests.{lt-ltb, ltb-true}
 use borrow.Rule.Slice.PartMut.{putMid}
 use lib.Dec.{ltb}
 use lib.IntN.{ℤ}
-use lib.ListN.{length, getD, take, drop, replicate, length-append, length-drop, take-append-drop}
-use lib.Seq.{take-length, drop-length, take-append-le, drop-append-le, length-take-le}
+use lib.ListN.{length, take, drop, replicate, length-append, length-drop, take-append-drop}
+use lib.Seq.{take-at, drop-at, take-length, drop-length, take-append-le, drop-append-le, length-take-le}
 use lib.Ieee.{Float}
 use Rattle.edits.specs.Total.{SameVisits}
 use Rattle.edits.proofs.Kept.{same-each, same-length}
-use Rattle.lists.specs.Table.{Laid, lists, flat, lengthsOf}
+use Rattle.lists.specs.Table.{lists}
 use Rattle.lists.proofs.Tables.{length-lists, flat-lists, lengths-lists}
 use Rattle.evaluation.specs.Columns.{Columns}
-use Rattle.descent.specs.Search.{Sweep, Outcome, settled, stopped, taken, firstMove, next, run}
+use Rattle.descent.specs.Search.{Sweep, Outcome, settled, stopped, firstMove, next, run}
 use Rattle.descent.proofs.Loops.{place-passed, place-moved, next-sweep, run-settles, run-stops, run-moves}
 use Rattle.engine.specs.Engine.{endedAs}
 use Rattle.engine.specs.declared.Ended.the-variants.{Settled, Stopped}
 use Rattle.fleet.specs.Fleet.{Fleet}
-use Rattle.cross_depot.specs.CrossDepot.{Plan, afterMove, moved, searchOf, judgeOf, runOf, ranOf}
+use Rattle.cross_depot.specs.CrossDepot.{Plan, afterMove, searchOf, judgeOf, runOf, ranOf}
 use Rattle.cross_depot.specs.Scan.{Held, planOf, moveOf}
-use Rattle.cross_depot.specs.Tables.{Made, Chosen, Handed, crossedOf}
+use Rattle.cross_depot.specs.Tables.{Made, MadeIn, Chosen, Handed, crossedOf}
 use Rattle.cross_depot.specs.declared.pair.Move.{Move}
 use Rattle.cross_depot.specs.declared.search.Choice.{Choice}
 use Rattle.cross_depot.specs.declared.run.Crossed.{Crossed}
@@ -87,9 +87,42 @@ part n xs = ap (λ k. take k xs) (sub-zero n)
 pub length-part : {A : Type 0} (n : ℕ) (xs : List A) → n ≤ length xs → length (take (n - 0) (drop 0 xs)) ≡ n
 length-part n xs h = ap length (part n xs) ∙ length-take-le n xs h
 
+pub parts-even : {A B : Type 0} (n : ℕ) (xs : List A) (ys : List B) → n ≤ length ys → length xs ≡ length ys
+    → length (take (n - 0) (drop 0 xs)) ≡ length (take (n - 0) (drop 0 ys))
+parts-even n xs ys h e = length-part n xs (omega arith) ∙ sym (length-part n ys h)
+
 -- and given back as `new`
 pub put : {A : Type 0} (n : ℕ) (xs new : List A) → putMid 0 (n - 0) xs new ≡ new ++ drop n xs
 put n xs new = ap (λ k. new ++ drop k xs) (sub-zero n)
+
+-- a table by its first n entries, where the others are those of another
+cut-at : {A : Type 0} (n : ℕ) (xs others : List A) → drop n xs ≡ drop n others → xs ≡ take n xs ++ drop n others
+cut-at n xs others e = sym (take-append-drop n xs) ∙ ap (λ z. take n xs ++ z) e
+
+-- the first n given back: they are `new`, and the others are as they were
+take-put : {A : Type 0} (n : ℕ) (xs new : List A) → length new ≡ n → take n (putMid 0 (n - 0) xs new) ≡ new
+take-put n xs new e = ap (take n) (put n xs new) ∙ take-at new (drop n xs) n e
+
+drop-put : {A : Type 0} (n : ℕ) (xs new : List A) → length new ≡ n → drop n (putMid 0 (n - 0) xs new) ≡ drop n xs
+drop-put n xs new e = ap (drop n) (put n xs new) ∙ drop-at new (drop n xs) n e
+
+-- a move made in the first n
+pub made-in : (n : ℕ) (m : Move) (cost1 cost2 : Float) (visits lengths ids : List ℕ) (costs : List Float) (visits′ L I : List ℕ) (C : List Float) (kept : ℕ)
+    → n ≤ length lengths → length ids ≡ length lengths → length costs ≡ length lengths
+    → Made (planOf visits (take (n - 0) (drop 0 lengths)) (take (n - 0) (drop 0 ids)) (take (n - 0) (drop 0 costs))) m cost1 cost2 visits visits′ L I C kept
+    → length L ≡ length (take (n - 0) (drop 0 lengths)) → length I ≡ length (take (n - 0) (drop 0 ids)) → length C ≡ length (take (n - 0) (drop 0 costs))
+    → MadeIn n m cost1 cost2 visits lengths ids costs visits′ (putMid 0 (n - 0) lengths L) (putMid 0 (n - 0) ids I) (putMid 0 (n - 0) costs C) kept
+made-in n m cost1 cost2 visits lengths ids costs visits′ L I C kept few even-ids even-costs made long-L long-I long-C =
+    let many-L : length L ≡ n = long-L ∙ length-part n lengths few in
+    let many-I : length I ≡ n = long-I ∙ length-part n ids (omega arith) in
+    let many-C : length C ≡ n = long-C ∙ length-part n costs (omega arith) in
+    record {
+      made = rw (take-put n lengths L many-L, take-put n ids I many-I, take-put n costs C many-C)
+          (rw (part n lengths, part n ids, part n costs) at made);
+      other-lengths = drop-put n lengths L many-L;
+      other-ids = drop-put n ids I many-I;
+      other-costs = drop-put n costs C many-C;
+    }
 
 nones : {A : Type 0} (x : A) (a b : ℕ) → replicate a x ++ replicate b x ≡ replicate (a + b) x
 nones x zero b = let e : 0 + b ≡ b = omega arith in rw e
@@ -261,28 +294,32 @@ module _ (c : Columns) (demand : List ℤ) (fleet : Fleet) (limit : ℕ) (first 
 
     pub goes-on : r .found ≡ true → moves < limit → (q : Plan)
         → q ≡ afterMove (planOf visits (take n lengths) (take n ids) (take n costs)) (r .chosen) (r .cost1) (r .cost2)
-        → Going (next (searchOf c demand fleet) (judgeOf c demand fleet)) limit (record { now = first; ahead = [] }) (moves + 1) (record { now = q; ahead = [] })
+        → Going (next (searchOf c demand fleet) (judgeOf c demand fleet)) limit (record { now = first; ahead = [] }) (moves + 1)
+        (record { now = q; ahead = [] })
     goes-on e room q is =
         rw is (going-on _ _ _ moves _ running _ (a-next c demand fleet visits (take n lengths) (take n ids) (take n costs) r chosen-now e) room)
 
     -- a move that was made: the run goes on from the plan that the tables then hold
-    pub goes-on-made : r .found ≡ true → moves < limit → (visits′ L I : List ℕ) (C : List Float) (kept : ℕ)
-        → Made (planOf visits (take (n - 0) (drop 0 lengths)) (take (n - 0) (drop 0 ids)) (take (n - 0) (drop 0 costs))) (r .chosen) (r .cost1) (r .cost2) visits
-        visits′ L I C kept
-        → length L ≡ length (take (n - 0) (drop 0 lengths)) → length I ≡ length (take (n - 0) (drop 0 ids)) → length C ≡ length (take (n - 0) (drop 0 costs))
+    pub goes-on-made : r .found ≡ true → moves < limit → (visits′ lengths′ ids′ : List ℕ) (costs′ : List Float) (kept : ℕ)
+        → MadeIn n (r .chosen) (r .cost1) (r .cost2) visits lengths ids costs visits′ lengths′ ids′ costs′ kept
+        → length lengths′ ≡ length lengths → length ids′ ≡ length ids → length costs′ ≡ length costs
         → Going (next (searchOf c demand fleet) (judgeOf c demand fleet)) limit (record { now = first; ahead = [] }) (moves + 1)
-        (record {
-          now = planOf visits′ (take kept (putMid 0 (n - 0) lengths L)) (take kept (putMid 0 (n - 0) ids I)) (take kept (putMid 0 (n - 0) costs C));
-          ahead = [];
-        })
-        × Live l visits₀ visits′ (putMid 0 (n - 0) lengths L) (putMid 0 (n - 0) ids I) (putMid 0 (n - 0) costs C) kept number
-    goes-on-made e room visits′ L I C kept made long-L long-I long-C =
-        let now = rw (part n lengths, part n ids, part n costs) at made in
-        let many-L : length L ≡ n
-        = long-L ∙ ap length (part n lengths) ∙ length-take-le n lengths (omega (arith, live .few, live .many-lengths)) in
-        let many-I : length I ≡ n = long-I ∙ ap length (part n ids) ∙ length-take-le n ids (omega (arith, live .few, live .many-ids)) in
-        let many-C : length C ≡ n = long-C ∙ ap length (part n costs) ∙ length-take-le n costs (omega (arith, live .few, live .many-costs)) in
-        rw (put n lengths L, put n ids I, put n costs C) (
+        (record { now = planOf visits′ (take kept lengths′) (take kept ids′) (take kept costs′); ahead = [] })
+        × Live l visits₀ visits′ lengths′ ids′ costs′ kept number
+    goes-on-made e room visits′ lengths′ ids′ costs′ kept made long-lengths long-ids long-costs =
+        let many-lengths = length-take-le n lengths′ (omega (arith, long-lengths, live .few, live .many-lengths)) in
+        let many-ids = length-take-le n ids′ (omega (arith, long-ids, live .few, live .many-ids)) in
+        let many-costs = length-take-le n costs′ (omega (arith, long-costs, live .few, live .many-costs)) in
+        in-parts (take n lengths′) (take n ids′) (take n costs′) many-lengths many-ids many-costs (made .made)
+        lengths′ ids′ costs′ (cut-at n lengths′ lengths (made .other-lengths)) (cut-at n ids′ ids (made .other-ids)) (cut-at n costs′ costs (made .other-costs))
+      where
+        in-parts : (L I : List ℕ) (C : List Float) → length L ≡ n → length I ≡ n → length C ≡ n
+            → Made (planOf visits (take n lengths) (take n ids) (take n costs)) (r .chosen) (r .cost1) (r .cost2) visits visits′ L I C kept
+            → (lengths″ ids″ : List ℕ) (costs″ : List Float) → lengths″ ≡ L ++ drop n lengths → ids″ ≡ I ++ drop n ids → costs″ ≡ C ++ drop n costs
+            → Going (next (searchOf c demand fleet) (judgeOf c demand fleet)) limit (record { now = first; ahead = [] }) (moves + 1)
+            (record { now = planOf visits′ (take kept lengths″) (take kept ids″) (take kept costs″); ahead = [] })
+            × Live l visits₀ visits′ lengths″ ids″ costs″ kept number
+        in-parts L I C many-L many-I many-C now lengths″ ids″ costs″ is-L is-I is-C = rw (is-L, is-I, is-C) (
           goes-on e room _ (plan-on l visits₀ visits lengths ids costs n number live _ _ _ _ visits′ L I C kept now many-L many-I many-C),
           live-on l visits₀ visits lengths ids costs n number live _ _ _ _ visits′ L I C kept now many-L many-I many-C,
         )

@@ -1,5 +1,6 @@
 pub mod Loads
 pub mod Stretch
+pub mod Fitting
 pub mod Scanning
 pub mod Pairs
 pub mod Exchanging

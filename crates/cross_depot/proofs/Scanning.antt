@@ -1,29 +1,33 @@
 -- The loops of the search: one turn of a scan, its end, and what a candidate's prices make of the best so far. Assumes nothing.
 use mathlib.Core.Path.{_≡_, refl, sym, ap, _∙_}
-use mathlib.Core.Bool.{Bool, true, false, cond}
+use mathlib.Core.Bool.{Bool, true, false, cond, not, _&&_}
 use mathlib.Core.List.{List, [], _∷_}
-use Prim.Native.Nat.{ℕ, zero, suc, _+_, _≤_, _<_}
+use Prim.Native.Nat.{ℕ, _+_, _≤_, _<_}
 use native.Mathlib.Numerals.{add-one}
 use native.Mathlib.Omega.{arith}
-use borrow.Author.Tests.{lt-ltb, le-ltb}
+use borrow.Author.Tests.{lt-ltb, le-ltb, not-true, not-false}
 use lib.Dec.{eqb, ltb}
 use lib.IntN.{ℤ}
-use lib.ListN.{length, take, drop}
-use lib.Seq.{slice}
+use lib.ListN.{length}
+use lib.Seq.{slice, slice-empty}
 use lib.Ieee.{Float, lt}
 use Rattle.numbers.specs.Operations.{_⊕_, _⊖_}
+use Rattle.tests.specs.All.{and-first, and-second}
 use Rattle.tests.specs.Pick.{picked, other}
 use Rattle.evaluation.specs.Columns.{Columns}
 use Rattle.descent.specs.Order.{range}
 use Rattle.descent.proofs.Loops.{range-step, range-done}
-use Rattle.cross_depot.specs.CrossDepot.{allowed, replaced, relocation, stretchEnd, cuts, exchange}
-use Rattle.cross_depot.specs.Scan.{scan, single, decided, price1, price2, better, tryRelocation, tryExchange, relocateRow, exchangeRow}
+use Rattle.cross_depot.specs.CrossDepot.{holds, pricedAs, allowed, replaced, relocation, stretchEnd, cuts, exchange}
+use Rattle.cross_depot.specs.Scan.{scan, single, Stretches, made1, made2, decided}
+use Rattle.cross_depot.specs.Scan.{price1, price2, better, tryRelocation, tryExchange, relocateRow, exchangeRow}
 use Rattle.cross_depot.specs.Scan.{bestRelocation, bestSwap, bestTails, bestExchange, bestBetween}
 use Rattle.cross_depot.specs.declared.price.Price.{Price}
 use Rattle.cross_depot.specs.declared.price.Price.the-variants.{Unallowed, Costs}
 use Rattle.cross_depot.specs.declared.pair.Pair.{Pair}
 use Rattle.cross_depot.specs.declared.pair.Move.{Move}
 use Rattle.cross_depot.specs.declared.search.Choice.{Choice}
+use Rattle.cross_depot.proofs.Stretch.{allowed-over, allowed-held, allowed-untested}
+use Rattle.cross_depot.proofs.Fitting.{holds-anywhere}
 
 -- ---- a loop
 
@@ -47,11 +51,6 @@ scan-stays f (x ∷ xs) b h = ap (scan f xs) (h x) ∙ scan-stays f xs b h
 pub stretch-within : (tails : Bool) (n k end : ℕ) → end ≡ stretchEnd tails n k → k + single tails ≤ n → (k ≤ end) × (end ≤ n)
 stretch-within true n k end e h = (omega arith, omega arith)
 stretch-within false n k end e h = (omega arith, omega arith)
-
-pub slice-none : (k : ℕ) (xs : List ℕ) → slice k k xs ≡ []
-slice-none zero xs = refl
-slice-none (suc k) [] = refl
-slice-none (suc k) (x ∷ xs) = slice-none k xs
 
 -- ---- a better move
 
@@ -80,28 +79,66 @@ module _ (c : Columns) (demand : List ℤ) (pair : Pair) (X Y : List ℕ) (m : M
       unfolding better
       better-both y r e d = rw (← is1, costs1, ← is2, e) d
 
+-- ---- loads
+
+module _ (c : Columns) (demand : List ℤ) (pair : Pair) (X Y : List ℕ) (m : Move) where
+  -- the price of a list whose load is within the capacity
+  pub price1-held : (first : Price) → first ≡ pricedAs c (pair .van1) (made1 X Y m) → holds demand (pair .van1) (made1 X Y m) ≡ true
+      → first ≡ price1 c demand pair X Y m
+  price1-held first is h = is ∙ allowed-held c demand (m .tested) (pair .van1) (made1 X Y m) h
+
+  pub price2-held : (second : Price) → second ≡ pricedAs c (pair .van2) (made2 X Y m) → holds demand (pair .van2) (made2 X Y m) ≡ true
+      → second ≡ price2 c demand pair X Y m
+  price2-held second is h = is ∙ allowed-held c demand true (pair .van2) (made2 X Y m) h
+
+  -- the second list's load is over the capacity: the best stays, whatever the first costs
+  better-over2 : (best : Choice) → holds demand (pair .van2) (made2 X Y m) ≡ false → best ≡ better c demand pair X Y m best
+  unfolding better decided
+  better-over2 best h = rw (allowed-over c demand true (pair .van2) (made2 X Y m) refl h) (by-price (price1 c demand pair X Y m))
+    where
+      by-price : (q : Price) → best ≡ decided pair m q Unallowed best
+      by-price Unallowed = refl
+      by-price (Costs x) = refl
+
+  module _ (fit : Bool) (asked : fit ≡ (holds demand (pair .van1) (made1 X Y m) && holds demand (pair .van2) (made2 X Y m))) where
+    -- one of both loads is over its capacity
+    pub better-over : (best : Choice) → m .tested ≡ true → not fit ≡ true → best ≡ better c demand pair X Y m best
+    better-over best tested e = by-first (holds demand (pair .van1) (made1 X Y m)) refl
+      where
+        by-first : (h : Bool) → holds demand (pair .van1) (made1 X Y m) ≡ h → best ≡ better c demand pair X Y m best
+        by-first false h =
+            better-not1 c demand pair X Y m best (price1 c demand pair X Y m) refl (allowed-over c demand (m .tested) (pair .van1) (made1 X Y m) tested h)
+        by-first true h =
+            let both : fit ≡ (true && holds demand (pair .van2) (made2 X Y m)) = rw h at asked in
+            better-over2 best (sym both ∙ not-true fit e)
+
+-- both loads are within
+pub both-held : (demand : List ℤ) (pair : Pair) (X Y : List ℕ) (m : Move) (fit : Bool)
+    → fit ≡ (holds demand (pair .van1) (made1 X Y m) && holds demand (pair .van2) (made2 X Y m)) → not fit ≡ false
+    → (holds demand (pair .van1) (made1 X Y m) ≡ true) × (holds demand (pair .van2) (made2 X Y m) ≡ true)
+both-held demand pair X Y m fit asked e =
+    let held = sym asked ∙ not-false fit e in (
+      and-first (holds demand (pair .van1) (made1 X Y m)) (holds demand (pair .van2) (made2 X Y m)) held,
+      and-second (holds demand (pair .van1) (made1 X Y m)) (holds demand (pair .van2) (made2 X Y m)) held,
+    )
+
 -- ---- a swap, or a tail exchange
 
-module _ (c : Columns) (demand : List ℤ) (pair : Pair) (X Y : List ℕ) (tails : Bool) (k1 k2 end1 end2 : ℕ)
-    (at-end1 : end1 ≡ stretchEnd tails (length X) k1) (at-end2 : end2 ≡ stretchEnd tails (length Y) k2) (best : Choice) (first : Price)
-    (is1 : first ≡ allowed c demand true (pair .van1) (replaced X k1 end1 (slice k2 end2 Y))) where
-  pub exchange-not1 : first ≡ Unallowed → best ≡ tryExchange c demand pair X Y tails k1 k2 best
+module _ (pair : Pair) (X Y : List ℕ) (tails : Bool) (k1 k2 : ℕ) (tried : Move)
+    (is : tried ≡ exchange tails (pair .one) (pair .other) (length X) (length Y) k1 k2) where
+  pub exchange-inside : k1 + single tails ≤ length X → k2 + single tails ≤ length Y → Stretches X Y tried
+  exchange-inside h1 h2 =
+      let first = stretch-within tails (length X) k1 _ refl h1 in
+      let second = stretch-within tails (length Y) k2 _ refl h2 in
+      rw is (record { ordered1 = first .0; within1 = first .1; ordered2 = second .0; within2 = second .1 })
+
+  pub exchange-tested : tried .tested ≡ true
+  exchange-tested = ap (λ (m : Move). m .tested) is
+
+  pub exchange-tried : (c : Columns) (demand : List ℤ) (best r : Choice) → r ≡ better c demand pair X Y tried best
+      → r ≡ tryExchange c demand pair X Y tails k1 k2 best
   unfolding tryExchange
-  exchange-not1 e = better-not1 c demand pair X Y _ best first (rw (at-end1, at-end2) at is1) e
-
-  module _ (x : Float) (costs1 : first ≡ Costs x) (second : Price)
-      (is2 : second ≡ allowed c demand true (pair .van2) (replaced Y k2 end2 (slice k1 end1 X))) where
-    pub exchange-not2 : second ≡ Unallowed → best ≡ tryExchange c demand pair X Y tails k1 k2 best
-    unfolding tryExchange
-    exchange-not2 e = better-not2 c demand pair X Y _ best first (rw (at-end1, at-end2) at is1) x costs1 second (rw (at-end1, at-end2) at is2) e
-
-    pub exchange-both : (y : Float) (r : Choice) → second ≡ Costs y
-        → r ≡ decided pair (record { one = pair .one; from1 = k1; to1 = end1; other = pair .other; from2 = k2; to2 = end2; tested = true }) (Costs x) (Costs y) best
-        → r ≡ tryExchange c demand pair X Y tails k1 k2 best
-    unfolding tryExchange
-    exchange-both y r e d =
-        better-both c demand pair X Y _ best first (rw (at-end1, at-end2) at is1) x costs1 second (rw (at-end1, at-end2) at is2) y r e
-        (rw (at-end1, at-end2) at d)
+  exchange-tried c demand best r e = rw is at e
 
 -- ---- the cuts of a tail exchange
 
@@ -123,7 +160,7 @@ module _ (c : Columns) (demand : List ℤ) (pair : Pair) (X Y : List ℕ) (posit
   -- what is left of the first list doesn't depend on the place
   left-is : (first : Price) → first ≡ allowed c demand false (pair .van1) (replaced X position (position + 1) []) → (place : ℕ)
       → first ≡ price1 c demand pair X Y (relocation (pair .one) (pair .other) position place)
-  left-is first is place = rw (slice-none place Y) is
+  left-is first is place = rw (slice-empty place Y) is
 
   -- it isn't allowed: no place is better
   pub row-unallowed : (first : Price) → first ≡ allowed c demand false (pair .van1) (replaced X position (position + 1) []) → first ≡ Unallowed
@@ -133,28 +170,69 @@ module _ (c : Columns) (demand : List ℤ) (pair : Pair) (X Y : List ℕ) (posit
       sym (scan-stays (tryRelocation c demand pair X Y position) (range 0 (length Y + 1)) best
       (λ place. sym (better-not1 c demand pair X Y (relocation (pair .one) (pair .other) position place) best first (left-is first is place) e)))
 
-  module _ (place : ℕ) (best : Choice) (x : Float)
-      (is1 : Costs x ≡ allowed c demand false (pair .van1) (replaced X position (position + 1) [])) (second : Price)
-      (is2 : second ≡ allowed c demand true (pair .van2) (replaced Y place place (slice position (position + 1) X))) where
-    pub relocation-not : second ≡ Unallowed → best ≡ tryRelocation c demand pair X Y position place best
-    unfolding tryRelocation
-    relocation-not e = better-not2 c demand pair X Y _ best (Costs x) (left-is (Costs x) is1 place) x refl second is2 e
+  -- the second list has no room for the visit: no place is better
+  pub row-over : holds demand (pair .van2) (replaced Y 0 0 (slice position (position + 1) X)) ≡ false → (best : Choice)
+      → best ≡ relocateRow c demand pair X Y position best
+  unfolding relocateRow tryRelocation
+  row-over h best =
+      sym (scan-stays (tryRelocation c demand pair X Y position) (range 0 (length Y + 1)) best
+      (λ place. sym (better-over2 c demand pair X Y (relocation (pair .one) (pair .other) position place) best
+      (holds-anywhere demand (pair .van2) Y place (slice position (position + 1) X) ∙ h))))
 
-    pub relocation-both : (y : Float) (r : Choice) → second ≡ Costs y
-        → r ≡ decided pair (relocation (pair .one) (pair .other) position place) (Costs x) (Costs y) best
-        → r ≡ tryRelocation c demand pair X Y position place best
+module _ (pair : Pair) (X Y : List ℕ) (position place : ℕ) (tried : Move) (is : tried ≡ relocation (pair .one) (pair .other) position place) where
+  pub relocation-inside : position < length X → place ≤ length Y → Stretches X Y tried
+  relocation-inside h1 h2 = rw is (record { ordered1 = omega arith; within1 = omega arith; ordered2 = omega arith; within2 = h2 })
+
+  module _ (demand : List ℤ) where
+    -- whether the second list has room for the visit doesn't depend on the place
+    pub relocation-held : holds demand (pair .van2) (replaced Y 0 0 (slice position (position + 1) X)) ≡ true
+        → holds demand (pair .van2) (made2 X Y tried) ≡ true
+    relocation-held h = rw is (holds-anywhere demand (pair .van2) Y place (slice position (position + 1) X) ∙ h)
+
+    room-told : (fit : Bool) → fit ≡ holds demand (pair .van2) (made2 X Y tried)
+        → holds demand (pair .van2) (replaced Y 0 0 (slice position (position + 1) X)) ≡ fit
+    room-told fit e =
+        let here : fit ≡ holds demand (pair .van2) (replaced Y place place (slice position (position + 1) X)) = rw is at e in
+        sym (here ∙ holds-anywhere demand (pair .van2) Y place (slice position (position + 1) X))
+
+    pub room-over : (fit : Bool) → fit ≡ holds demand (pair .van2) (made2 X Y tried) → not fit ≡ true
+        → holds demand (pair .van2) (replaced Y 0 0 (slice position (position + 1) X)) ≡ false
+    room-over fit e h = room-told fit e ∙ not-true fit h
+
+    pub room-held : (fit : Bool) → fit ≡ holds demand (pair .van2) (made2 X Y tried) → not fit ≡ false
+        → holds demand (pair .van2) (replaced Y 0 0 (slice position (position + 1) X)) ≡ true
+    room-held fit e h = room-told fit e ∙ not-false fit h
+
+  module _ (c : Columns) (demand : List ℤ) where
+    -- so the first list has that price, whatever the place
+    pub relocation-left : (first : Price) → first ≡ allowed c demand false (pair .van1) (replaced X position (position + 1) [])
+        → first ≡ price1 c demand pair X Y tried
+    relocation-left first e = rw is (left-is c demand pair X Y position first e place)
+
+    -- and that price is told by any place
+    pub left-told : (first : Price) → first ≡ pricedAs c (pair .van1) (made1 X Y tried)
+        → first ≡ allowed c demand false (pair .van1) (replaced X position (position + 1) [])
+    left-told first e =
+        let left : first ≡ pricedAs c (pair .van1) (replaced X position (position + 1) []) = rw (is, slice-empty place Y) at e in
+        left ∙ allowed-untested c demand (pair .van1) (replaced X position (position + 1) [])
+
+    pub relocation-tried : (best r : Choice) → r ≡ better c demand pair X Y tried best → r ≡ tryRelocation c demand pair X Y position place best
     unfolding tryRelocation
-    relocation-both y r e d = better-both c demand pair X Y _ best (Costs x) (left-is (Costs x) is1 place) x refl second is2 y r e d
+    relocation-tried best r e = rw is at e
 
 -- ---- all moves between two lists
 
-module _ (c : Columns) (demand : List ℤ) (pair : Pair) (X Y : List ℕ) (best relocated : Choice)
-    (is : relocated ≡ bestRelocation c demand pair X Y best) where
-  pub between-later : pair .other ≤ pair .one → relocated ≡ bestBetween c demand pair X Y best
-  unfolding bestBetween bestExchange
-  between-later h = other (ltb (pair .one) (pair .other)) _ _ _ (le-ltb (pair .one) (pair .other) h) is
+module _ (c : Columns) (demand : List ℤ) (pair : Pair) (X Y : List ℕ) (best : Choice) where
+  pub exchanges-later : pair .other ≤ pair .one → best ≡ bestExchange c demand pair X Y best
+  unfolding bestExchange
+  exchanges-later h = other (ltb (pair .one) (pair .other)) _ _ _ (le-ltb (pair .one) (pair .other) h) refl
 
-  pub between-earlier : pair .one < pair .other → (swapped r : Choice) → swapped ≡ bestSwap c demand pair X Y relocated
-      → r ≡ bestTails c demand pair X Y swapped → r ≡ bestBetween c demand pair X Y best
-  unfolding bestBetween bestExchange
-  between-earlier h swapped r e f = picked (ltb (pair .one) (pair .other)) _ _ _ (lt-ltb (pair .one) (pair .other) h) (rw (f, e, is))
+  pub exchanges-earlier : pair .one < pair .other → (swapped r : Choice) → swapped ≡ bestSwap c demand pair X Y best
+      → r ≡ bestTails c demand pair X Y swapped → r ≡ bestExchange c demand pair X Y best
+  unfolding bestExchange
+  exchanges-earlier h swapped r e f = picked (ltb (pair .one) (pair .other)) _ _ _ (lt-ltb (pair .one) (pair .other) h) (rw (f, e))
+
+  pub between-is : (relocated r : Choice) → relocated ≡ bestRelocation c demand pair X Y best → r ≡ bestExchange c demand pair X Y relocated
+      → r ≡ bestBetween c demand pair X Y best
+  unfolding bestBetween
+  between-is relocated r e f = rw (f, e)

@@ -1,12 +1,12 @@
 -- Every move of the search can be made: it is between two lists of different depots, and its stretches lie in them. Assumes nothing.
 use mathlib.Core.Path.{_≡_, refl, sym, ap, subst, _∙_}
 use mathlib.Core.Logic.{_⊎_, inl, inr, _≢_}
-use mathlib.Core.Bool.{Bool, true, false, cond, false≢true}
+use mathlib.Core.Bool.{Bool, true, false, cond}
 use mathlib.Core.Option.{some}
-use mathlib.Core.List.{List, [], _∷_, _++_, map}
+use mathlib.Core.List.{List, [], _++_, map}
 use Prim.Native.Nat.{ℕ, _+_, _≤_, _<_}
 use native.Mathlib.Omega.{arith}
-use lib.Dec.{eqb, ltb}
+use lib.Dec.{ltb}
 use lib.IntN.{ℤ}
 use lib.ListN.{length, getD}
 use lib.Ieee.{Float}
@@ -17,11 +17,11 @@ use Rattle.lists.specs.Edits.{at}
 use Rattle.lists.proofs.Tables.{at-lists, length-lists, length-list}
 use Rattle.evaluation.specs.Columns.{Columns}
 use Rattle.descent.specs.Order.{_∈_, range, each}
-use Rattle.descent.specs.Search.{ok, taken}
+use Rattle.descent.specs.Search.{taken}
 use Rattle.descent.proofs.Members.{not-in, in-either, range-in, each-in, map-in}
 use Rattle.descent.proofs.Sweeps.{first-least-some}
 use Rattle.fleet.specs.Fleet.{Fleet}
-use Rattle.cross_depot.specs.CrossDepot.{Plan, relocation, stretchEnd, exchange, cuts, relocations, swaps, tailExchanges, pairOf, sameDepot}
+use Rattle.cross_depot.specs.CrossDepot.{Plan, relocation, exchange, cuts, relocations, swaps, tailExchanges, pairOf, sameDepot}
 use Rattle.cross_depot.specs.CrossDepot.{betweenLists, ofPair, moves, moved, searchOf, judgeOf}
 use Rattle.cross_depot.specs.Scan.{planOf, nothing, moveOf, bestOf, single}
 use Rattle.cross_depot.specs.Tables.{Makes, Chosen}
@@ -29,7 +29,7 @@ use Rattle.cross_depot.specs.declared.pair.Move.{Move}
 use Rattle.cross_depot.specs.declared.search.Choice.{Choice}
 use Rattle.cross_depot.proofs.Scanning.{stretch-within, cuts-few}
 use Rattle.cross_depot.proofs.Pairs.{depots-apart}
-use Rattle.cross_depot.proofs.Choosing.{Best, chosen}
+use Rattle.cross_depot.proofs.Choosing.{chosen}
 
 -- the loads of both lists are tested, or the first takes nothing in the place of its stretch
 abbrev pub TestedOrLess : Move → Type 0

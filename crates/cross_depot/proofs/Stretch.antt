@@ -1,8 +1,8 @@
 -- A list with a stretch of another in the place of its own: its visits are visits of the two, so that each is a location and they are at most 63; and what
 -- the van's answers make of its price. Assumes nothing.
-use mathlib.Core.Path.{_≡_, refl, sym, ap, _∙_}
+use mathlib.Core.Path.{_≡_, refl, ap, _∙_}
 use mathlib.Core.Logic.{_≢_}
-use mathlib.Core.Bool.{Bool, true, false, not, _||_}
+use mathlib.Core.Bool.{Bool, true, false, cond, not, _||_}
 use mathlib.Core.List.{List, [], _∷_, _++_, append-assoc}
 use Prim.Native.Nat.{ℕ, _+_, _-_, _≤_, _<_}
 use native.Mathlib.Omega.{arith}
@@ -14,7 +14,6 @@ use Rattle.numbers.specs.Operations.{zero64}
 use Rattle.day.specs.Vehicle.{limitsOf}
 use Rattle.day.specs.declared.vehicle.Van.{Van}
 use Rattle.day.specs.declared.vehicle.RouteLimits.{RouteLimits}
-use Rattle.tests.specs.Pick.{picked, other}
 use Rattle.edits.specs.Total.{total, bit, total-append, total-none}
 use Rattle.edits.proofs.Cuts.{cut, to-end, lent}
 use Rattle.evaluation.specs.Columns.{Columns, Visits}
@@ -97,20 +96,21 @@ module _ (c : Columns) (van : Van) (list : List ℕ) where
       by-list [] o e = absurd (o refl)
       by-list (x ∷ xs) o e = e
 
-module _ (c : Columns) (demand : List ℤ) (tested : Bool) (van : Van) (list : List ℕ) (answer : Bool)
-    (asked : answer ≡ (not tested || holds demand van list)) where
-  pub allowed-not : not answer ≡ true → Unallowed ≡ allowed c demand tested van list
+module _ (c : Columns) (demand : List ℤ) (tested : Bool) (van : Van) (list : List ℕ) where
+  -- a load that is tested, and is over the capacity
+  pub allowed-over : tested ≡ true → holds demand van list ≡ false → allowed c demand tested van list ≡ Unallowed
   unfolding allowed
-  allowed-not e = other (not tested || holds demand van list) _ _ _ (sym asked ∙ false-of answer e) refl
-    where
-      false-of : (b : Bool) → not b ≡ true → b ≡ false
-      false-of true e = sym e
-      false-of false e = refl
+  allowed-over e h = rw (e, h) refl
 
-  pub allowed-at : (r : Price) → not answer ≡ false → r ≡ pricedAs c van list → r ≡ allowed c demand tested van list
+  -- a load within the capacity, tested or not
+  pub allowed-held : holds demand van list ≡ true → pricedAs c van list ≡ allowed c demand tested van list
   unfolding allowed
-  allowed-at r e is = picked (not tested || holds demand van list) _ _ _ (sym asked ∙ true-of answer e) is
+  allowed-held h = rw h (by-test tested)
     where
-      true-of : (b : Bool) → not b ≡ false → b ≡ true
-      true-of true e = refl
-      true-of false e = sym e
+      by-test : (t : Bool) → pricedAs c van list ≡ cond (not t || true) (pricedAs c van list) Unallowed
+      by-test true = refl
+      by-test false = refl
+
+pub allowed-untested : (c : Columns) (demand : List ℤ) (van : Van) (list : List ℕ) → pricedAs c van list ≡ allowed c demand false van list
+unfolding allowed
+allowed-untested c demand van list = refl

@@ -1,6 +1,5 @@
 -- Cross-depot's search as its functions state it: one candidate more, the rows of candidates one after another, and the best so far. For src/; the engine's
 -- own definition is CrossDepot.antt. Assumes nothing.
-use mathlib.Core.Path.{_≡_}
 use mathlib.Core.Bool.{Bool, true, false, cond}
 use mathlib.Core.Option.{Option, none, some}
 use mathlib.Core.List.{List, [], _∷_}
@@ -11,13 +10,12 @@ use lib.ListN.{length, getD}
 use lib.Seq.{slice}
 use lib.Ieee.{Float, lt, neg}
 use Rattle.numbers.specs.Operations.{_⊕_, _⊖_, zero64}
-use Rattle.day.specs.declared.vehicle.Van.{Van}
 use Rattle.lists.specs.Table.{Laid, lists}
 use Rattle.lists.specs.Edits.{at}
 use Rattle.evaluation.specs.Columns.{Columns, Formed}
 use Rattle.descent.specs.Order.{range}
 use Rattle.cross_depot.specs.Boxes.{Loaded}
-use Rattle.fleet.specs.Fleet.{Fleet, Driven, Manned}
+use Rattle.fleet.specs.Fleet.{Fleet, Driven}
 use Rattle.cross_depot.specs.CrossDepot.{Plan, allowed, replaced, relocation, exchange, cuts, pairOf, sameDepot}
 use Rattle.cross_depot.specs.declared.price.Price.{Price}
 use Rattle.cross_depot.specs.declared.price.Price.the-variants.{Unallowed, Costs}
@@ -48,6 +46,13 @@ pub record Two (l : ℕ) (X Y : List ℕ) : Type 0 where
   pub other-below : (k : ℕ) → k < length Y → getD Y k 0 < l
   pub few : length X + length Y ≤ 63
 
+-- of a move between two lists: its stretches lie in them
+pub record Stretches (X Y : List ℕ) (m : Move) : Type 0 where
+  pub ordered1 : m .from1 ≤ m .to1
+  pub within1 : m .to1 ≤ length X
+  pub ordered2 : m .from2 ≤ m .to2
+  pub within2 : m .to2 ≤ length Y
+
 -- of the tables: the lists are laid out, each visit is a location, and there are at most 63
 pub record Held (l : ℕ) (visits lengths : List ℕ) : Type 0 where
   pub laid : Laid visits lengths
@@ -58,6 +63,13 @@ pub record Held (l : ℕ) (visits lengths : List ℕ) : Type 0 where
 abbrev pub single : Bool → ℕ
 single true = 0
 single false = 1
+
+-- the two lists that a move makes
+abbrev pub made1 : List ℕ → List ℕ → Move → List ℕ
+made1 X Y m = replaced X (m .from1) (m .to1) (slice (m .from2) (m .to2) Y)
+
+abbrev pub made2 : List ℕ → List ℕ → Move → List ℕ
+made2 X Y m = replaced Y (m .from2) (m .to2) (slice (m .from1) (m .to1) X)
 
 -- ---- one candidate more
 
@@ -71,10 +83,10 @@ decided pair m (Costs x) (Costs y) best =
 module _ (c : Columns) (demand : List ℤ) (pair : Pair) (X Y : List ℕ) where
   -- the prices of the two lists that a move makes
   abbrev pub price1 : Move → Price
-  price1 m = allowed c demand (m .tested) (pair .van1) (replaced X (m .from1) (m .to1) (slice (m .from2) (m .to2) Y))
+  price1 m = allowed c demand (m .tested) (pair .van1) (made1 X Y m)
 
   abbrev pub price2 : Move → Price
-  price2 m = allowed c demand true (pair .van2) (replaced Y (m .from2) (m .to2) (slice (m .from1) (m .to1) X))
+  price2 m = allowed c demand true (pair .van2) (made2 X Y m)
 
   -- the better of the best so far and a move
   unfoldable pub better : Move → Choice → Choice

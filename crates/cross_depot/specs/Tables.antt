@@ -2,7 +2,7 @@
 use mathlib.Core.Path.{_≡_}
 use mathlib.Core.Logic.{_≢_}
 use mathlib.Core.Bool.{true}
-use mathlib.Core.List.{List, [], _∷_, _++_}
+use mathlib.Core.List.{List, _++_}
 use Prim.Native.Nat.{ℕ, zero, suc, _-_, _≤_, _<_}
 use lib.IntN.{ℤ}
 use lib.ListN.{length, getD, take, drop, replicate}
@@ -57,6 +57,15 @@ pub record Made (p : Plan) (m : Move) (cost1 cost2 : Float) (visits visits′ le
   pub same : SameVisits visits visits′
   pub no-lengths : drop kept lengths′ ≡ replicate (length lengths′ - kept) 0
   pub no-ids : drop kept ids′ ≡ replicate (length ids′ - kept) 0
+
+-- the same for the first n lists of the tables: what stands behind them stays as it is
+pub record MadeIn (n : ℕ) (m : Move) (cost1 cost2 : Float) (visits lengths ids : List ℕ) (costs : List Float) (visits′ lengths′ ids′ : List ℕ)
+    (costs′ : List Float) (kept : ℕ) : Type 0 where
+  pub made : Made (planOf visits (take n lengths) (take n ids) (take n costs)) m cost1 cost2 visits
+      visits′ (take n lengths′) (take n ids′) (take n costs′) kept
+  pub other-lengths : drop n lengths′ ≡ drop n lengths
+  pub other-ids : drop n ids′ ≡ drop n ids
+  pub other-costs : drop n costs′ ≡ drop n costs
 
 -- ---- the run
 

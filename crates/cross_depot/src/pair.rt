@@ -46,7 +46,8 @@ pub fn pair_at(
     a: usize,
     b: usize,
 ) -> Pair
-    requires { ⌜ Fitted (fleetAt «van_ids» depots capacities «distance_costs» «fixed_costs» «van_flags» «max_distances» «max_durations» earliest latest durations) ⌝ }
+    requires { ⌜ Fitted (fleetAt «van_ids» depots capacities «distance_costs» «fixed_costs» «van_flags» «max_distances» «max_durations»
+        earliest latest durations) ⌝ }
     requires { ⌜ (0 < length (now «van_ids»)) × (length (now «van_ids») ≤ 16) ⌝ }
     requires { ⌜ (a < length (now ids)) × (b < length (now ids)) × (length (now costs) ≡ length (now ids)) × (length (now ids) ≤ 16) ⌝ }
     ensures { λ r.

@@ -5,18 +5,17 @@ use edits::append_stretch;
 use evaluation::route::Evaluation;
 use evaluation::route::route_eval;
 ghost use mathlib.Core.Path.{_≡_};
-ghost use mathlib.Core.Bool.{true, not, _||_};
+ghost use mathlib.Core.Bool.{true};
 ghost use Prim.Native.Nat.{_+_, _≤_, _<_};
 ghost use lib.IntN.{pos, natAbs};
 ghost use lib.Signed.{leZ};
 ghost use lib.ListN.{length, getD, take};
 ghost use lib.Seq.{slice};
-ghost use Rattle.edits.specs.Total.{total};
 ghost use Rattle.evaluation.specs.Columns.{columnsAt, Formed, Visits};
-ghost use Rattle.cross_depot.specs.Boxes.{boxesAt, Loaded};
+ghost use Rattle.cross_depot.specs.Boxes.{boxesAt, Loaded, Prefixed};
 ghost use Rattle.fleet.specs.Fleet.{Driven};
-ghost use Rattle.cross_depot.specs.CrossDepot.{priceOf, pricedAs, holds, allowed, replaced};
-ghost use Rattle.cross_depot.specs.Scan.{Asked, Two};
+ghost use Rattle.cross_depot.specs.CrossDepot.{priceOf, pricedAs, holds, replaced};
+ghost use Rattle.cross_depot.specs.Scan.{Two};
 
 // The price of a list.
 pub enum Price {
@@ -42,29 +41,44 @@ fn boxes_at(l: usize, demand: &[i32], list: &[u16], k: usize) -> usize
     boxes_of(demand[visit])
 }
 
-// The load of a list: its visits' boxes added up.
-fn load_of(l: usize, demand: &[i32], list: &[u16]) -> usize
-    requires { ⌜ Loaded l (now demand) × Visits l (now list) ⌝ }
-    ensures { λ r. ⌜ r ≡ total (boxesAt (now (demand .entry))) (now (list .entry)) ⌝ }
+// The load of the first k visits of a list at k of the table, for k from 0 to the list's length.
+pub fn prefix_loads(l: usize, demand: &[i32], list: &[u16], loads: &mut [usize])
+    requires { ⌜ Loaded l (now demand) × Visits l (now list) × (length (now loads) ≡ 64) ⌝ }
+    ensures { λ _. ⌜ Prefixed (now (demand .entry)) (now (list .entry)) (now (loads .exit)) ⌝ }
 {
     let mut load = 0;
     let mut k = 0;
+    loads[0] = 0;
     while k < list.len() {
         load += boxes_at(l, demand, list, k);
         k += 1;
+        loads[k] = load;
     }
-    load
 }
 
-// Whether the load of a list, where it is tested, is within a capacity.
-fn is_within(l: usize, demand: &[i32], tested: bool, van: Van, list: &[u16]) -> bool
-    requires { ⌜ Loaded l (now demand) × Visits l (now list) × Driven l van ⌝ }
-    ensures { λ r. ⌜ r ≡ (not tested || holds (now (demand .entry)) van (now (list .entry))) ⌝ }
+// Whether the load of a list with a stretch of another in the place of its own is within the van's capacity, by the prefix loads of both lists.
+pub fn fits(
+    l: usize,
+    demand: &[i32],
+    van: Van,
+    list: &[u16],
+    loads: &[usize],
+    from: usize,
+    to: usize,
+    other: &[u16],
+    other_loads: &[usize],
+    other_from: usize,
+    other_to: usize,
+) -> bool
+    requires { ⌜ Loaded l (now demand) × Driven l van × Two l (now list) (now other) ⌝ }
+    requires { ⌜ Prefixed (now demand) (now list) (now loads) × Prefixed (now demand) (now other) (now «other_loads») ⌝ }
+    requires { ⌜ (from ≤ to) × (to ≤ length (now list)) × («other_from» ≤ «other_to») × («other_to» ≤ length (now other)) ⌝ }
+    ensures { λ r.
+        ⌜ r ≡ holds (now (demand .entry)) van (replaced (now (list .entry)) from to (slice «other_from» «other_to» (now (other .entry)))) ⌝ }
 {
-    if !tested {
-        return true;
-    }
-    load_of(l, demand, list) <= boxes_of(van.capacity)
+    let come = loads[list.len()] + loads[from] + other_loads[other_to];
+    let gone = loads[to] + other_loads[other_from];
+    come <= boxes_of(van.capacity) + gone
 }
 
 // The price of an evaluated list.
@@ -117,45 +131,6 @@ fn priced(
     price_of(van, evaluation)
 }
 
-// The price of a list, if the van allows it; `tested` says whether its load counts.
-fn allowed_price(
-    l: usize,
-    flags: &[u8],
-    demand: &[i32],
-    service: &[f64],
-    ready: &[f64],
-    due: &[f64],
-    penalty: &[f64],
-    distances: &[f64],
-    times: &[f64],
-    tested: bool,
-    van: Van,
-    list: &[u16],
-) -> Price
-    requires { ⌜ Asked (columnsAt l flags service ready due penalty distances times) (now demand) ⌝ }
-    requires { ⌜ Driven l van × Visits l (now list) ⌝ }
-    ensures { λ r.
-        ⌜ r ≡ allowed
-        (columnsAt l (flags .entry) (service .entry) (ready .entry) (due .entry) (penalty .entry) (distances .entry) (times .entry))
-        (now (demand .entry)) tested van (now (list .entry)) ⌝ }
-{
-    if !is_within(l, demand, tested, van, list) {
-        return Price::Unallowed;
-    }
-    priced(
-        l,
-        flags,
-        service,
-        ready,
-        due,
-        penalty,
-        distances,
-        times,
-        van,
-        list,
-    )
-}
-
 // Builds a list with a stretch of another in the place of its own, at the front of the buffer.
 fn replaced_into(
     buffer: &mut [u16],
@@ -176,18 +151,16 @@ fn replaced_into(
     append_stretch(buffer, middle, list, to, list.len())
 }
 
-// The price of a list with a stretch of another in the place of its own, if the van allows it.
+// The price of a list with a stretch of another in the place of its own, whatever its load.
 pub fn replaced_price(
     l: usize,
     flags: &[u8],
-    demand: &[i32],
     service: &[f64],
     ready: &[f64],
     due: &[f64],
     penalty: &[f64],
     distances: &[f64],
     times: &[f64],
-    tested: bool,
     van: Van,
     list: &[u16],
     from: usize,
@@ -196,28 +169,25 @@ pub fn replaced_price(
     other_from: usize,
     other_to: usize,
 ) -> Price
-    requires { ⌜ Asked (columnsAt l flags service ready due penalty distances times) (now demand) × Driven l van ⌝ }
+    requires { ⌜ Formed (columnsAt l flags service ready due penalty distances times) × Driven l van ⌝ }
     requires { ⌜ Two l (now list) (now other) × (from ≤ to) × (to ≤ length (now list)) ⌝ }
     requires { ⌜ («other_from» ≤ «other_to») × («other_to» ≤ length (now other)) ⌝ }
     ensures { λ r.
-        ⌜ r ≡ allowed
+        ⌜ r ≡ pricedAs
         (columnsAt l (flags .entry) (service .entry) (ready .entry) (due .entry) (penalty .entry) (distances .entry) (times .entry))
-        (now (demand .entry)) tested van
-        (replaced (now (list .entry)) from to (slice «other_from» «other_to» (now (other .entry)))) ⌝ }
+        van (replaced (now (list .entry)) from to (slice «other_from» «other_to» (now (other .entry)))) ⌝ }
 {
     let mut buffer = [0u16; 64];
     let end = replaced_into(&mut buffer, list, from, to, other, other_from, other_to);
-    allowed_price(
+    priced(
         l,
         flags,
-        demand,
         service,
         ready,
         due,
         penalty,
         distances,
         times,
-        tested,
         van,
         &buffer[0..end],
     )

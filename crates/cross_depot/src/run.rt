@@ -10,7 +10,8 @@ use engine::Ended;
 use numbers::gain_floor;
 use tests::either;
 ghost use mathlib.Core.Path.{_≡_};
-ghost use lib.ListN.{length};
+ghost use Prim.Native.Nat.{_≤_};
+ghost use lib.ListN.{length, take};
 ghost use Rattle.numbers.specs.Floor.{gainFloor};
 ghost use Rattle.day.specs.Matrix.{scaleOf};
 ghost use Rattle.edits.specs.Total.{SameVisits};
@@ -19,7 +20,7 @@ ghost use Rattle.evaluation.specs.Columns.{columnsAt};
 ghost use Rattle.fleet.specs.Fleet.{fleetAt, Crewed, Manned};
 ghost use Rattle.cross_depot.specs.CrossDepot.{lentPlan, runOf, ranOf, crossRan, Carried};
 ghost use Rattle.cross_depot.specs.Scan.{Asked, Held, planOf, nothing};
-ghost use Rattle.cross_depot.specs.Tables.{Chosen, Handed, crossedOf};
+ghost use Rattle.cross_depot.specs.Tables.{Makes, MadeIn, Chosen, Handed, crossedOf};
 
 // How a run ended, and how many lists remain.
 pub struct Crossed {
@@ -118,6 +119,39 @@ fn next_move(
     )
 }
 
+// How a run ended, with so many lists left.
+fn ended_with(ended: Ended, lists: usize) -> Crossed
+    ensures { λ r. ⌜ r ≡ record { ended = ended; lists = lists } ⌝ }
+{
+    Crossed { ended, lists }
+}
+
+// Makes the best move in the first n lists of the tables, and returns how many of them are left.
+fn make_best(
+    visits: &mut [u16],
+    lengths: &mut [u16],
+    ids: &mut [u32],
+    costs: &mut [f64],
+    n: usize,
+    best: Choice,
+) -> usize
+    requires { ⌜ Makes (now visits) (take n (now lengths)) (best .chosen) × (n ≤ length (now lengths)) ⌝ }
+    requires { ⌜ (length (now ids) ≡ length (now lengths)) × (length (now costs) ≡ length (now lengths)) ⌝ }
+    ensures { λ r. ⌜ MadeIn n (best .chosen) (best .cost1) (best .cost2)
+        (now (visits .entry)) (now (lengths .entry)) (now (ids .entry)) (now (costs .entry))
+        (now (visits .exit)) (now (lengths .exit)) (now (ids .exit)) (now (costs .exit)) r ⌝ }
+{
+    make_move(
+        visits,
+        &mut lengths[0..n],
+        &mut ids[0..n],
+        &mut costs[0..n],
+        best.chosen,
+        best.cost1,
+        best.cost2,
+    )
+}
+
 // Makes move after move until none is left or the limit is used up. The first n lists of the tables are the plan's.
 fn descend(
     l: usize,
@@ -193,26 +227,12 @@ fn descend(
             &costs[0..n],
         );
         if !best.found {
-            return Crossed {
-                ended: Ended::Settled(moves),
-                lists: n,
-            };
+            return ended_with(Ended::Settled(moves), n);
         }
         if limit <= moves {
-            return Crossed {
-                ended: Ended::Stopped(moves),
-                lists: n,
-            };
+            return ended_with(Ended::Stopped(moves), n);
         }
-        n = make_move(
-            visits,
-            &mut lengths[0..n],
-            &mut ids[0..n],
-            &mut costs[0..n],
-            best.chosen,
-            best.cost1,
-            best.cost2,
-        );
+        n = make_best(visits, lengths, ids, costs, n, best);
         moves += 1;
     }
 }
@@ -355,10 +375,7 @@ pub fn improve(
 {
     let n = lengths.len();
     if either(n < 2, van_ids.len() == 0) {
-        return Crossed {
-            ended: Ended::Settled(0),
-            lists: n,
-        };
+        return ended_with(Ended::Settled(0), n);
     }
     let mut costs = [0.0; 16];
     descend_from(

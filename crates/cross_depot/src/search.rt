@@ -3,18 +3,24 @@ use crate::pair::Move;
 use crate::pair::Pair;
 use crate::pair::pair_at;
 use crate::price::Price;
+use crate::price::fits;
+use crate::price::prefix_loads;
 use crate::price::replaced_price;
 use lists::list_of;
+use tests::both;
 ghost use mathlib.Core.Path.{_≡_};
-ghost use mathlib.Core.Bool.{false};
+ghost use mathlib.Core.Bool.{true, false, _&&_};
 ghost use mathlib.Core.List.{[]};
 ghost use Prim.Native.Nat.{_+_, _≤_, _<_};
 ghost use lib.ListN.{length};
-ghost use Rattle.evaluation.specs.Columns.{columnsAt};
+ghost use lib.Seq.{slice};
+ghost use Rattle.evaluation.specs.Columns.{columnsAt, Formed};
 ghost use Rattle.cross_depot.specs.declared.price.Price.the-variants.{Costs};
-ghost use Rattle.cross_depot.specs.CrossDepot.{allowed, replaced, stretchEnd, cuts, sameDepot};
-ghost use Rattle.cross_depot.specs.Scan.{Asked, Paired, Two, single, decided, relocateRow, exchangeRow, bestRelocation, bestSwap, bestTails};
-ghost use Rattle.cross_depot.specs.Scan.{bestBetween, Held, planOf, bestFrom, bestOf};
+ghost use Rattle.cross_depot.specs.Boxes.{Loaded, Prefixed};
+ghost use Rattle.cross_depot.specs.CrossDepot.{holds, pricedAs, allowed, replaced, relocation, stretchEnd, exchange, cuts, sameDepot};
+ghost use Rattle.cross_depot.specs.Scan.{Asked, Paired, Two, Stretches, single, made1, made2};
+ghost use Rattle.cross_depot.specs.Scan.{decided, price1, better, relocateRow, exchangeRow, bestRelocation};
+ghost use Rattle.cross_depot.specs.Scan.{bestSwap, bestTails, bestExchange, bestBetween, Held, planOf, bestFrom, bestOf};
 ghost use Rattle.fleet.specs.Fleet.{fleetAt, Manned};
 
 // The best move so far, with its delta and what its two lists cost; while none is found, the delta is minus the floor.
@@ -72,9 +78,267 @@ fn is_same_depot(pair: Pair) -> bool
     pair.van1.depot == pair.van2.depot
 }
 
+// ---- a move between two lists
+
+// The visit at `position` of the first list goes to `place` of the second.
+fn relocation_of(pair: Pair, position: usize, place: usize) -> Move
+    requires { ⌜ position ≤ 65535 ⌝ }
+    ensures { λ r. ⌜ r ≡ relocation (pair .one) (pair .other) position place ⌝ }
+{
+    Move {
+        one: pair.one,
+        from1: position,
+        to1: position + 1,
+        other: pair.other,
+        from2: place,
+        to2: place,
+        tested: false,
+    }
+}
+
+// The visit k1 of the first list of n1, or its tail from k1 on, goes in the place of that of the second.
+fn exchange_of(pair: Pair, tails: bool, n1: usize, n2: usize, k1: usize, k2: usize) -> Move
+    requires { ⌜ (k1 ≤ 65535) × (k2 ≤ 65535) ⌝ }
+    ensures { λ r. ⌜ r ≡ exchange tails (pair .one) (pair .other) n1 n2 k1 k2 ⌝ }
+{
+    let end1 = stretch_end(tails, n1, k1);
+    let end2 = stretch_end(tails, n2, k2);
+    Move {
+        one: pair.one,
+        from1: k1,
+        to1: end1,
+        other: pair.other,
+        from2: k2,
+        to2: end2,
+        tested: true,
+    }
+}
+
+// What the first list costs after a move, whatever its load.
+fn first_price(
+    l: usize,
+    flags: &[u8],
+    service: &[f64],
+    ready: &[f64],
+    due: &[f64],
+    penalty: &[f64],
+    distances: &[f64],
+    times: &[f64],
+    pair: Pair,
+    one: &[u16],
+    other: &[u16],
+    tried: Move,
+) -> Price
+    requires { ⌜ Formed (columnsAt l flags service ready due penalty distances times) × Paired l pair × Two l (now one) (now other) ⌝ }
+    requires { ⌜ Stretches (now one) (now other) tried ⌝ }
+    ensures { λ r.
+        ⌜ r ≡ pricedAs
+        (columnsAt l (flags .entry) (service .entry) (ready .entry) (due .entry) (penalty .entry) (distances .entry) (times .entry))
+        (pair .van1) (made1 (now (one .entry)) (now (other .entry)) tried) ⌝ }
+{
+    replaced_price(
+        l,
+        flags,
+        service,
+        ready,
+        due,
+        penalty,
+        distances,
+        times,
+        pair.van1,
+        one,
+        tried.from1,
+        tried.to1,
+        other,
+        tried.from2,
+        tried.to2,
+    )
+}
+
+// The better of the best so far and a move whose first list then costs `cost1`, and whose second list is within its van's capacity.
+fn try_move(
+    l: usize,
+    flags: &[u8],
+    demand: &[i32],
+    service: &[f64],
+    ready: &[f64],
+    due: &[f64],
+    penalty: &[f64],
+    distances: &[f64],
+    times: &[f64],
+    pair: Pair,
+    one: &[u16],
+    other: &[u16],
+    tried: Move,
+    cost1: f64,
+    best: Choice,
+) -> Choice
+    requires { ⌜ Asked (columnsAt l flags service ready due penalty distances times) (now demand) × Paired l pair × Two l (now one) (now other) ⌝ }
+    requires { ⌜ Stretches (now one) (now other) tried
+        × (Costs cost1 ≡ price1 (columnsAt l flags service ready due penalty distances times) (now demand) pair (now one) (now other) tried) ⌝ }
+    requires { ⌜ holds (now demand) (pair .van2) (made2 (now one) (now other) tried) ≡ true ⌝ }
+    ensures { λ r.
+        ⌜ r ≡ better
+        (columnsAt l (flags .entry) (service .entry) (ready .entry) (due .entry) (penalty .entry) (distances .entry) (times .entry))
+        (now (demand .entry)) pair (now (one .entry)) (now (other .entry)) tried best ⌝ }
+{
+    let second = replaced_price(
+        l,
+        flags,
+        service,
+        ready,
+        due,
+        penalty,
+        distances,
+        times,
+        pair.van2,
+        other,
+        tried.from2,
+        tried.to2,
+        one,
+        tried.from1,
+        tried.to1,
+    );
+    let Price::Costs(cost2) = second else {
+        return best;
+    };
+    better_of(pair, tried, cost1, cost2, best)
+}
+
+// Whether the second list is within its van's capacity after a move.
+fn second_fits(
+    l: usize,
+    demand: &[i32],
+    pair: Pair,
+    one: &[u16],
+    other: &[u16],
+    loads1: &[usize],
+    loads2: &[usize],
+    tried: Move,
+) -> bool
+    requires { ⌜ Loaded l (now demand) × Paired l pair × Two l (now one) (now other) ⌝ }
+    requires { ⌜ Prefixed (now demand) (now one) (now loads1) × Prefixed (now demand) (now other) (now loads2) ⌝ }
+    requires { ⌜ Stretches (now one) (now other) tried ⌝ }
+    ensures { λ r. ⌜ r ≡ holds (now (demand .entry)) (pair .van2) (made2 (now (one .entry)) (now (other .entry)) tried) ⌝ }
+{
+    fits(
+        l,
+        demand,
+        pair.van2,
+        other,
+        loads2,
+        tried.from2,
+        tried.to2,
+        one,
+        loads1,
+        tried.from1,
+        tried.to1,
+    )
+}
+
+// Whether both lists are within their vans' capacities after a move.
+fn both_fit(
+    l: usize,
+    demand: &[i32],
+    pair: Pair,
+    one: &[u16],
+    other: &[u16],
+    loads1: &[usize],
+    loads2: &[usize],
+    tried: Move,
+) -> bool
+    requires { ⌜ Loaded l (now demand) × Paired l pair × Two l (now one) (now other) ⌝ }
+    requires { ⌜ Prefixed (now demand) (now one) (now loads1) × Prefixed (now demand) (now other) (now loads2) ⌝ }
+    requires { ⌜ Stretches (now one) (now other) tried ⌝ }
+    ensures { λ r. ⌜ r ≡ (holds (now (demand .entry)) (pair .van1) (made1 (now (one .entry)) (now (other .entry)) tried)
+        && holds (now (demand .entry)) (pair .van2) (made2 (now (one .entry)) (now (other .entry)) tried)) ⌝ }
+{
+    let first = fits(
+        l,
+        demand,
+        pair.van1,
+        one,
+        loads1,
+        tried.from1,
+        tried.to1,
+        other,
+        loads2,
+        tried.from2,
+        tried.to2,
+    );
+    let second = second_fits(l, demand, pair, one, other, loads1, loads2, tried);
+    both(first, second)
+}
+
+// The better of the best so far and a move that is tested for both loads.
+fn try_exchange(
+    l: usize,
+    flags: &[u8],
+    demand: &[i32],
+    service: &[f64],
+    ready: &[f64],
+    due: &[f64],
+    penalty: &[f64],
+    distances: &[f64],
+    times: &[f64],
+    pair: Pair,
+    one: &[u16],
+    other: &[u16],
+    loads1: &[usize],
+    loads2: &[usize],
+    tried: Move,
+    best: Choice,
+) -> Choice
+    requires { ⌜ Asked (columnsAt l flags service ready due penalty distances times) (now demand) × Paired l pair × Two l (now one) (now other) ⌝ }
+    requires { ⌜ Prefixed (now demand) (now one) (now loads1) × Prefixed (now demand) (now other) (now loads2) ⌝ }
+    requires { ⌜ Stretches (now one) (now other) tried × (tried .tested ≡ true) ⌝ }
+    ensures { λ r.
+        ⌜ r ≡ better
+        (columnsAt l (flags .entry) (service .entry) (ready .entry) (due .entry) (penalty .entry) (distances .entry) (times .entry))
+        (now (demand .entry)) pair (now (one .entry)) (now (other .entry)) tried best ⌝ }
+{
+    if !both_fit(l, demand, pair, one, other, loads1, loads2, tried) {
+        return best;
+    }
+    let first = first_price(
+        l,
+        flags,
+        service,
+        ready,
+        due,
+        penalty,
+        distances,
+        times,
+        pair,
+        one,
+        other,
+        tried,
+    );
+    let Price::Costs(cost1) = first else {
+        return best;
+    };
+    try_move(
+        l,
+        flags,
+        demand,
+        service,
+        ready,
+        due,
+        penalty,
+        distances,
+        times,
+        pair,
+        one,
+        other,
+        tried,
+        cost1,
+        best,
+    )
+}
+
 // ---- two lists
 
-// The best after a visit of the first list, which then costs `cost1`, was tried at every place of the second.
+// The best after a visit of the first list, which then costs `cost1`, was tried at every place of the second, which has room for it.
 fn relocate_row(
     l: usize,
     flags: &[u8],
@@ -96,18 +360,17 @@ fn relocate_row(
     requires { ⌜ (position < length (now one))
         × (Costs cost1 ≡ allowed (columnsAt l flags service ready due penalty distances times) (now demand) false (pair .van1)
         (replaced (now one) position (position + 1) [])) ⌝ }
+    requires { ⌜ holds (now demand) (pair .van2) (replaced (now other) 0 0 (slice position (position + 1) (now one))) ≡ true ⌝ }
     ensures { λ r.
         ⌜ r ≡ relocateRow
         (columnsAt l (flags .entry) (service .entry) (ready .entry) (due .entry) (penalty .entry) (distances .entry) (times .entry))
         (now (demand .entry)) pair (now (one .entry)) (now (other .entry)) position best ⌝ }
 {
-    let behind = position + 1;
     let mut found = best;
-    let mut next = 0;
-    while next <= other.len() {
-        let place = next;
-        next += 1;
-        let second = replaced_price(
+    let mut place = 0;
+    while place <= other.len() {
+        let tried = relocation_of(pair, position, place);
+        found = try_move(
             l,
             flags,
             demand,
@@ -117,28 +380,14 @@ fn relocate_row(
             penalty,
             distances,
             times,
-            true,
-            pair.van2,
-            other,
-            place,
-            place,
+            pair,
             one,
-            position,
-            behind,
+            other,
+            tried,
+            cost1,
+            found,
         );
-        let Price::Costs(cost2) = second else {
-            continue;
-        };
-        let tried = Move {
-            one: pair.one,
-            from1: position,
-            to1: behind,
-            other: pair.other,
-            from2: place,
-            to2: place,
-            tested: false,
-        };
-        found = better_of(pair, tried, cost1, cost2, found);
+        place += 1;
     }
     found
 }
@@ -157,9 +406,12 @@ fn relocations(
     pair: Pair,
     one: &[u16],
     other: &[u16],
+    loads1: &[usize],
+    loads2: &[usize],
     best: Choice,
 ) -> Choice
     requires { ⌜ Asked (columnsAt l flags service ready due penalty distances times) (now demand) × Paired l pair × Two l (now one) (now other) ⌝ }
+    requires { ⌜ Prefixed (now demand) (now one) (now loads1) × Prefixed (now demand) (now other) (now loads2) ⌝ }
     ensures { λ r.
         ⌜ r ≡ bestRelocation
         (columnsAt l (flags .entry) (service .entry) (ready .entry) (due .entry) (penalty .entry) (distances .entry) (times .entry))
@@ -170,24 +422,23 @@ fn relocations(
     while next < one.len() {
         let position = next;
         next += 1;
-        let first = replaced_price(
+        let tried = relocation_of(pair, position, 0);
+        if !second_fits(l, demand, pair, one, other, loads1, loads2, tried) {
+            continue;
+        }
+        let first = first_price(
             l,
             flags,
-            demand,
             service,
             ready,
             due,
             penalty,
             distances,
             times,
-            false,
-            pair.van1,
+            pair,
             one,
-            position,
-            next,
             other,
-            0,
-            0,
+            tried,
         );
         let Price::Costs(cost1) = first else {
             continue;
@@ -227,26 +478,27 @@ fn exchange_row(
     pair: Pair,
     one: &[u16],
     other: &[u16],
+    loads1: &[usize],
+    loads2: &[usize],
     tails: bool,
     k1: usize,
     count: usize,
     best: Choice,
 ) -> Choice
     requires { ⌜ Asked (columnsAt l flags service ready due penalty distances times) (now demand) × Paired l pair × Two l (now one) (now other) ⌝ }
+    requires { ⌜ Prefixed (now demand) (now one) (now loads1) × Prefixed (now demand) (now other) (now loads2) ⌝ }
     requires { ⌜ (k1 + single tails ≤ length (now one)) × (count + single tails ≤ length (now other) + 1) ⌝ }
     ensures { λ r.
         ⌜ r ≡ exchangeRow
         (columnsAt l (flags .entry) (service .entry) (ready .entry) (due .entry) (penalty .entry) (distances .entry) (times .entry))
         (now (demand .entry)) pair (now (one .entry)) (now (other .entry)) tails k1 count best ⌝ }
 {
-    let end1 = stretch_end(tails, one.len(), k1);
     let mut found = best;
     let mut next = 0;
     while next < count {
-        let k2 = next;
+        let tried = exchange_of(pair, tails, one.len(), other.len(), k1, next);
         next += 1;
-        let end2 = stretch_end(tails, other.len(), k2);
-        let first = replaced_price(
+        found = try_exchange(
             l,
             flags,
             demand,
@@ -256,50 +508,14 @@ fn exchange_row(
             penalty,
             distances,
             times,
-            true,
-            pair.van1,
+            pair,
             one,
-            k1,
-            end1,
             other,
-            k2,
-            end2,
+            loads1,
+            loads2,
+            tried,
+            found,
         );
-        let Price::Costs(cost1) = first else {
-            continue;
-        };
-        let second = replaced_price(
-            l,
-            flags,
-            demand,
-            service,
-            ready,
-            due,
-            penalty,
-            distances,
-            times,
-            true,
-            pair.van2,
-            other,
-            k2,
-            end2,
-            one,
-            k1,
-            end1,
-        );
-        let Price::Costs(cost2) = second else {
-            continue;
-        };
-        let tried = Move {
-            one: pair.one,
-            from1: k1,
-            to1: end1,
-            other: pair.other,
-            from2: k2,
-            to2: end2,
-            tested: true,
-        };
-        found = better_of(pair, tried, cost1, cost2, found);
     }
     found
 }
@@ -318,9 +534,12 @@ fn swaps(
     pair: Pair,
     one: &[u16],
     other: &[u16],
+    loads1: &[usize],
+    loads2: &[usize],
     best: Choice,
 ) -> Choice
     requires { ⌜ Asked (columnsAt l flags service ready due penalty distances times) (now demand) × Paired l pair × Two l (now one) (now other) ⌝ }
+    requires { ⌜ Prefixed (now demand) (now one) (now loads1) × Prefixed (now demand) (now other) (now loads2) ⌝ }
     ensures { λ r.
         ⌜ r ≡ bestSwap
         (columnsAt l (flags .entry) (service .entry) (ready .entry) (due .entry) (penalty .entry) (distances .entry) (times .entry))
@@ -342,6 +561,8 @@ fn swaps(
             pair,
             one,
             other,
+            loads1,
+            loads2,
             false,
             k1,
             other.len(),
@@ -366,9 +587,12 @@ fn tail_exchanges(
     pair: Pair,
     one: &[u16],
     other: &[u16],
+    loads1: &[usize],
+    loads2: &[usize],
     best: Choice,
 ) -> Choice
     requires { ⌜ Asked (columnsAt l flags service ready due penalty distances times) (now demand) × Paired l pair × Two l (now one) (now other) ⌝ }
+    requires { ⌜ Prefixed (now demand) (now one) (now loads1) × Prefixed (now demand) (now other) (now loads2) ⌝ }
     ensures { λ r.
         ⌜ r ≡ bestTails
         (columnsAt l (flags .entry) (service .entry) (ready .entry) (due .entry) (penalty .entry) (distances .entry) (times .entry))
@@ -391,6 +615,8 @@ fn tail_exchanges(
             pair,
             one,
             other,
+            loads1,
+            loads2,
             true,
             k1,
             count,
@@ -401,7 +627,71 @@ fn tail_exchanges(
     found
 }
 
-// The best after every move between two lists; swaps and tail exchanges are tried once a pair.
+// The best after every swap and every tail exchange of two lists, which are tried once a pair.
+fn exchanges(
+    l: usize,
+    flags: &[u8],
+    demand: &[i32],
+    service: &[f64],
+    ready: &[f64],
+    due: &[f64],
+    penalty: &[f64],
+    distances: &[f64],
+    times: &[f64],
+    pair: Pair,
+    one: &[u16],
+    other: &[u16],
+    loads1: &[usize],
+    loads2: &[usize],
+    best: Choice,
+) -> Choice
+    requires { ⌜ Asked (columnsAt l flags service ready due penalty distances times) (now demand) × Paired l pair × Two l (now one) (now other) ⌝ }
+    requires { ⌜ Prefixed (now demand) (now one) (now loads1) × Prefixed (now demand) (now other) (now loads2) ⌝ }
+    ensures { λ r.
+        ⌜ r ≡ bestExchange
+        (columnsAt l (flags .entry) (service .entry) (ready .entry) (due .entry) (penalty .entry) (distances .entry) (times .entry))
+        (now (demand .entry)) pair (now (one .entry)) (now (other .entry)) best ⌝ }
+{
+    if pair.one >= pair.other {
+        return best;
+    }
+    let swapped = swaps(
+        l,
+        flags,
+        demand,
+        service,
+        ready,
+        due,
+        penalty,
+        distances,
+        times,
+        pair,
+        one,
+        other,
+        loads1,
+        loads2,
+        best,
+    );
+    tail_exchanges(
+        l,
+        flags,
+        demand,
+        service,
+        ready,
+        due,
+        penalty,
+        distances,
+        times,
+        pair,
+        one,
+        other,
+        loads1,
+        loads2,
+        swapped,
+    )
+}
+
+// The best after every move between two lists.
 fn between_lists(
     l: usize,
     flags: &[u8],
@@ -423,6 +713,10 @@ fn between_lists(
         (columnsAt l (flags .entry) (service .entry) (ready .entry) (due .entry) (penalty .entry) (distances .entry) (times .entry))
         (now (demand .entry)) pair (now (one .entry)) (now (other .entry)) best ⌝ }
 {
+    let mut loads1 = [0usize; 64];
+    prefix_loads(l, demand, one, &mut loads1);
+    let mut loads2 = [0usize; 64];
+    prefix_loads(l, demand, other, &mut loads2);
     let relocated = relocations(
         l,
         flags,
@@ -436,12 +730,11 @@ fn between_lists(
         pair,
         one,
         other,
+        &loads1,
+        &loads2,
         best,
     );
-    if pair.one >= pair.other {
-        return relocated;
-    }
-    let swapped = swaps(
+    exchanges(
         l,
         flags,
         demand,
@@ -454,22 +747,9 @@ fn between_lists(
         pair,
         one,
         other,
+        &loads1,
+        &loads2,
         relocated,
-    );
-    tail_exchanges(
-        l,
-        flags,
-        demand,
-        service,
-        ready,
-        due,
-        penalty,
-        distances,
-        times,
-        pair,
-        one,
-        other,
-        swapped,
     )
 }
 
@@ -505,7 +785,8 @@ fn best_from(
     best: Choice,
 ) -> Choice
     requires { ⌜ Asked (columnsAt l flags service ready due penalty distances times) (now demand) ⌝ }
-    requires { ⌜ Manned l (fleetAt «van_ids» depots capacities «distance_costs» «fixed_costs» «van_flags» «max_distances» «max_durations» earliest latest durations) ⌝ }
+    requires { ⌜ Manned l (fleetAt «van_ids» depots capacities «distance_costs» «fixed_costs» «van_flags» «max_distances» «max_durations»
+        earliest latest durations) ⌝ }
     requires { ⌜ Held l (now visits) (now lengths) × (length (now ids) ≡ length (now lengths)) × (length (now costs) ≡ length (now lengths)) ⌝ }
     requires { ⌜ a < length (now lengths) ⌝ }
     ensures { λ r.
@@ -591,7 +872,8 @@ pub fn best_move(
     best: Choice,
 ) -> Choice
     requires { ⌜ Asked (columnsAt l flags service ready due penalty distances times) (now demand) ⌝ }
-    requires { ⌜ Manned l (fleetAt «van_ids» depots capacities «distance_costs» «fixed_costs» «van_flags» «max_distances» «max_durations» earliest latest durations) ⌝ }
+    requires { ⌜ Manned l (fleetAt «van_ids» depots capacities «distance_costs» «fixed_costs» «van_flags» «max_distances» «max_durations»
+        earliest latest durations) ⌝ }
     requires { ⌜ Held l (now visits) (now lengths) × (length (now ids) ≡ length (now lengths)) × (length (now costs) ≡ length (now lengths)) ⌝ }
     ensures { λ r.
         ⌜ r ≡ bestOf

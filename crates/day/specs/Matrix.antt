@@ -2,14 +2,14 @@
 use Prim.Native.Nat.{ℕ, suc, _+_, _*_, _<_, _≤_}
 use native.Mathlib.Nat.{suc-mul, mul-le-mul-right}
 use native.Mathlib.Omega.{arith}
-use mathlib.Core.Path.{_≡_}
+use mathlib.Core.Path.{_≡_, refl, sym, _∙_}
 use mathlib.Core.List.{List}
-use mathlib.Core.Bool.{Bool, cond}
+use mathlib.Core.Bool.{Bool, false, cond}
 use lib.Dec.{eqb}
 use lib.ListN.{length, getD, drop, drop-of-length-le}
 use lib.Seq.{drop-cons}
 use native.Mathlib.Numerals.{add-one}
-use lib.Ieee.{Float, nan, eq}
+use lib.Ieee.{Float, nan, eq, lt}
 use Rattle.numbers.specs.Operations.{zero64}
 use Rattle.numbers.specs.Total.{larger, largest}
 use Rattle.tests.specs.All.{allBelow}
@@ -57,6 +57,10 @@ module _ (table : List Float) (i : ℕ) (most : Float) where
   pub largest-turn : i < length table → largest most (drop i table) ≡ largest (larger most (getD table i nan)) (drop (i + 1) table)
   unfolding largest
   largest-turn h = rw (add-one, drop-cons table i nan h)
+
+  -- an entry that isn't larger changes nothing
+  pub largest-passed : i < length table → lt most (getD table i nan) ≡ false → largest most (drop (i + 1) table) ≡ largest most (drop i table)
+  largest-passed h smaller = sym (largest-turn h ∙ rw smaller)
 
   -- none is left
   pub largest-end : length table ≤ i → largest most (drop i table) ≡ most

@@ -1,7 +1,9 @@
 // distance/matrix.rs over lent tables. The infinite answers outside the size can't occur: callers show that both places are locations.
 use numbers::larger_of;
 ghost use mathlib.Core.Path.{_≡_};
-ghost use Prim.Native.Nat.{_<_};
+ghost use Prim.Native.Nat.{_≤_, _<_};
+ghost use lib.ListN.{length, drop};
+ghost use Rattle.numbers.specs.Total.{largest};
 ghost use Rattle.day.specs.Matrix.{leg, travel, scaleOf, mirrored, symmetric, Square, Tables};
 
 // The distance from a location to a location.
@@ -23,15 +25,31 @@ pub fn travel_time(l: usize, distances: &[f64], times: &[f64], from: usize, to: 
     get(l, times, from, to)
 }
 
-// The largest distance, from 0.0.
+// Where, from a position on, an entry is larger than `most`, and behind the table where none is: what lies before it changes nothing.
+fn next_larger(distances: &[f64], from: usize, most: f64) -> usize
+    requires { ⌜ from ≤ length (now distances) ⌝ }
+    ensures { λ r. ⌜ (from ≤ r) × (r ≤ length (now (distances .entry))) ⌝ }
+    ensures { λ r. ⌜ largest most (drop r (now (distances .entry))) ≡ largest most (drop from (now (distances .entry))) ⌝ }
+{
+    let mut i = from;
+    while i < distances.len() {
+        if most < distances[i] {
+            return i;
+        }
+        i += 1;
+    }
+    i
+}
+
+// The largest distance, from 0.0. Few entries are larger than all before them, so that the search for the next one is all that takes time.
 pub fn scale(distances: &[f64]) -> f64
     ensures { λ r. ⌜ r ≡ scaleOf (now (distances .entry)) ⌝ }
 {
     let mut most = 0.0;
-    let mut i = 0;
+    let mut i = next_larger(distances, 0, most);
     while i < distances.len() {
         most = larger_of(most, distances[i]);
-        i += 1;
+        i = next_larger(distances, i + 1, most);
     }
     most
 }

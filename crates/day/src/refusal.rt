@@ -71,8 +71,8 @@ fn lengths_ok(
     )
 }
 
-// 3
-fn all_plain(table: &[f64]) -> bool
+// 3: every number of a table is plain.
+pub fn all_plain(table: &[f64]) -> bool
     ensures { λ r. ⌜ r ≡ allPlain (now (table .entry)) ⌝ }
 {
     let mut i = 0;

@@ -93,6 +93,6 @@ days =
 -- the definitions answer what document 01 says
 pub worked-days : map (λ (r : Row). r .answered) days ≡ map (λ (r : Row). r .said) days
 unfolding feasible outcome allowed unbroken home endUntaken scheduled homeBreak finished endBefore endOf ended begun pushed
-    atStart inTime tooLate servedIn resting served servedRested servedFrom servedRestedFrom isEarlier earlierOf stopOf windowAt isViolated waitingTime latenessAt
-    allows keeps leg travel ofInt add sub mul sum lt le eq neg
+    atStart inTime tooLate servedIn resting served servedRested servedFrom servedRestedFrom isEarlier earlierOf stopOf windowAt isViolated
+    waitingTime latenessAt allows keeps leg travel ofInt add sub mul sum lt le eq neg
 worked-days = refl

@@ -15,7 +15,7 @@ use Rattle.lists.specs.Edits.{joined}
 use Rattle.descent.specs.Permitted.{fits}
 use Rattle.deltas.specs.Deltas.{exchangeDelta}
 use Rattle.engine.specs.Engine.{passing}
-use Rattle.exchange.specs.Boxes.{boxesAt}
+use Rattle.loads.specs.Loads.{boxesOf}
 use Rattle.exchange.specs.Exchange.{checksFor, Asked, better}
 use Rattle.exchange.specs.declared.Terms.{Terms}
 use Rattle.exchange.specs.declared.Choice.{Choice}
@@ -53,20 +53,20 @@ all-in false one two e f g = absurd (true≢false (sym e))
 
 module _ (c : Columns) (demand : List ℤ) (t : Terms) (asked : Asked c demand t) where
   -- a load over the capacity; a list that does not pass; and one that has room and passes
-  over : (xs : List ℕ) (load : ℕ) → load ≡ total (boxesAt demand) xs → t .capacity < load → fits (checksFor c demand t) xs ≡ false
-  over xs load e h = no-room (leb (total (boxesAt demand) xs) (t .capacity)) _ (lt-leb (total (boxesAt demand) xs) (t .capacity) (rw e at h))
+  over : (xs : List ℕ) (load : ℕ) → load ≡ total (boxesOf demand) xs → t .capacity < load → fits (checksFor c demand t) xs ≡ false
+  over xs load e h = no-room (leb (total (boxesOf demand) xs) (t .capacity)) _ (lt-leb (total (boxesOf demand) xs) (t .capacity) (rw e at h))
 
   refused : (xs : List ℕ) (passed : Bool) → passed ≡ passing (t .needed) c (t .limits) (t .depot) xs → not passed ≡ true
       → fits (checksFor c demand t) xs ≡ false
   refused xs passed e h =
       let out : passing (t .needed) c (t .limits) (t .depot) xs ≡ false = sym e ∙ not-true passed h in
-      no-pass (leb (total (boxesAt demand) xs) (t .capacity)) _ (rw (asked .needed) at out)
+      no-pass (leb (total (boxesOf demand) xs) (t .capacity)) _ (rw (asked .needed) at out)
 
-  fine : (xs : List ℕ) (load : ℕ) (passed : Bool) → load ≡ total (boxesAt demand) xs → load ≤ t .capacity
+  fine : (xs : List ℕ) (load : ℕ) (passed : Bool) → load ≡ total (boxesOf demand) xs → load ≤ t .capacity
       → passed ≡ passing (t .needed) c (t .limits) (t .depot) xs → not passed ≡ false → fits (checksFor c demand t) xs ≡ true
   fine xs load passed e h f g =
       let in-there : passing (t .needed) c (t .limits) (t .depot) xs ≡ true = sym f ∙ not-false passed g in
-      both-fine (leb (total (boxesAt demand) xs) (t .capacity)) _ (le-leb (total (boxesAt demand) xs) (t .capacity) (rw e at h))
+      both-fine (leb (total (boxesOf demand) xs) (t .capacity)) _ (le-leb (total (boxesOf demand) xs) (t .capacity) (rw e at h))
       (rw (asked .needed) at in-there)
 
   module _ (X Y : List ℕ) (cut1 cut2 : ℕ) (best : Choice) where
@@ -79,11 +79,11 @@ module _ (c : Columns) (demand : List ℤ) (t : Terms) (asked : Asked c demand t
     abbrev new2 : List ℕ
     new2 = joined Y cut2 X cut1
 
-    pub stays-first-load : (load : ℕ) → load ≡ total (boxesAt demand) new1 → t .capacity < load → best ≡ better c demand t X Y cut1 cut2 best
+    pub stays-first-load : (load : ℕ) → load ≡ total (boxesOf demand) new1 → t .capacity < load → best ≡ better c demand t X Y cut1 cut2 best
     unfolding better
     stays-first-load load e h = other _ _ _ _ (first-out (lt delta (best .delta)) _ _ (over new1 load e h)) refl
 
-    pub stays-second-load : (load : ℕ) → load ≡ total (boxesAt demand) new2 → t .capacity < load → best ≡ better c demand t X Y cut1 cut2 best
+    pub stays-second-load : (load : ℕ) → load ≡ total (boxesOf demand) new2 → t .capacity < load → best ≡ better c demand t X Y cut1 cut2 best
     unfolding better
     stays-second-load load e h = other _ _ _ _ (second-out (lt delta (best .delta)) (fits (checksFor c demand t) new1) _ (over new2 load e h)) refl
 
@@ -104,7 +104,7 @@ module _ (c : Columns) (demand : List ℤ) (t : Terms) (asked : Asked c demand t
     stays-second-list passed e h = other _ _ _ _ (second-out (lt delta (best .delta)) (fits (checksFor c demand t) new1) _ (refused new2 passed e h)) refl
 
     pub taken-up : (d : Float) (load1 load2 : ℕ) (passed1 passed2 : Bool) → d ≡ delta → not (lt d (best .delta)) ≡ false
-        → load1 ≡ total (boxesAt demand) new1 → load1 ≤ t .capacity → load2 ≡ total (boxesAt demand) new2 → load2 ≤ t .capacity
+        → load1 ≡ total (boxesOf demand) new1 → load1 ≤ t .capacity → load2 ≡ total (boxesOf demand) new2 → load2 ≤ t .capacity
         → passed1 ≡ passing (t .needed) c (t .limits) (t .depot) new1 → not passed1 ≡ false
         → passed2 ≡ passing (t .needed) c (t .limits) (t .depot) new2 → not passed2 ≡ false
         → record { cut1 = cut1; cut2 = cut2; delta = d } ≡ better c demand t X Y cut1 cut2 best

@@ -12,7 +12,7 @@ use Rattle.evaluation.specs.Columns.{Visits}
 use Rattle.lists.specs.Edits.{joined}
 use Rattle.descent.proofs.Below.{over, Below, below-at}
 use Rattle.exchange.specs.Exchange.{Two}
-use Rattle.exchange.proofs.Loads.{load-parts}
+use Rattle.loads.proofs.Boxes.{load-parts}
 
 below-all : (l : ℕ) (xs : List ℕ) → ((k : ℕ) → k < length xs → getD xs k 0 < l) → Below l xs
 below-all l xs h = total-none (over l) xs 0 (λ k there. ap bit (lt-leb l (getD xs k 0) (h k there)))

@@ -1,5 +1,4 @@
 pub mod Choosing
-pub mod Loads
 pub mod Joined
 pub mod Considering
 pub mod Places

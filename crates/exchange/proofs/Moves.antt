@@ -14,7 +14,8 @@ use Rattle.descent.specs.Across.{Pair, tail-cuts}
 use Rattle.descent.proofs.Loops.{place-passed, place-moved, next-ahead, next-sweep}
 use Rattle.descent.proofs.Sweeps.{first-least-some}
 use Rattle.descent.proofs.TailExchange.{tail-cuts-in}
-use Rattle.exchange.specs.Exchange.{searchOf, judgeOf, Held, pairAt, movedBy, takenAt, from, placeAfter, InSweep, firstAt, nextOf, leadsBy, leads}
+use Rattle.loads.specs.Loads.{Held}
+use Rattle.exchange.specs.Exchange.{searchOf, judgeOf, pairAt, movedBy, takenAt, from, placeAfter, InSweep, firstAt, nextOf, leadsBy, leads}
 use Rattle.exchange.specs.declared.Terms.{Terms}
 use Rattle.exchange.specs.declared.Place.{Place}
 use Rattle.exchange.specs.declared.Found.{Found}

@@ -14,7 +14,6 @@ use Rattle.numbers.specs.Floor.{gainFloor}
 use Rattle.day.specs.Matrix.{leg, scaleOf}
 use Rattle.evaluation.specs.Columns.{Columns, Formed}
 use Rattle.evaluation.specs.Route.{checksNeeded}
-use Rattle.lists.specs.Table.{Laid}
 use Rattle.lists.specs.Edits.{joined, tailsExchanged, Cuts}
 use Rattle.descent.specs.Order.{range, each}
 use Rattle.descent.specs.Permitted.{Checks, fits, tail-exchange}
@@ -24,7 +23,7 @@ use Rattle.descent.specs.Engines.{search-of}
 use Rattle.deltas.specs.Deltas.{exchangeDelta}
 use Rattle.deltas.specs.Judged.{float-judge}
 use Rattle.engine.specs.Engine.{checksOf, mapOf}
-use Rattle.exchange.specs.Boxes.{boxesAt, Loaded}
+use Rattle.loads.specs.Loads.{measureOf, Loaded}
 use Rattle.exchange.specs.declared.Terms.{Terms}
 use Rattle.exchange.specs.declared.Place.{Place}
 use Rattle.exchange.specs.declared.Choice.{Choice}
@@ -32,7 +31,7 @@ use Rattle.exchange.specs.declared.Found.{Found}
 
 -- what both new lists must meet: 'both loads and both lists pass'
 abbrev pub checksFor : Columns → List ℤ → Terms → Checks
-checksFor c demand t = checksOf (record { demand = boxesAt demand; capacity = t .capacity } ∷ []) c (t .limits) (t .depot)
+checksFor c demand t = checksOf (measureOf demand (t .capacity) ∷ []) c (t .limits) (t .depot)
 
 -- the engine's search on a day, with a van's terms
 unfoldable pub searchOf : Columns → List ℤ → Terms → Search (List (List ℕ)) Pair Tails
@@ -49,12 +48,6 @@ pub record Asked (c : Columns) (demand : List ℤ) (t : Terms) : Type 0 where
   pub depot-there : t .depot < c .l
   pub needed : t .needed ≡ checksNeeded (c .flags) (t .limits)
   pub floor : t .floor ≡ gainFloor (scaleOf (c .distances))
-
--- and of the tables: the lists are laid out, each visit is a location, and there are at most 63, so that no list can outgrow a buffer
-pub record Held (l : ℕ) (visits lengths : List ℕ) : Type 0 where
-  pub laid : Laid visits lengths
-  pub below : (k : ℕ) → k < length visits → getD visits k 0 < l
-  pub few : length visits ≤ 63
 
 -- two lists of the tables
 pub record Two (l : ℕ) (X Y : List ℕ) : Type 0 where

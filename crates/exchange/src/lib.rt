@@ -13,26 +13,29 @@ use engine::passes;
 use evaluation::route::route_checks_needed;
 use lists::exchange_tails;
 use lists::list_of;
+use loads::boxes_at;
+use loads::boxes_in;
+use loads::load_of;
 use numbers::gain_floor;
 ghost use mathlib.Core.Path.{_≡_};
 ghost use mathlib.Core.Bool.{true};
 ghost use mathlib.Core.List.{[], _∷_};
-ghost use Prim.Native.Nat.{suc, _+_, _<_, _≤_};
-ghost use lib.IntN.{pos, natAbs};
+ghost use Prim.Native.Nat.{_+_, _<_, _≤_};
+ghost use lib.IntN.{pos};
 ghost use lib.Signed.{leZ};
-ghost use lib.ListN.{length, getD, take};
+ghost use lib.ListN.{length, take};
 ghost use Rattle.numbers.specs.Operations.{zero64};
 ghost use Rattle.edits.specs.Total.{total};
 ghost use Rattle.lists.specs.Table.{lists};
 ghost use Rattle.lists.specs.Edits.{joined, Edited};
-ghost use Rattle.evaluation.specs.Columns.{columnsAt, Formed, Visits};
+ghost use Rattle.evaluation.specs.Columns.{columnsAt, Formed};
 ghost use Rattle.descent.specs.Permitted.{tail-exchange};
 ghost use Rattle.descent.specs.Search.{run};
 ghost use Rattle.descent.specs.Engines.{run-of};
 ghost use Rattle.deltas.specs.Judged.{float-judge};
 ghost use Rattle.engine.specs.Engine.{passing, checksOf, mapOf, endedAs};
-ghost use Rattle.exchange.specs.Boxes.{boxesAt, boxes, Loaded};
-ghost use Rattle.exchange.specs.Exchange.{Asked, Held, Two, better, bestRow, bestOf, pairAt, movedBy, takenAt};
+ghost use Rattle.loads.specs.Loads.{boxesOf, boxes, Loaded, Held};
+ghost use Rattle.exchange.specs.Exchange.{Asked, Two, better, bestRow, bestOf, pairAt, movedBy, takenAt};
 ghost use Rattle.exchange.specs.Exchange.{from, placeAfter, InSweep, firstAt, nextOf, leads, Apt};
 
 // What stays the same over a run: worked out once, before the first move.
@@ -66,39 +69,6 @@ pub struct Found {
     pub place: Place,
     pub cut1: usize,
     pub cut2: usize,
-}
-
-// ---- loads
-
-// A number of boxes, which is not below 0.
-pub fn boxes_of(x: i32) -> usize
-    requires { ⌜ leZ (pos 0) x ≡ true ⌝ }
-    ensures { λ r. ⌜ r ≡ natAbs x ⌝ }
-{
-    x as usize
-}
-
-// The boxes of the visit at a position.
-pub fn boxes_at(l: usize, demand: &[i32], list: &[u16], k: usize) -> usize
-    requires { ⌜ Loaded l (now demand) × (k < length (now list)) × (getD (now list) k 0 < l) ⌝ }
-    ensures { λ r. ⌜ r ≡ boxesAt (now (demand .entry)) (getD (now (list .entry)) k 0) ⌝ }
-{
-    let visit = list[k] as usize;
-    boxes_of(demand[visit])
-}
-
-// The load of a list: its visits' boxes added up.
-pub fn load_of(l: usize, demand: &[i32], list: &[u16]) -> usize
-    requires { ⌜ Loaded l (now demand) × Visits l (now list) ⌝ }
-    ensures { λ r. ⌜ r ≡ total (boxesAt (now (demand .entry))) (now (list .entry)) ⌝ }
-{
-    let mut load = 0;
-    let mut k = 0;
-    while k < list.len() {
-        load += boxes_at(l, demand, list, k);
-        k += 1;
-    }
-    load
 }
 
 // ---- a candidate
@@ -170,8 +140,8 @@ fn consider(
 ) -> Choice
     requires { ⌜ Asked (columnsAt (terms .l) flags service ready due penalty distances times) (now demand) terms ⌝ }
     requires { ⌜ Two (terms .l) (now one) (now other) × (cut1 ≤ length (now one)) × (cut2 ≤ length (now other)) ⌝ }
-    requires { ⌜ (load1 ≡ total (boxesAt (now demand)) (joined (now one) cut1 (now other) cut2))
-        × (load2 ≡ total (boxesAt (now demand)) (joined (now other) cut2 (now one) cut1)) ⌝ }
+    requires { ⌜ (load1 ≡ total (boxesOf (now demand)) (joined (now one) cut1 (now other) cut2))
+        × (load2 ≡ total (boxesOf (now demand)) (joined (now other) cut2 (now one) cut1)) ⌝ }
     ensures { λ r.
         ⌜ r ≡ better
         (columnsAt (terms .l) (flags .entry) (service .entry) (ready .entry) (due .entry) (penalty .entry) (distances .entry) (times .entry))
@@ -245,8 +215,8 @@ fn best_row(
 ) -> Choice
     requires { ⌜ Asked (columnsAt (terms .l) flags service ready due penalty distances times) (now demand) terms ⌝ }
     requires { ⌜ Two (terms .l) (now one) (now other) × (cut1 ≤ length (now one)) ⌝ }
-    requires { ⌜ (head1 ≡ total (boxesAt (now demand)) (take cut1 (now one)))
-        × (load1 ≡ total (boxesAt (now demand)) (now one)) × (load2 ≡ total (boxesAt (now demand)) (now other)) ⌝ }
+    requires { ⌜ (head1 ≡ total (boxesOf (now demand)) (take cut1 (now one)))
+        × (load1 ≡ total (boxesOf (now demand)) (now one)) × (load2 ≡ total (boxesOf (now demand)) (now other)) ⌝ }
     ensures { λ r.
         ⌜ r ≡ bestRow
         (columnsAt (terms .l) (flags .entry) (service .entry) (ready .entry) (due .entry) (penalty .entry) (distances .entry) (times .entry))
@@ -611,7 +581,7 @@ pub fn exchange_improve(
         l,
         depot,
         limits,
-        capacity: boxes_of(capacity),
+        capacity: boxes_in(capacity),
         needed,
         floor,
     };

@@ -1,8 +1,8 @@
 // Refusals 11 and 12 of document 01, and 6 and 7 of every van of a fleet: 11 first, then every van for 6, then every van for 7.
 use crate::vehicle::van_at;
 use day::customer::num_depots;
+use day::refusal::all_plain;
 use day::refusal::van_refusal;
-use numbers::is_plain;
 use tests::both;
 use tests::refuse_unless;
 ghost use mathlib.Core.Path.{_≡_};
@@ -10,7 +10,7 @@ ghost use mathlib.Core.Bool.{true};
 ghost use Prim.Native.Nat.{_≤_};
 ghost use lib.ListN.{length, getD};
 ghost use Rattle.tests.specs.All.{allBelow};
-ghost use Rattle.day.specs.Refusal.{isDepot, allPlain};
+ghost use Rattle.day.specs.Refusal.{isDepot};
 ghost use Rattle.fleet.specs.Fleet.{fleetAt, Fitted};
 ghost use Rattle.fleet.specs.Refusal.{costColumnsOk, limitColumnsOk, listColumnsOk, fleetOk, depotsOk, vansOk, fleetRefusal, pricesRefusal};
 
@@ -235,23 +235,9 @@ pub fn fleet_refusal(
     0
 }
 
-// Whether every starting price is plain.
-fn prices_ok(prices: &[f64]) -> bool
-    ensures { λ r. ⌜ r ≡ allPlain (now (prices .entry)) ⌝ }
-{
-    let mut k = 0;
-    while k < prices.len() {
-        if !is_plain(prices[k]) {
-            return false;
-        }
-        k += 1;
-    }
-    true
-}
-
 // 12 where a starting price isn't plain, and 0 where there is none.
 pub fn prices_refusal(prices: &[f64]) -> u8
     ensures { λ r. ⌜ r ≡ pricesRefusal (now (prices .entry)) ⌝ }
 {
-    refuse_unless(prices_ok(prices), 12, 0)
+    refuse_unless(all_plain(prices), 12, 0)
 }

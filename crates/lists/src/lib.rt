@@ -52,7 +52,7 @@ pub fn list_of<'a>(visits: &'a [u16], lengths: &[u16], r: usize) -> &'a [u16]
     ensures { λ x. ⌜ now x ≡ listOf (now (visits .entry)) (now (lengths .entry)) r ⌝ }
 {
     let start = start_of(lengths, r);
-    let end = end_of(lengths, r);
+    let end = start + length_of(lengths, r);
     &visits[start..end]
 }
 

@@ -12,7 +12,7 @@ use Rattle.lists.specs.Edits.{Edited, relocated}
 use Rattle.descent.specs.Search.{Search, Judge, Outcome, settled, stopped, taken, next, run}
 use Rattle.descent.specs.Across.{Relocation}
 use Rattle.descent.proofs.Loops.{run-settles, run-stops, run-moves}
-use Rattle.pairs.specs.Pairs.{moveOf}
+use Rattle.pairs.specs.Pairs.{isFound, moveOf}
 use Rattle.pairs.specs.declared.Choice.{Choice}
 use Rattle.pairs.proofs.Taken.{Relocating, no-next, a-next}
 
@@ -75,15 +75,15 @@ module _ (search : Search (List (List ℕ)) Unit Relocation) (judge : Judge (Lis
 
   module _ (ls : List (List ℕ)) (running : Running ls) (c : Choice) (found : moveOf c ≡ taken search judge ls tt) where
     -- where nothing is found, where the limit is used up, and after a move
-    pub run-settled : c .found ≡ false
+    pub run-settled : isFound c ≡ false
         → run (next search judge) limit (record { now = first; ahead = [] }) ≡ record { word = settled; moves = moves; last = record { now = ls; ahead = [] } }
     run-settled e = going-settled _ _ _ moves _ running (no-next search judge bound R ls c found e)
 
-    pub run-stopped : c .found ≡ true → limit ≤ moves
+    pub run-stopped : isFound c ≡ true → limit ≤ moves
         → run (next search judge) limit (record { now = first; ahead = [] }) ≡ record { word = stopped; moves = moves; last = record { now = ls; ahead = [] } }
     run-stopped e used = going-stopped _ _ _ moves _ running _ (a-next search judge bound R ls c found e) used
 
-    pub run-goes-on : c .found ≡ true → moves < limit → (ms : List (List ℕ)) → ms ≡ relocated ls (c .from) (c .position) (c .to) (c .place)
+    pub run-goes-on : isFound c ≡ true → moves < limit → (ms : List (List ℕ)) → ms ≡ relocated ls (c .from) (c .position) (c .to) (c .place)
         → Going (next search judge) limit (record { now = first; ahead = [] }) (moves + 1) (record { now = ms; ahead = [] })
     run-goes-on e room ms is = rw is (going-on _ _ _ moves _ running _ (a-next search judge bound R ls c found e) room)
 

@@ -2,13 +2,14 @@
 -- changes two lists, the entries of the pairs without them are right still, and the others are put in again. Assumes nothing.
 use mathlib.Core.Path.{_≡_, refl, sym, ap, _∙_, subst}
 use mathlib.Core.Logic.{_⊎_, inl, inr, _≢_}
-use mathlib.Core.Bool.{Bool, true, false}
+use mathlib.Core.Bool.{Bool, true, false, not}
 use mathlib.Core.Option.{Option, none, some}
 use mathlib.Core.List.{List, []}
 use Prim.Native.Nat.{ℕ, _+_, _≤_, _<_}
 use native.Mathlib.Omega.{arith}
 use native.Mathlib.Decide.{ℕ-discrete}
 use borrow.Author.Tests.{lt-ltb}
+use lib.Dec.{eqb}
 use lib.ListN.{length-set}
 use lib.Seq.{getD-set-same, getD-set-other}
 use lib.Ieee.{Float, nan, lt}
@@ -18,7 +19,7 @@ use Rattle.descent.specs.Across.{Relocation}
 use Rattle.descent.proofs.Members.{true-T}
 use Rattle.pairs.specs.Scan.{may, onward, figure}
 use Rattle.pairs.specs.Pairs.{between, Short, asMove, moveOf, Table, Sized, slot, entry, narrowed, put}
-use Rattle.pairs.specs.Pairs.{pairBest, IsBest, Stored, StoredBoth, RightWhere, Right}
+use Rattle.pairs.specs.Pairs.{foundIf, isFound, pairBest, IsBest, Stored, StoredBoth, RightWhere, Right}
 use Rattle.pairs.specs.Pairs.{Before, Untouched, Renewed, Agree}
 use Rattle.pairs.specs.declared.Choice.{Choice}
 use Rattle.pairs.proofs.Order.{fails, better, same-move}
@@ -46,11 +47,16 @@ narrowed-is : (k : ℕ) → k < 65536 → narrowed k ≡ k
 unfolding narrowed
 narrowed-is k h = rw (lt-ltb k 65536 h)
 
+told : (is : Bool) → not (eqb (foundIf is) 0) ≡ is
+unfolding foundIf
+told true = refl
+told false = refl
+
 -- what was put in
 entry-put : (bound : Float) (t : Table) (from to : ℕ) (c : Choice) → Sized t → from < 16 → to < 16
     → entry bound (put t from to c) from to
     ≡ record {
-      found = lt (c .delta) bound;
+      found = foundIf (lt (c .delta) bound);
       from = from;
       position = narrowed (c .position);
       to = to;
@@ -88,7 +94,7 @@ module _ (delta : Relocation → Float) (pass : Relocation → Bool) (bound : Fl
       stored-sized other r (b .middle) new (stored-sized r other old (b .middle) s (b .out-of)) (b .into)
 
   -- a pair's best that is found is a move of the pair
-  pub pair-there : (from to : ℕ) (c : Choice) → IsBest delta pass bound ls from to c → c .found ≡ true → Of ls from to (asMove c)
+  pub pair-there : (from to : ℕ) (c : Choice) → IsBest delta pass bound ls from to c → isFound c ≡ true → Of ls from to (asMove c)
   pair-there from to c b e =
       let s = pair-standing delta pass bound ls from to c b in
       let i : Best delta pass bound (λ m. m ∈ between ls from to) (some (asMove c)) =
@@ -101,7 +107,7 @@ module _ (delta : Relocation → Float) (pass : Relocation → Bool) (bound : Fl
     -- the entry says what was put in
     said : (t : Table) (from to : ℕ) (c : Choice) → Sized t → from < 16 → to < 16 → IsBest delta pass bound ls from to c
         → moveOf (entry bound (put t from to c) from to) ≡ moveOf c
-    said t from to c s h k b = go (c .found) refl
+    said t from to c s h k b = go (isFound c) refl
       where
         standing : Standing delta pass bound (λ m. m ∈ between ls from to) c
         standing = pair-standing delta pass bound ls from to c b
@@ -109,10 +115,10 @@ module _ (delta : Relocation → Float) (pass : Relocation → Bool) (bound : Fl
         new : Choice
         new = entry bound (put t from to c) from to
 
-        new-found : entry bound (put t from to c) from to .found ≡ lt (c .delta) bound
-        new-found = ap (λ (z : Choice). z .found) (entry-put bound t from to c s h k)
+        new-found : isFound (entry bound (put t from to c) from to) ≡ lt (c .delta) bound
+        new-found = ap (λ (z : Choice). isFound z) (entry-put bound t from to c s h k) ∙ told (lt (c .delta) bound)
 
-        go : (f : Bool) → c .found ≡ f → moveOf (entry bound (put t from to c) from to) ≡ moveOf c
+        go : (f : Bool) → isFound c ≡ f → moveOf (entry bound (put t from to c) from to) ≡ moveOf c
         go true e =
             let o = pair-there from to c b e in
             let place-short = short .short to in

@@ -2,10 +2,12 @@
 -- of both sets, all pairs together are all relocations, and there is one best. Assumes nothing.
 use mathlib.Core.Path.{_≡_, refl, sym, ap, ap₂, _∙_, subst}
 use mathlib.Core.Logic.{_⊎_, inl, inr}
-use mathlib.Core.Bool.{Bool, true, false, cond, _&&_}
+use mathlib.Core.Bool.{Bool, true, false, cond, not, _&&_}
 use mathlib.Core.Option.{Option, none, some}
 use mathlib.Core.List.{List, [], _∷_, map}
 use Prim.Native.Nat.{ℕ}
+use borrow.Author.Tests.{eq-eqb, ne-eqb}
+use lib.Dec.{eqb}
 use lib.ListN.{length}
 use lib.Ieee.{Float, lt}
 use Rattle.descent.specs.Order.{_∈_, here, there, range, each}
@@ -13,7 +15,7 @@ use Rattle.descent.specs.Across.{Relocation, relocations}
 use Rattle.descent.proofs.Members.{and-parts, not-in, in-cons, range-in}
 use Rattle.pairs.specs.Scan.{onward, figure}
 use Rattle.pairs.specs.Pairs.{between, asMove, moveOf, nothing, lessThen, earlier, ahead, firstOf, firstAmong}
-use Rattle.pairs.specs.Pairs.{Table, entry, rowFrom, leastEntry, pairBest, IsBest, Right}
+use Rattle.pairs.specs.Pairs.{isFound, Table, entry, rowFrom, leastEntry, pairBest, IsBest, Right}
 use Rattle.pairs.specs.declared.Choice.{Choice}
 use Rattle.pairs.proofs.Order.{better, less-then-less}
 use Rattle.pairs.proofs.Rows.{among-append}
@@ -22,11 +24,17 @@ use Rattle.pairs.proofs.Listed.{between-sorted, OfPairs, relocations-so
 
 -- ---- a choice that is found, and one that isn't
 
-pub found-move : (c : Choice) → c .found ≡ true → moveOf c ≡ some (asMove c)
+pub is-none : (found : ℕ) → found ≡ 0 → not (eqb found 0) ≡ false
+is-none found e = ap not (eq-eqb found 0 e)
+
+pub is-some : (found : ℕ) → (found ≡ 0 → ⊥) → not (eqb found 0) ≡ true
+is-some found h = ap not (ne-eqb found 0 h)
+
+pub found-move : (c : Choice) → isFound c ≡ true → moveOf c ≡ some (asMove c)
 unfolding moveOf
 found-move c e = rw (e, moveOf)
 
-pub no-move : (c : Choice) → c .found ≡ false → moveOf c ≡ none
+pub no-move : (c : Choice) → isFound c ≡ false → moveOf c ≡ none
 unfolding moveOf
 no-move c e = rw (e, moveOf)
 
@@ -40,9 +48,9 @@ first-stays : (best c : Choice) → ahead c best ≡ false → firstOf best c �
 unfolding firstOf
 first-stays best c e = rw e
 
-ahead-found : (c best : Choice) → c .found ≡ true → ahead c best ≡ lessThen (c .delta) (best .delta) (earlier (asMove c) (asMove best))
+ahead-found : (c best : Choice) → isFound c ≡ true → ahead c best ≡ lessThen (c .delta) (best .delta) (earlier (asMove c) (asMove best))
 unfolding ahead
-ahead-found c best e = and-true (c .found) (lessThen (c .delta) (best .delta) (earlier (asMove c) (asMove best))) e
+ahead-found c best e = and-true (isFound c) (lessThen (c .delta) (best .delta) (earlier (asMove c) (asMove best))) e
   where
     and-true : (a b : Bool) → a ≡ true → (a && b) ≡ b
     and-true a b e = rw e
@@ -57,32 +65,32 @@ module _ (delta : Relocation → Float) (pass : Relocation → Bool) (bound : Fl
     pub best : Best delta pass bound S (moveOf c)
 
   -- a choice's delta is its move's, which is below the bound; with none it is the bound
-  pub found-delta : (S : Relocation → Type 0) (c : Choice) → Standing S c → c .found ≡ true → (lt (c .delta) bound ≡ true) × (c .delta ≡ delta (asMove c))
+  pub found-delta : (S : Relocation → Type 0) (c : Choice) → Standing S c → isFound c ≡ true → (lt (c .delta) bound ≡ true) × (c .delta ≡ delta (asMove c))
   unfolding figure
   found-delta S c s e =
       let b : Best delta pass bound S (some (asMove c)) = subst (λ (o : Option Relocation). Best delta pass bound S o) (found-move c e) (s .best) in
       let d : c .delta ≡ delta (asMove c) = s .figured ∙ ap (figure delta pass bound) (found-move c e) in
       (ap (λ (x : Float). lt x bound) d ∙ and-parts (lt (delta (asMove c)) bound) (pass (asMove c)) (b .1) .0, d)
 
-  pub none-delta : (S : Relocation → Type 0) (c : Choice) → Standing S c → c .found ≡ false → c .delta ≡ bound
+  pub none-delta : (S : Relocation → Type 0) (c : Choice) → Standing S c → isFound c ≡ false → c .delta ≡ bound
   unfolding figure
   none-delta S c s e = s .figured ∙ ap (figure delta pass bound) (no-move c e)
 
   -- ---- the first of two choices is the best of both sets
 
   module _ (S R : Relocation → Type 0) (best c : Choice) (s : Standing S best) (r : Standing R c) where
-    none-found : c .found ≡ false → moveOf (firstOf best c) ≡ merge delta (moveOf c) (moveOf best)
+    none-found : isFound c ≡ false → moveOf (firstOf best c) ≡ merge delta (moveOf c) (moveOf best)
     unfolding ahead merge
-    none-found e = ap moveOf (first-stays best c (and-none (c .found) _ e)) ∙ ap (λ (o : Option Relocation). merge delta o (moveOf best)) (sym (no-move c e))
+    none-found e = ap moveOf (first-stays best c (and-none (isFound c) _ e)) ∙ ap (λ (o : Option Relocation). merge delta o (moveOf best)) (sym (no-move c e))
 
-    one-found : c .found ≡ true → best .found ≡ false → moveOf (firstOf best c) ≡ merge delta (moveOf c) (moveOf best)
+    one-found : isFound c ≡ true → isFound best ≡ false → moveOf (firstOf best c) ≡ merge delta (moveOf c) (moveOf best)
     unfolding merge
     one-found e f =
         let below : lt (c .delta) (best .delta) ≡ true = ap (lt (c .delta)) (none-delta S best s f) ∙ found-delta R c r e .0 in
         ap moveOf (first-taken best c (ahead-found c best e ∙ sym (less-then-less (c .delta) (best .delta) (earlier (asMove c) (asMove best)) below)))
         ∙ found-move c e ∙ sym (ap₂ (merge delta) (found-move c e) (no-move best f))
 
-    both-found : c .found ≡ true → best .found ≡ true → (t : Bool) → better delta (asMove c) (asMove best) ≡ t
+    both-found : isFound c ≡ true → isFound best ≡ true → (t : Bool) → better delta (asMove c) (asMove best) ≡ t
         → moveOf (firstOf best c) ≡ merge delta (moveOf c) (moveOf best)
     unfolding better
     both-found e f t g = go t g
@@ -98,9 +106,9 @@ module _ (delta : Relocation → Float) (pass : Relocation → Bool) (bound : Fl
             ∙ sym (ap₂ (merge delta) (found-move c e) (found-move best f) ∙ merge-other delta (asMove c) (asMove best) g)
 
     first-merge : moveOf (firstOf best c) ≡ merge delta (moveOf c) (moveOf best)
-    first-merge = go (c .found) refl (best .found) refl
+    first-merge = go (isFound c) refl (isFound best) refl
       where
-        go : (a : Bool) → c .found ≡ a → (b : Bool) → best .found ≡ b → moveOf (firstOf best c) ≡ merge delta (moveOf c) (moveOf best)
+        go : (a : Bool) → isFound c ≡ a → (b : Bool) → isFound best ≡ b → moveOf (firstOf best c) ≡ merge delta (moveOf c) (moveOf best)
         go false e b f = none-found e
         go true e false f = one-found e f
         go true e true f = both-found e f (better delta (asMove c) (asMove best)) refl

@@ -19,7 +19,8 @@ use Rattle.descent.specs.Search.{begins-again, Search, Judge, ok, taken, firstM
 use Rattle.descent.specs.Across.{at, Relocation, relocations, relocate-search}
 use Rattle.descent.proofs.Loops.{place-passed, place-moved, next-sweep}
 use Rattle.pairs.specs.Scan.{onward, figure}
-use Rattle.pairs.specs.Pairs.{across, Moves, Short, asMove, moveOf, nothing, Table, leastEntry, pairBest, IsBest, RightWhere, Right, Renewed, Agree}
+use Rattle.pairs.specs.Pairs.{across, Moves, Short, isFound, asMove, moveOf, nothing, Table, leastEntry, pairBest}
+use Rattle.pairs.specs.Pairs.{IsBest, RightWhere, Right, Renewed, Agree}
 use Rattle.pairs.specs.declared.Choice.{Choice}
 use Rattle.pairs.proofs.Scanning.{onward-end, onward-none}
 use Rattle.pairs.proofs.Best.{Best, best-sorted}
@@ -98,7 +99,7 @@ module _ (delta : Relocation → Float) (pass : Relocation → Bool) (bound : Fl
 
   -- ---- the choice that the table gives lies in the lists
 
-  pub choice-there : (c : Choice) → moveOf c ≡ onward delta pass bound none (relocations ls) → c .found ≡ true
+  pub choice-there : (c : Choice) → moveOf c ≡ onward delta pass bound none (relocations ls) → isFound c ≡ true
       → Moves ls (c .from) (c .position) (c .to) (c .place)
   choice-there c e f =
       let b : Best delta pass bound (λ m. m ∈ relocations ls) (some (asMove c)) =
@@ -108,7 +109,7 @@ module _ (delta : Relocation → Float) (pass : Relocation → Bool) (bound : Fl
 
 -- in the tables of the lists, so that it can be made
 pub least-relocates : (delta : Relocation → Float) (pass : Relocation → Bool) (bound : Float) (visits lengths : List ℕ) (t : Table) (c : Choice)
-    → Laid visits lengths → Right delta pass bound (lists visits lengths) (length lengths) t → c ≡ leastEntry (length lengths) bound t → c .found ≡ true
+    → Laid visits lengths → Right delta pass bound (lists visits lengths) (length lengths) t → c ≡ leastEntry (length lengths) bound t → isFound c ≡ true
     → Relocates visits lengths (c .from) (c .position) (c .to) (c .place)
 least-relocates delta pass bound visits lengths t c laid r e f =
     let r′ : Right delta pass bound (lists visits lengths) (length (lists visits lengths)) t = rw (length-lists visits lengths) r in
@@ -164,7 +165,7 @@ module _ (search : Search (List (List ℕ)) Unit Relocation) (judge : Judge (Lis
       rw e (least-entry-taken (judge .delta ls) (search .passes ls) bound ls t r′ ∙ scan-taken)
 
   -- it lies in the lists
-  pub taken-there : (c : Choice) → moveOf c ≡ taken search judge ls tt → c .found ≡ true → Moves ls (c .from) (c .position) (c .to) (c .place)
+  pub taken-there : (c : Choice) → moveOf c ≡ taken search judge ls tt → isFound c ≡ true → Moves ls (c .from) (c .position) (c .to) (c .place)
   taken-there c e f = choice-there (judge .delta ls) (search .passes ls) bound ls c (e ∙ sym scan-taken) f
 
   -- ---- and so it is the next move, or there is none
@@ -177,10 +178,10 @@ module _ (search : Search (List (List ℕ)) Unit Relocation) (judge : Judge (Lis
     fresh : next search judge (record { now = ls; ahead = [] }) ≡ firstMove search judge ls (tt ∷ [])
     fresh = next-sweep search judge (record { now = ls; ahead = [] }) nowhere ∙ ap (firstMove search judge ls) (R .places-are ls)
 
-    pub no-next : c .found ≡ false → next search judge (record { now = ls; ahead = [] }) ≡ none
+    pub no-next : isFound c ≡ false → next search judge (record { now = ls; ahead = [] }) ≡ none
     no-next e = fresh ∙ place-passed search judge ls tt [] (sym found ∙ no-move c e) ∙ nowhere
 
-    pub a-next : c .found ≡ true
+    pub a-next : isFound c ≡ true
         → next search judge (record { now = ls; ahead = [] }) ≡ some (record { now = relocated ls (c .from) (c .position) (c .to) (c .place); ahead = [] })
     a-next e =
         fresh ∙ place-moved search judge ls tt [] (asMove c) (sym found ∙ found-move c e)

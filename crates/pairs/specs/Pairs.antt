@@ -2,7 +2,7 @@
 -- least entry of it. For the contracts of src/ and for the two relocate engines. Over any delta and any test. Assumes nothing.
 use mathlib.Core.Path.{_≡_}
 use mathlib.Core.Logic.{_⊎_, _≢_}
-use mathlib.Core.Bool.{Bool, true, false, cond, _&&_, _||_}
+use mathlib.Core.Bool.{Bool, true, false, cond, not, _&&_, _||_}
 use mathlib.Core.Option.{Option, none, some}
 use mathlib.Core.List.{List, [], _∷_, map}
 use Prim.Native.Nat.{ℕ, suc, _+_, _*_, _≤_, _<_}
@@ -41,17 +41,25 @@ pub record Short (ls : List (List ℕ)) : Type 0 where
 
 -- ---- a choice
 
+-- `Some` and `None`, as 1 and 0
+unfoldable pub foundIf : Bool → ℕ
+foundIf is = cond is 1 0
+
+-- `Some`
+abbrev pub isFound : Choice → Bool
+isFound c = not (eqb (c .found) 0)
+
 -- its numbers as a move
 abbrev pub asMove : Choice → Relocation
 asMove c = record { from = c .from; position = c .position; to = c .to; place = c .place }
 
 -- the move that a choice says
 unfoldable pub moveOf : Choice → Option Relocation
-moveOf c = elim (c .found) [ true ↦ some (asMove c) | false ↦ none ]
+moveOf c = elim (isFound c) [ true ↦ some (asMove c) | false ↦ none ]
 
 -- while none is found, minus the floor
 abbrev pub nothing : Float → Choice
-nothing bound = record { found = false; from = 0; position = 0; to = 0; place = 0; delta = bound }
+nothing bound = record { found = 0; from = 0; position = 0; to = 0; place = 0; delta = bound }
 
 -- ---- the order of `best`: `a.delta.total_cmp(&b.delta).then((a.from_route, a.from_pos, a.to_route, a.to_pos).cmp(..))`
 
@@ -69,7 +77,7 @@ lessThen a b rest = lt a b || (eq a b && rest)
 
 -- the one before the other
 unfoldable pub ahead : Choice → Choice → Bool
-ahead c best = c .found && lessThen (c .delta) (best .delta) (earlier (asMove c) (asMove best))
+ahead c best = isFound c && lessThen (c .delta) (best .delta) (earlier (asMove c) (asMove best))
 
 -- the first of the two
 unfoldable pub firstOf : Choice → Choice → Choice
@@ -109,7 +117,7 @@ slot from to = 16 * from + to
 -- what the table says of a pair
 unfoldable pub entry : Float → Table → ℕ → ℕ → Choice
 entry bound t from to = record {
-  found = lt (getD (t .deltas) (slot from to) nan) bound;
+  found = foundIf (lt (getD (t .deltas) (slot from to) nan) bound);
   from = from;
   position = getD (t .positions) (slot from to) 0;
   to = to;

@@ -4,11 +4,12 @@
 ghost use mathlib.Core.Path.{_≡_};
 ghost use Prim.Native.Nat.{_≤_, _<_};
 ghost use Rattle.pairs.specs.Pairs.{inOrder, lessThen, earlier, asMove, ahead, firstOf, firstAmong};
-ghost use Rattle.pairs.specs.Pairs.{tableAt, Sized, entry, narrowed, put, rowFrom, leastEntry};
+ghost use Rattle.pairs.specs.Pairs.{foundIf, tableAt, Sized, entry, narrowed, put, rowFrom, leastEntry};
 
-// The best move so far with its delta; while none is found, minus the floor.
+// The best move so far with its delta; while none is found, minus the floor. `found` is 1 or 0 in a whole word: a bool would leave padding that every copy
+// in a loop moves.
 pub struct Choice {
-    pub found: bool,
+    pub found: usize,
     pub from: usize,
     pub position: usize,
     pub to: usize,
@@ -60,7 +61,7 @@ fn is_earlier(choice: Choice, best: Choice) -> bool
 fn is_ahead(choice: Choice, best: Choice) -> bool
     ensures { λ r. ⌜ r ≡ ahead choice best ⌝ }
 {
-    if !choice.found {
+    if choice.found == 0 {
         return false;
     }
     less_then(choice.delta, best.delta, is_earlier(choice, best))
@@ -94,6 +95,15 @@ fn narrow(k: usize) -> u16
     0
 }
 
+fn found_if(below: bool) -> usize
+    ensures { λ r. ⌜ r ≡ foundIf below ⌝ }
+{
+    if below {
+        return 1;
+    }
+    0
+}
+
 // What the table says of a pair.
 pub fn entry_at(
     bound: f64,
@@ -110,7 +120,7 @@ pub fn entry_at(
     let slot = 16 * from + to;
     let delta = deltas[slot];
     Choice {
-        found: delta < bound,
+        found: found_if(delta < bound),
         from,
         position: wide(positions[slot]),
         to,
@@ -172,7 +182,7 @@ pub fn best_pair(n: usize, bound: f64, deltas: &[f64], positions: &[u16], places
     ensures { λ r. ⌜ r ≡ leastEntry n bound (tableAt (deltas .entry) (positions .entry) (places .entry)) ⌝ }
 {
     let mut best = Choice {
-        found: false,
+        found: 0,
         from: 0,
         position: 0,
         to: 0,

@@ -14,7 +14,7 @@ use Rattle.day.specs.Customer.{numDepots}
 use Rattle.fleet.specs.Fleet.{Fleet, Crewed}
 use Rattle.lists.specs.Table.{lists}
 use Rattle.evaluation.specs.Columns.{columnsOf, formed}
-use Rattle.exchange.proofs.Loads.{loaded-of}
+use Rattle.loads.proofs.Boxes.{loaded-of}
 use Rattle.cross_depot.specs.CrossDepot.{Carried}
 use Rattle.cross_depot.specs.Scan.{Asked, Held}
 use Rattle.cross_depot.specs.Tables.{Handed, crossedOf}

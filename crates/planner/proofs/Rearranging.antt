@@ -27,10 +27,10 @@ use Rattle.deltas.specs.Judged.{WholeMap, Lent, roadsOf}
 use Rattle.deltas.proofs.Exact.{float-demand-3}
 use Rattle.engine.specs.Engine.{endedAs}
 use Rattle.engine.specs.declared.Ended.{Ended}
-use Rattle.exchange.specs.Boxes.{Loaded}
-use Rattle.exchange.specs.Exchange.{Held}
-use Rattle.exchange.proofs.Loads.{loaded-of}
-use Rattle.exchange.proofs.Tables.{held-of, lent-of}
+use Rattle.loads.specs.Loads.{Loaded, Held}
+use Rattle.loads.proofs.Boxes.{loaded-of}
+use Rattle.loads.proofs.Tables.{held-of}
+use Rattle.exchange.proofs.Tables.{lent-of}
 use Rattle.across.specs.Across.{Ran, hardExchange, exchangeRan, hardRelocate, relocateRan}
 use Rattle.across.proofs.Hard.{exchange-hard, relocate-hard}
 use Rattle.planner.specs.Refusal.{refusalOfLists, FineLists, fine-lists}

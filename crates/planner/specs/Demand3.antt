@@ -20,7 +20,7 @@ use Rattle.descent.specs.Search.{Word, settled, stopped}
 use Rattle.descent.specs.Claim.{Claim}
 use Rattle.deltas.specs.Judged.{Map, roadsOf}
 use Rattle.engine.specs.Engine.{checksOf, mapOf}
-use Rattle.exchange.specs.Boxes.{boxes}
+use Rattle.loads.specs.Loads.{boxes}
 use Rattle.planner.specs.declared.improve.Improved.{Improved}
 use Rattle.planner.specs.declared.improve.Improved.the-variants as improved
 use Rattle.planner.specs.declared.rearrange.Rearranged.{Rearranged}

@@ -14,7 +14,7 @@ use Rattle.descent.proofs.Always as every
 use Rattle.deltas.specs.Judged.{float-judge, roadsOf, WholeMap, Lent}
 use Rattle.deltas.proofs.Exact.{float-demand-3}
 use Rattle.engine.specs.Engine.{checksOf, mapOf}
-use Rattle.relocate.specs.Relocate.{boxes}
+use Rattle.loads.specs.Loads.{boxes}
 use Rattle.relocate.proofs.Going.{outcome}
 
 module _ (c : Columns) (demand : List ℤ) (limits : RouteLimits) (capacity : ℤ) (fixed : Float) (depot limit : ℕ) (lent : List (List ℕ)) where

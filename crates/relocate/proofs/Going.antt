@@ -5,15 +5,11 @@ use mathlib.Core.Bool.{true, false}
 use mathlib.Core.List.{List, [], _∷_}
 use Prim.Native.Nat.{ℕ, _+_, _≤_, _<_}
 use native.Mathlib.Omega.{arith}
-use borrow.Author.Tests.{lt-ltb, ltb-true}
-use lib.Dec.{ltb}
 use lib.IntN.{ℤ}
 use lib.ListN.{length}
 use lib.Ieee.{Float, neg}
 use Rattle.day.specs.declared.vehicle.RouteLimits.{RouteLimits}
-use Rattle.edits.proofs.Kept.{same-each, same-length}
 use Rattle.lists.specs.Edits.{Edited, relocated}
-use Rattle.lists.specs.Refused.{TableFine}
 use Rattle.evaluation.specs.Columns.{Columns}
 use Rattle.descent.specs.Permitted.{relocate}
 use Rattle.descent.specs.Search.{Sweep, Outcome, taken, next, run}
@@ -22,10 +18,12 @@ use Rattle.deltas.specs.Judged.{float-judge}
 use Rattle.engine.specs.Engine.{checksOf, mapOf, endedAs}
 use Rattle.engine.specs.declared.Ended.{Ended}
 use Rattle.engine.specs.declared.Ended.the-variants.{Settled, Stopped}
-use Rattle.relocate.specs.Relocate.{measureOf, boxes, Held, Prepared, searchOf, judgeOf, bound, PairsRight, Every}
-use Rattle.relocate.specs.declared.pair.Setup.{Setup}
+use Rattle.loads.specs.Loads.{measureOf, boxes}
+use Rattle.offers.specs.Offers.{Prepared, searchOf, judgeOf, bound}
+use Rattle.relocations.specs.Relocations.{PairsRight, Every}
+use Rattle.offers.specs.declared.Setup.{Setup}
 use Rattle.pairs.specs.declared.Choice.{Choice}
-use Rattle.pairs.specs.Pairs.{Moves, moveOf, Table, leastEntry}
+use Rattle.pairs.specs.Pairs.{Moves, isFound, moveOf, Table, leastEntry}
 use Rattle.pairs.proofs.Taken.{Relocating, relocate-relocating, table-taken, taken-there}
 use Rattle.pairs.proofs.Going.{Going, run-settled, run-stopped, run-goes-on}
 
@@ -34,21 +32,6 @@ abbrev pub outcome : Columns → List ℤ → RouteLimits → ℤ → Float → 
 outcome c demand limits capacity fixed depot limit lent =
     run-of (relocate false) (checksOf (boxes demand capacity ∷ []) c limits depot)
     (float-judge (relocate false) (mapOf (c .l) (c .distances) depot fixed)) limit lent
-
--- ---- what the tables have to be
-
--- lists that are not refused, on a day with a depot
-pub held-of : (depots l : ℕ) (visits lengths : List ℕ) → 1 ≤ depots → l ≤ 64 → TableFine depots l visits lengths → Held l visits lengths
-held-of depots l visits lengths one few fine = record { laid = fine .laid; below = fine .below; few = omega (arith, fine .at-most) }
-
--- it is kept by an edit
-pub still-held : (l : ℕ) (visits lengths visits′ lengths′ : List ℕ) (ls : List (List ℕ)) → Edited visits lengths visits′ lengths′ ls
-    → Held l visits lengths → Held l visits′ lengths′
-still-held l visits lengths visits′ lengths′ ls e h = record {
-  laid = e .laid;
-  below = λ k t. ltb-true _ _ (same-each (λ v. ltb v l) visits visits′ (e .same) (λ i there. lt-ltb _ _ (h .below i there)) k t);
-  few = omega (arith, same-length visits visits′ (e .same), h .few);
-}
 
 -- ---- one search
 
@@ -69,7 +52,7 @@ module _ (c : Columns) (demand : List ℤ) (s : Setup) (ls : List (List ℕ)) wh
 module _ (c : Columns) (demand : List ℤ) (s : Setup) (ls : List (List ℕ)) (best : Choice)
     (found : moveOf best ≡ taken (searchOf c demand s) (judgeOf c s) ls tt) where
   -- it can be made
-  pub choice-there : best .found ≡ true → Moves ls (best .from) (best .position) (best .to) (best .place)
+  pub choice-there : isFound best ≡ true → Moves ls (best .from) (best .position) (best .to) (best .place)
   choice-there e = taken-there (searchOf c demand s) (judgeOf c s) (bound c) (relocating c demand s) ls best found e
 
 -- ---- what the loop answers
@@ -87,19 +70,19 @@ module _ (c : Columns) (demand : List ℤ) (s : Setup) (limit : ℕ) (first : Li
 
   module _ (ls : List (List ℕ)) (running : Running ls) (best : Choice) (found : moveOf best ≡ taken (searchOf c demand s) (judgeOf c s) ls tt)
       (visits lengths visits′ lengths′ : List ℕ) (edited : Edited visits lengths visits′ lengths′ ls) where
-    pub answers-settled : best .found ≡ false → Answered visits lengths visits′ lengths′ (Settled moves)
+    pub answers-settled : isFound best ≡ false → Answered visits lengths visits′ lengths′ (Settled moves)
     unfolding run-of searchOf judgeOf endedAs
     answers-settled e =
         let whole = run-settled (searchOf c demand s) (judgeOf c s) (bound c) (relocating c demand s) limit first moves ls running best found e in
         (rw whole edited, rw whole)
 
-    pub answers-stopped : best .found ≡ true → limit ≤ moves → Answered visits lengths visits′ lengths′ (Stopped moves)
+    pub answers-stopped : isFound best ≡ true → limit ≤ moves → Answered visits lengths visits′ lengths′ (Stopped moves)
     unfolding run-of searchOf judgeOf endedAs
     answers-stopped e used =
         let whole = run-stopped (searchOf c demand s) (judgeOf c s) (bound c) (relocating c demand s) limit first moves ls running best found e used in
         (rw whole edited, rw whole)
 
-  pub goes-on : (ls : List (List ℕ)) → Running ls → (best : Choice) → moveOf best ≡ taken (searchOf c demand s) (judgeOf c s) ls tt → best .found ≡ true
+  pub goes-on : (ls : List (List ℕ)) → Running ls → (best : Choice) → moveOf best ≡ taken (searchOf c demand s) (judgeOf c s) ls tt → isFound best ≡ true
       → moves < limit → (ms : List (List ℕ)) → ms ≡ relocated ls (best .from) (best .position) (best .to) (best .place)
       → Going (next (searchOf c demand s) (judgeOf c s)) limit (record { now = first; ahead = [] }) (moves + 1) (record { now = ms; ahead = [] })
   goes-on ls running best found e room ms is =

@@ -13,11 +13,11 @@ use Rattle.lists.specs.Table.{lists, listOf}
 use Rattle.lists.specs.Edits.{Edited, Relocates, relocated}
 use Rattle.lists.proofs.Tables.{at-lists, length-lists, length-list}
 use Rattle.deltas.specs.Deltas.{insertionDelta}
-use Rattle.relocate.specs.Relocate.{Held, inserted}
-use Rattle.relocate.specs.Cache.{without, cell, column, leftAt, cameAt, Known}
-use Rattle.relocate.proofs.Shifted.{without-length, with-length}
-use Rattle.relocate.proofs.Cached.{forgot, known-left, known-came}
-use Rattle.relocate.proofs.Choosing.{list-visits}
+use Rattle.loads.specs.Loads.{Held}
+use Rattle.insertions.specs.Cache.{inserted, without, cell, column, leftAt, cameAt, Known}
+use Rattle.insertions.proofs.Shifted.{without-length, with-length}
+use Rattle.insertions.proofs.Cached.{forgot, known-left, known-came}
+use Rattle.loads.proofs.Tables.{list-visits}
 
 module _ (l : ℕ) (visits lengths visits′ lengths′ : List ℕ) (from position to place : ℕ) (held : Held l visits lengths)
     (r : Relocates visits lengths from position to place)

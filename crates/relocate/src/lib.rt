@@ -2,33 +2,30 @@
 // first, until none gains. Of equal deltas the first in the order (from list, position, to list, place) is taken; the receiver has to have room and to
 // pass, the giver isn't tested.
 //
-// As in the Rust the best move of every pair of lists is kept in a table (crate `pairs`), and so is what it costs at least to insert a visit into a list
-// (cache.rt), by which most visits need not be offered (pair.rt). A move changes two lists, so that only the pairs with one of them in it are searched
-// again. The move taken is the one that a scan of all candidates takes, which is the definition.
-pub mod cache;
-pub mod pair;
-
-use crate::cache::after_insertion;
-use crate::cache::after_removal;
-use crate::cache::wide;
-use crate::pair::Setup;
-use crate::pair::best_between;
+// As in the Rust the best move of every pair of lists is kept in a table (crate `relocations`), and so is what it costs at least to insert a visit into a
+// list (crate `insertions`), by which most visits need not be offered (crate `offers`). A move changes two lists, so that only the pairs with one of them in
+// it are searched again. The move taken is the one that a scan of all candidates takes, which is the definition.
 use day::matrix::scale;
 use day::vehicle::RouteLimits;
 use engine::Ended;
 use evaluation::route::route_checks_needed;
+use insertions::after_insertion;
+use insertions::after_removal;
+use insertions::forget_at;
+use insertions::wide;
 use lists::list_of;
 use lists::move_visit;
 use numbers::gain_floor;
 use numbers::unknown;
+use offers::Setup;
 use pairs::best_pair;
-use pairs::put_pair;
+use relocations::search_all;
+use relocations::search_changed;
 ghost use mathlib.Core.Path.{_≡_};
 ghost use mathlib.Core.Bool.{true, false};
 ghost use mathlib.Core.List.{[], _∷_};
 ghost use Prim.Native.Nat.{_+_, _<_, _≤_};
-ghost use lib.ListN.{length, getD, set};
-ghost use lib.Ieee.{nan};
+ghost use lib.ListN.{length, getD};
 ghost use Rattle.day.specs.Matrix.{leg, Square};
 ghost use Rattle.day.specs.Refusal.{capacityOk};
 ghost use Rattle.lists.specs.Table.{Laid, lists, listOf};
@@ -39,361 +36,10 @@ ghost use Rattle.descent.specs.Engines.{run-of};
 ghost use Rattle.deltas.specs.Deltas.{insertionDelta};
 ghost use Rattle.deltas.specs.Judged.{float-judge};
 ghost use Rattle.engine.specs.Engine.{checksOf, mapOf, endedAs};
-ghost use Rattle.pairs.specs.Pairs.{Sized, Before, Renewed, tableAt};
-ghost use Rattle.relocate.specs.Cache.{cell, Known};
-ghost use Rattle.relocate.specs.Relocate.{boxes, measureOf, Boxed, Held, Prepared, Cached, Searched, SearchedBoth};
-ghost use Rattle.relocate.specs.Relocate.{PairsRight, Every};
-
-// ---- the table of pairs
-
-// Searches a pair of lists, and puts its best into the table.
-fn search_pair(
-    setup: Setup,
-    flags: &[u8],
-    service: &[f64],
-    ready: &[f64],
-    due: &[f64],
-    penalty: &[f64],
-    distances: &[f64],
-    times: &[f64],
-    demand: &[i32],
-    visits: &[u16],
-    lengths: &[u16],
-    buffer: &mut [u16],
-    figures: &mut [f64],
-    places: &mut [u16],
-    deltas: &mut [f64],
-    positions: &mut [u16],
-    to_places: &mut [u16],
-    pruning: bool,
-    from: usize,
-    to: usize,
-)
-    requires { ⌜ Prepared setup (columnsAt (setup .l) flags service ready due penalty distances times) ⌝ }
-    requires { ⌜ Boxed (setup .l) (now demand) × Held (setup .l) (now visits) (now lengths) × (64 ≤ length (now buffer)) ⌝ }
-    requires { ⌜ Cached (columnsAt (setup .l) flags service ready due penalty distances times) setup (lists (now visits) (now lengths))
-        (now figures) (now places) ⌝ }
-    requires { ⌜ Sized (tableAt deltas positions «to_places») × (from < length (now lengths)) × (to < length (now lengths)) ⌝ }
-    ensures { λ _.
-        ⌜ (let c = columnsAt (setup .l) (flags .entry) (service .entry) (ready .entry) (due .entry) (penalty .entry) (distances .entry) (times .entry) in
-        let ls = lists (now (visits .entry)) (now (lengths .entry))
-        in Searched c (now (demand .entry)) setup ls from to (tableAt (deltas .entry) (positions .entry) («to_places» .entry))
-        (tableAt (deltas .exit) (positions .exit) («to_places» .exit))
-        × Cached c setup ls (now (figures .exit)) (now (places .exit))) ⌝ }
-{
-    let best = best_between(
-        setup,
-        flags,
-        service,
-        ready,
-        due,
-        penalty,
-        distances,
-        times,
-        demand,
-        visits,
-        lengths,
-        buffer,
-        figures,
-        places,
-        pruning,
-        from,
-        to,
-    );
-    put_pair(deltas, positions, to_places, from, to, best);
-}
-
-// Searches every pair with list `from` as the giver.
-fn search_row(
-    setup: Setup,
-    flags: &[u8],
-    service: &[f64],
-    ready: &[f64],
-    due: &[f64],
-    penalty: &[f64],
-    distances: &[f64],
-    times: &[f64],
-    demand: &[i32],
-    visits: &[u16],
-    lengths: &[u16],
-    buffer: &mut [u16],
-    figures: &mut [f64],
-    places: &mut [u16],
-    deltas: &mut [f64],
-    positions: &mut [u16],
-    to_places: &mut [u16],
-    pruning: bool,
-    from: usize,
-)
-    requires { ⌜ Prepared setup (columnsAt (setup .l) flags service ready due penalty distances times) ⌝ }
-    requires { ⌜ Boxed (setup .l) (now demand) × Held (setup .l) (now visits) (now lengths) × (64 ≤ length (now buffer)) ⌝ }
-    requires { ⌜ Cached (columnsAt (setup .l) flags service ready due penalty distances times) setup (lists (now visits) (now lengths))
-        (now figures) (now places) ⌝ }
-    requires { ⌜ PairsRight (columnsAt (setup .l) flags service ready due penalty distances times) (now demand) setup
-        (lists (now visits) (now lengths)) (length (now lengths)) (Before from 0) (tableAt deltas positions «to_places») ⌝ }
-    requires { ⌜ from < length (now lengths) ⌝ }
-    ensures { λ _.
-        ⌜ (let c = columnsAt (setup .l) (flags .entry) (service .entry) (ready .entry) (due .entry) (penalty .entry) (distances .entry) (times .entry) in
-        let ls = lists (now (visits .entry)) (now (lengths .entry))
-        in PairsRight c (now (demand .entry)) setup ls (length (now (lengths .entry))) (Before (from + 1) 0)
-        (tableAt (deltas .exit) (positions .exit) («to_places» .exit))
-        × Cached c setup ls (now (figures .exit)) (now (places .exit))) ⌝ }
-{
-    let mut to = 0;
-    while to < lengths.len() {
-        search_pair(
-            setup,
-            flags,
-            service,
-            ready,
-            due,
-            penalty,
-            distances,
-            times,
-            demand,
-            visits,
-            lengths,
-            buffer,
-            figures,
-            places,
-            deltas,
-            positions,
-            to_places,
-            pruning,
-            from,
-            to,
-        );
-        to += 1;
-    }
-}
-
-// Searches every pair.
-fn search_all(
-    setup: Setup,
-    flags: &[u8],
-    service: &[f64],
-    ready: &[f64],
-    due: &[f64],
-    penalty: &[f64],
-    distances: &[f64],
-    times: &[f64],
-    demand: &[i32],
-    visits: &[u16],
-    lengths: &[u16],
-    buffer: &mut [u16],
-    figures: &mut [f64],
-    places: &mut [u16],
-    deltas: &mut [f64],
-    positions: &mut [u16],
-    to_places: &mut [u16],
-    pruning: bool,
-)
-    requires { ⌜ Prepared setup (columnsAt (setup .l) flags service ready due penalty distances times) ⌝ }
-    requires { ⌜ Boxed (setup .l) (now demand) × Held (setup .l) (now visits) (now lengths) × (64 ≤ length (now buffer)) ⌝ }
-    requires { ⌜ Cached (columnsAt (setup .l) flags service ready due penalty distances times) setup (lists (now visits) (now lengths))
-        (now figures) (now places) ⌝ }
-    requires { ⌜ Sized (tableAt deltas positions «to_places») ⌝ }
-    ensures { λ _.
-        ⌜ (let c = columnsAt (setup .l) (flags .entry) (service .entry) (ready .entry) (due .entry) (penalty .entry) (distances .entry) (times .entry) in
-        let ls = lists (now (visits .entry)) (now (lengths .entry))
-        in PairsRight c (now (demand .entry)) setup ls (length (now (lengths .entry))) (Every)
-        (tableAt (deltas .exit) (positions .exit) («to_places» .exit))
-        × Cached c setup ls (now (figures .exit)) (now (places .exit))) ⌝ }
-{
-    let mut from = 0;
-    while from < lengths.len() {
-        search_row(
-            setup,
-            flags,
-            service,
-            ready,
-            due,
-            penalty,
-            distances,
-            times,
-            demand,
-            visits,
-            lengths,
-            buffer,
-            figures,
-            places,
-            deltas,
-            positions,
-            to_places,
-            pruning,
-            from,
-        );
-        from += 1;
-    }
-}
-
-// Searches the pairs of two lists, out of the first and into it.
-fn search_both(
-    setup: Setup,
-    flags: &[u8],
-    service: &[f64],
-    ready: &[f64],
-    due: &[f64],
-    penalty: &[f64],
-    distances: &[f64],
-    times: &[f64],
-    demand: &[i32],
-    visits: &[u16],
-    lengths: &[u16],
-    buffer: &mut [u16],
-    figures: &mut [f64],
-    places: &mut [u16],
-    deltas: &mut [f64],
-    positions: &mut [u16],
-    to_places: &mut [u16],
-    pruning: bool,
-    r: usize,
-    other: usize,
-)
-    requires { ⌜ Prepared setup (columnsAt (setup .l) flags service ready due penalty distances times) ⌝ }
-    requires { ⌜ Boxed (setup .l) (now demand) × Held (setup .l) (now visits) (now lengths) × (64 ≤ length (now buffer)) ⌝ }
-    requires { ⌜ Cached (columnsAt (setup .l) flags service ready due penalty distances times) setup (lists (now visits) (now lengths))
-        (now figures) (now places) ⌝ }
-    requires { ⌜ Sized (tableAt deltas positions «to_places») × (r < length (now lengths)) × (other < length (now lengths)) ⌝ }
-    ensures { λ _.
-        ⌜ (let c = columnsAt (setup .l) (flags .entry) (service .entry) (ready .entry) (due .entry) (penalty .entry) (distances .entry) (times .entry) in
-        let ls = lists (now (visits .entry)) (now (lengths .entry))
-        in SearchedBoth c (now (demand .entry)) setup ls r other (tableAt (deltas .entry) (positions .entry) («to_places» .entry))
-        (tableAt (deltas .exit) (positions .exit) («to_places» .exit))
-        × Cached c setup ls (now (figures .exit)) (now (places .exit))) ⌝ }
-{
-    search_pair(
-        setup,
-        flags,
-        service,
-        ready,
-        due,
-        penalty,
-        distances,
-        times,
-        demand,
-        visits,
-        lengths,
-        buffer,
-        figures,
-        places,
-        deltas,
-        positions,
-        to_places,
-        pruning,
-        r,
-        other,
-    );
-    search_pair(
-        setup,
-        flags,
-        service,
-        ready,
-        due,
-        penalty,
-        distances,
-        times,
-        demand,
-        visits,
-        lengths,
-        buffer,
-        figures,
-        places,
-        deltas,
-        positions,
-        to_places,
-        pruning,
-        other,
-        r,
-    );
-}
-
-// Searches every pair with list a or b in it again, after both changed.
-fn search_changed(
-    setup: Setup,
-    flags: &[u8],
-    service: &[f64],
-    ready: &[f64],
-    due: &[f64],
-    penalty: &[f64],
-    distances: &[f64],
-    times: &[f64],
-    demand: &[i32],
-    visits: &[u16],
-    lengths: &[u16],
-    buffer: &mut [u16],
-    figures: &mut [f64],
-    places: &mut [u16],
-    deltas: &mut [f64],
-    positions: &mut [u16],
-    to_places: &mut [u16],
-    pruning: bool,
-    a: usize,
-    b: usize,
-)
-    requires { ⌜ Prepared setup (columnsAt (setup .l) flags service ready due penalty distances times) ⌝ }
-    requires { ⌜ Boxed (setup .l) (now demand) × Held (setup .l) (now visits) (now lengths) × (64 ≤ length (now buffer)) ⌝ }
-    requires { ⌜ Cached (columnsAt (setup .l) flags service ready due penalty distances times) setup (lists (now visits) (now lengths))
-        (now figures) (now places) ⌝ }
-    requires { ⌜ PairsRight (columnsAt (setup .l) flags service ready due penalty distances times) (now demand) setup
-        (lists (now visits) (now lengths)) (length (now lengths)) (Renewed a b 0) (tableAt deltas positions «to_places») ⌝ }
-    requires { ⌜ (a < length (now lengths)) × (b < length (now lengths)) ⌝ }
-    ensures { λ _.
-        ⌜ (let c = columnsAt (setup .l) (flags .entry) (service .entry) (ready .entry) (due .entry) (penalty .entry) (distances .entry) (times .entry) in
-        let ls = lists (now (visits .entry)) (now (lengths .entry))
-        in PairsRight c (now (demand .entry)) setup ls (length (now (lengths .entry))) (Every)
-        (tableAt (deltas .exit) (positions .exit) («to_places» .exit))
-        × Cached c setup ls (now (figures .exit)) (now (places .exit))) ⌝ }
-{
-    let mut other = 0;
-    while other < lengths.len() {
-        search_both(
-            setup,
-            flags,
-            service,
-            ready,
-            due,
-            penalty,
-            distances,
-            times,
-            demand,
-            visits,
-            lengths,
-            buffer,
-            figures,
-            places,
-            deltas,
-            positions,
-            to_places,
-            pruning,
-            a,
-            other,
-        );
-        search_both(
-            setup,
-            flags,
-            service,
-            ready,
-            due,
-            penalty,
-            distances,
-            times,
-            demand,
-            visits,
-            lengths,
-            buffer,
-            figures,
-            places,
-            deltas,
-            positions,
-            to_places,
-            pruning,
-            b,
-            other,
-        );
-        other += 1;
-    }
-}
+ghost use Rattle.pairs.specs.Pairs.{Sized, tableAt};
+ghost use Rattle.insertions.specs.Cache.{Known};
+ghost use Rattle.loads.specs.Loads.{boxes, measureOf, Loaded, Held};
+ghost use Rattle.offers.specs.Offers.{Prepared, Cached};
 
 // ---- a move
 
@@ -412,14 +58,6 @@ fn narrow(position: usize) -> u16
     ensures { λ r. ⌜ r ≡ position ⌝ }
 {
     position as u16
-}
-
-// Forgets what is known of a visit and a list.
-fn forget_at(figures: &mut [f64], visit: usize, r: usize)
-    requires { ⌜ (length (now figures) ≡ 1024) × (visit < 64) × (r < 16) ⌝ }
-    ensures { λ _. ⌜ now (figures .exit) ≡ set (now (figures .entry)) (cell visit r) nan ⌝ }
-{
-    figures[16 * visit + r] = unknown();
 }
 
 // Makes a move, and brings the cache up to date. The visit sits in `to` now, and what it costs to insert it there is not asked; `from` and `to` are the
@@ -504,7 +142,7 @@ fn descend(
     limit: u32,
 ) -> Ended
     requires { ⌜ Prepared setup (columnsAt (setup .l) flags service ready due penalty distances times) ⌝ }
-    requires { ⌜ Boxed (setup .l) (now demand) × Held (setup .l) (now visits) (now lengths) × (64 ≤ length (now buffer)) ⌝ }
+    requires { ⌜ Loaded (setup .l) (now demand) × Held (setup .l) (now visits) (now lengths) × (64 ≤ length (now buffer)) ⌝ }
     requires { ⌜ Cached (columnsAt (setup .l) flags service ready due penalty distances times) setup (lists (now visits) (now lengths))
         (now figures) (now places) ⌝ }
     requires { ⌜ Sized (tableAt deltas positions «to_places») ⌝ }
@@ -539,7 +177,7 @@ fn descend(
     let mut moves = 0;
     loop {
         let best = best_pair(lengths.len(), -setup.floor, deltas, positions, to_places);
-        if !best.found {
+        if best.found == 0 {
             return Ended::Settled(moves);
         }
         if limit <= moves {
@@ -605,7 +243,7 @@ pub fn relocate_improve(
     pruning: bool,
 ) -> Ended
     requires { ⌜ Formed (columnsAt l flags service ready due penalty distances times) ⌝ }
-    requires { ⌜ Boxed l (now demand) × (capacityOk capacity ≡ true) ⌝ }
+    requires { ⌜ Loaded l (now demand) × (capacityOk capacity ≡ true) ⌝ }
     requires { ⌜ (depot < l) × Held l (now visits) (now lengths) ⌝ }
     ensures { λ r.
         ⌜ (let c = columnsAt l (flags .entry) (service .entry) (ready .entry) (due .entry) (penalty .entry) (distances .entry) (times .entry) in

@@ -9,15 +9,15 @@ use native.Mathlib.Omega.{arith}
 use borrow.Author.Tests.{lt-ltb, le-ltb, ltb-true}
 use native.Mathlib.Nat.{sub-zero}
 use lib.Dec.{ltb}
-use lib.ListN.{length, take, drop, getD}
-use lib.Seq.{slice, slice-empty}
+use lib.ListN.{length, take, drop, getD, length-drop}
+use lib.Seq.{slice, slice-empty, length-take-le, take-take, take-append-le, drop-append-le, getD-drop}
 use Rattle.edits.specs.Total.{total, sums, SameVisits}
 use Rattle.edits.specs.Edits.{Appended}
 use Rattle.edits.proofs.Cuts.{cut4, to-end}
 use Rattle.edits.proofs.Kept.{same-length, same-each}
 use Rattle.edits.proofs.Chain.{appended-on, appended-whole}
 use Rattle.evaluation.specs.Columns.{Visits}
-use Rattle.descent.specs.Permitted.{Arrangement, turn}
+use Rattle.descent.specs.Permitted.{Arrangement, turn, arranged}
 use Rattle.descent.specs.Within.{put-before}
 use Rattle.descent.proofs.Kept.{total-arranged}
 use Rattle.soft.specs.Soft.{made}
@@ -108,32 +108,66 @@ module _ {A B C D b₀ b₁ b₂ b₃ b₄ : List ℕ} {e₁ e₂ e₃ e₄ : �
   four-appended =
       appended-on four (appended-on three (appended-on two (appended-on one refl))) ∙ ap (λ (l : List ℕ). l ++ D) (append-assoc A B C)
 
-module _ (list : List ℕ) (p : Layout) {b₀ b₁ b₂ b₃ b₄ : List ℕ} {e₁ e₂ e₃ e₄ : ℕ} (one : Appended 0 (slice 0 (p .b) list) b₀ e₁ b₁)
-    (all : e₄ ≡ length list) where
-  -- B and then C
-  pub laid-straight : p .exchanged ≡ false → Appended e₁ (turn (p .«b_turned») (slice (p .b) (p .c) list)) b₁ e₂ b₂
-      → Appended e₂ (turn (p .«c_turned») (slice (p .c) (p .d) list)) b₂ e₃ b₃ → Appended e₃ (slice (p .d) (length list) list) b₃ e₄ b₄
-      → take (length list) b₄ ≡ laid list p
-  unfolding laid
-  laid-straight order two three four = rw (← all, order, ← (to-end (p .d) list)) (four-appended one two three four)
+-- a layout keeps the head of the list, up to B
+module _ (from : ℕ) (list : List ℕ) (p : Layout) (w : Cut-in (length list) p) (h : from ≤ p .b) where
+  abbrev middle : List ℕ
+  middle = arranged (p .exchanged, p .«b_turned», p .«c_turned») (slice (p .b) (p .c) list) (slice (p .c) (p .d) list)
 
-  -- C and then B
-  pub laid-exchanged : p .exchanged ≡ true → Appended e₁ (turn (p .«c_turned») (slice (p .c) (p .d) list)) b₁ e₂ b₂
-      → Appended e₂ (turn (p .«b_turned») (slice (p .b) (p .c) list)) b₂ e₃ b₃ → Appended e₃ (slice (p .d) (length list) list) b₃ e₄ b₄
-      → take (length list) b₄ ≡ laid list p
-  unfolding laid
-  laid-exchanged order two three four = rw (← all, order, ← (to-end (p .d) list)) (four-appended one two three four)
+  head-long : from ≤ length (take (p .b) list)
+  head-long =
+      let long : length (take (p .b) list) ≡ p .b = length-take-le (p .b) list (omega (arith, w .b-c, w .c-d, w .d-n)) in
+      omega (arith, long)
 
--- the part of the buffer in use, `&buffer[0..n]`, is the neighbour
-pub part-is : (n : ℕ) (list buffer : List ℕ) (place : Place) (p : Layout) → Lays n place p → take n buffer ≡ laid list p
-    → take (n - 0) (drop 0 buffer) ≡ made list (meant place)
-part-is n list buffer place p lays e = ap (λ (k : ℕ). take k buffer) (sub-zero n) ∙ e ∙ lays .same list
+  pub head-kept : take from (laid list p) ≡ take from list
+  unfolding laid
+  head-kept =
+      ap (take from) (append-assoc (take (p .b) list) middle (drop (p .d) list))
+      ∙ take-append-le from (take (p .b) list) (middle ++ drop (p .d) list) head-long ∙ take-take from (p .b) list h
+
+  head-left : slice from (p .b) list ++ middle ++ drop (p .d) list ≡ drop from (laid list p)
+  unfolding laid
+  head-left =
+      append-assoc (slice from (p .b) list) middle (drop (p .d) list)
+      ∙ sym (ap (drop from) (append-assoc (take (p .b) list) middle (drop (p .d) list))
+      ∙ drop-append-le from (take (p .b) list) (middle ++ drop (p .d) list) head-long)
+
+  module _ {b₀ b₁ b₂ b₃ b₄ : List ℕ} {e₁ e₂ e₃ e₄ : ℕ} (one : Appended 0 (slice from (p .b) list) b₀ e₁ b₁) (all : e₄ ≡ length list - from) where
+    -- B and then C
+    pub laid-straight : p .exchanged ≡ false → Appended e₁ (turn (p .«b_turned») (slice (p .b) (p .c) list)) b₁ e₂ b₂
+        → Appended e₂ (turn (p .«c_turned») (slice (p .c) (p .d) list)) b₂ e₃ b₃ → Appended e₃ (slice (p .d) (length list) list) b₃ e₄ b₄
+        → take (length list - from) b₄ ≡ drop from (laid list p)
+    laid-straight order two three four = rw (← head-left, ← all, order, ← (to-end (p .d) list)) (four-appended one two three four)
+
+    -- C and then B
+    pub laid-exchanged : p .exchanged ≡ true → Appended e₁ (turn (p .«c_turned») (slice (p .c) (p .d) list)) b₁ e₂ b₂
+        → Appended e₂ (turn (p .«b_turned») (slice (p .b) (p .c) list)) b₂ e₃ b₃ → Appended e₃ (slice (p .d) (length list) list) b₃ e₄ b₄
+        → take (length list - from) b₄ ≡ drop from (laid list p)
+    laid-exchanged order two three four = rw (← head-left, ← all, order, ← (to-end (p .d) list)) (four-appended one two three four)
+
+-- the part of the buffer in use, `&buffer[0..count]`, is the neighbour from a place on
+pub part-is : (n from : ℕ) (list buffer : List ℕ) (place : Place) (p : Layout) → Lays n place p → take (n - from) buffer ≡ drop from (laid list p)
+    → take ((n - from) - 0) (drop 0 buffer) ≡ drop from (made list (meant place))
+part-is n from list buffer place p lays e = ap (λ (k : ℕ). take k buffer) (sub-zero (n - from)) ∙ e ∙ ap (drop from) (lays .same list)
 
 -- and it is as long as the list that it overwrites
 pub overwritten : (list buffer : List ℕ) (place : Place) (p : Layout) {end : ℕ} {after : List ℕ} → Lays (length list) place p
-    → take (length list) buffer ≡ laid list p → Appended 0 (take (length list - 0) (drop 0 buffer)) list end after → after ≡ made list (meant place)
+    → take (length list - 0) buffer ≡ laid list p → Appended 0 (take (length list - 0) (drop 0 buffer)) list end after → after ≡ made list (meant place)
 overwritten list buffer place p lays e new =
-    let part = part-is (length list) list buffer place p lays e in
-    let long : length (take (length list - 0) (drop 0 buffer)) ≡ length list =
+    let part : take (length list - 0) buffer ≡ made list (meant place) = e ∙ lays .same list in
+    let long : length (take (length list - 0) buffer) ≡ length list =
     ap length part ∙ sym (ap length (lays .same list)) ∙ laid-length (length list) list p (lays .within) in
     appended-whole new long ∙ part
+
+-- the neighbour shares the head
+pub shares : (from : ℕ) (list : List ℕ) (place : Place) (p : Layout) → Lays (length list) place p → from ≤ p .b
+    → take from (made list (meant place)) ≡ take from list
+shares from list place p lays h = ap (take from) (sym (lays .same list)) ∙ head-kept from list p (lays .within) h
+
+-- visits behind a place are visits
+pub visits-behind : (l from : ℕ) (list : List ℕ) → Visits l list → Visits l (drop from list)
+visits-behind l from list v =
+    let long : length (drop from list) ≡ length list - from = length-drop from list in
+    record {
+      few = omega (arith, long, v .few);
+      below = λ k h. rw (getD-drop from list k 0) (v .below (from + k) (omega (arith, long)));
+    }

@@ -5,7 +5,7 @@ use edits::append_stretch;
 use edits::append_stretch_reversed;
 ghost use mathlib.Core.Path.{_≡_};
 ghost use Prim.Native.Nat.{_+_, _-_, _<_, _≤_};
-ghost use lib.ListN.{length, take};
+ghost use lib.ListN.{length, take, drop};
 ghost use lib.Seq.{slice};
 ghost use Rattle.edits.specs.Edits.{Appended};
 ghost use Rattle.descent.specs.Permitted.{turn};
@@ -148,13 +148,13 @@ fn append_piece(
     append_stretch(buffer, count, list, from, to)
 }
 
-// Lays the list out in the buffer's first places: A, B and C as they are arranged, and D.
-pub fn lay_out(buffer: &mut [u16], list: &[u16], p: Layout)
+// Lays the list out in the buffer's first places, from a place of A on: the rest of A, B and C as they are arranged, and D.
+pub fn lay_out(buffer: &mut [u16], list: &[u16], p: Layout, from: usize)
     requires { ⌜ length (now list) ≤ length (now buffer) ⌝ }
-    requires { ⌜ Cut-in (length (now list)) p ⌝ }
-    ensures { λ _. ⌜ take (length (now (list .entry))) (now (buffer .exit)) ≡ laid (now (list .entry)) p ⌝ }
+    requires { ⌜ Cut-in (length (now list)) p × (from ≤ p .b) ⌝ }
+    ensures { λ _. ⌜ take (length (now (list .entry)) - from) (now (buffer .exit)) ≡ drop from (laid (now (list .entry)) p) ⌝ }
 {
-    let a_end = append_stretch(buffer, 0, list, 0, p.b);
+    let a_end = append_stretch(buffer, 0, list, from, p.b);
     if p.exchanged {
         let c_end = append_piece(buffer, a_end, list, p.c, p.d, p.c_turned);
         let b_end = append_piece(buffer, c_end, list, p.b, p.c, p.b_turned);
@@ -173,6 +173,6 @@ pub fn make(list: &mut [u16], buffer: &mut [u16], place: Place)
 {
     let n = list.len();
     let p = layout_of(n, place);
-    lay_out(buffer, list, p);
+    lay_out(buffer, list, p, 0);
     append(list, 0, &buffer[0..n]);
 }

@@ -1,8 +1,8 @@
 // local_search/soft.rs: the search within a list where a day has a soft window. A move that shortens a list can make its van late, and one that
 // lengthens it can save the lateness, so every neighbour is priced whole, and the one of least effective cost is taken (steepest descent).
 //
-// The Rust's closure over all neighbours is a loop over places here (neighbours.rt), each laid out in one lent buffer (layout.rt). The best so far
-// is kept by its numbers, and made again at the end of the pass.
+// The Rust's closure over all neighbours is a loop over places here (neighbours.rt), each laid out in one lent buffer (layout.rt). A neighbour keeps
+// the list's first visits: their head is driven once for all that share it. The best so far is kept by its numbers, and made again at the end of the pass.
 pub mod layout;
 pub mod neighbours;
 
@@ -18,6 +18,10 @@ use day::matrix::scale;
 use day::vehicle::RouteLimits;
 use engine::Ended;
 use evaluation::route::effective_cost;
+use heads::Head;
+use heads::at_depot;
+use heads::price_from;
+use heads::reach;
 use numbers::gain_floor;
 ghost use mathlib.Core.Path.{_≡_};
 ghost use Prim.Native.Nat.{_<_, _≤_};
@@ -26,6 +30,7 @@ ghost use Rattle.numbers.specs.Floor.{gainFloor};
 ghost use Rattle.day.specs.Matrix.{scaleOf};
 ghost use Rattle.evaluation.specs.Columns.{columnsAt, Formed, Visits};
 ghost use Rattle.evaluation.specs.Route.{effectiveCost};
+ghost use Rattle.heads.specs.Head.{Driven};
 ghost use Rattle.descent.specs.Search.{taken};
 ghost use Rattle.engine.specs.Engine.{endedAs};
 ghost use Rattle.soft.specs.Soft.{made, soft-search, soft-judge, soft-run};
@@ -52,7 +57,13 @@ impl Best {
     }
 }
 
-// What the neighbour at a place costs.
+// The price of a neighbour, and the head of the list that it shares.
+pub struct Priced {
+    pub price: f64,
+    pub head: Head,
+}
+
+// What the neighbour at a place costs, priced from the end of the head that it shares with the list.
 fn price_of(
     l: usize,
     flags: &[u8],
@@ -66,22 +77,40 @@ fn price_of(
     depot: usize,
     list: &[u16],
     buffer: &mut [u16],
+    last: Head,
     place: Place,
-) -> f64
+) -> Priced
     requires { ⌜ Formed (columnsAt l flags service ready due penalty distances times) ⌝ }
     requires { ⌜ (depot < l) × Visits l (now list) ⌝ }
     requires { ⌜ (length (now list) ≤ length (now buffer)) × Inside (length (now list)) place ⌝ }
+    requires { ⌜ Driven (columnsAt l flags service ready due penalty distances times) (limits .rest) depot (now list) last ⌝ }
     ensures { λ r.
-        ⌜ r ≡ effectiveCost
-        (columnsAt l (flags .entry) (service .entry) (ready .entry) (due .entry) (penalty .entry) (distances .entry) (times .entry))
-        limits
-        depot
-        (made (now (list .entry)) (meant place)) ⌝ }
+        ⌜ (let c = columnsAt l (flags .entry) (service .entry) (ready .entry) (due .entry) (penalty .entry) (distances .entry) (times .entry) in
+        (r .price ≡ effectiveCost c limits depot (made (now (list .entry)) (meant place)))
+        × Driven c (limits .rest) depot (now (list .entry)) (r .head)) ⌝ }
 {
     let n = list.len();
     let p = layout_of(n, place);
-    lay_out(buffer, list, p);
-    effective_cost(
+    let rest = limits.rest;
+    let head = reach(
+        l,
+        flags,
+        service,
+        ready,
+        due,
+        penalty,
+        distances,
+        times,
+        rest,
+        depot,
+        list,
+        last,
+        p.b,
+    );
+    let from = head.visits;
+    lay_out(buffer, list, p, from);
+    let count = n - from;
+    let price = price_from(
         l,
         flags,
         service,
@@ -92,8 +121,13 @@ fn price_of(
         times,
         limits,
         depot,
-        &buffer[0..n],
-    )
+        head,
+        &buffer[0..count],
+    );
+    Priced {
+        price: price,
+        head: head,
+    }
 }
 
 // One pass: the first least of the neighbours that beat the list's cost by more than the floor.
@@ -131,12 +165,13 @@ fn best_neighbour(
         bound: cost - floor,
         found: Found::Nothing,
     };
+    let mut head = at_depot(depot);
     let mut here = first_place(which, n);
     loop {
         let Found::At(place) = here else {
             return best;
         };
-        let price = price_of(
+        let priced = price_of(
             l,
             flags,
             service,
@@ -149,9 +184,11 @@ fn best_neighbour(
             depot,
             list,
             buffer,
+            head,
             place,
         );
-        best = best.or(price, place);
+        head = priced.head;
+        best = best.or(priced.price, place);
         here = after(n, place);
     }
 }

@@ -18,7 +18,7 @@ use Rattle.lists.specs.Edits.{joined}
 use Rattle.descent.specs.Order.{range}
 use Rattle.descent.specs.Permitted.{room}
 use Rattle.descent.proofs.Members.{and-both}
-use Rattle.exchange.specs.Boxes.{boxesAt}
+use Rattle.loads.specs.Loads.{boxesOf}
 use Rattle.exchange.specs.Exchange.{scan, nothing}
 use Rattle.exchange.specs.declared.Choice.{Choice}
 use Rattle.soft_exchange.specs.SoftExchange.{priced, change}
@@ -50,11 +50,11 @@ prices-known c t X Y cost1 cost2 a b e1 e2 f1 f2 h1 h2 =
 
 module _ (c : Columns) (demand : List ℤ) (t : Terms) where
   -- a load over the capacity, and one within it
-  over : (xs : List ℕ) (load : ℕ) → load ≡ total (boxesAt demand) xs → t .capacity < load → room (measuresFor demand t) xs ≡ false
-  over xs load e h = left-out (leb (total (boxesAt demand) xs) (t .capacity)) true (lt-leb (total (boxesAt demand) xs) (t .capacity) (rw e at h))
+  over : (xs : List ℕ) (load : ℕ) → load ≡ total (boxesOf demand) xs → t .capacity < load → room (measuresFor demand t) xs ≡ false
+  over xs load e h = left-out (leb (total (boxesOf demand) xs) (t .capacity)) true (lt-leb (total (boxesOf demand) xs) (t .capacity) (rw e at h))
 
-  within : (xs : List ℕ) (load : ℕ) → load ≡ total (boxesAt demand) xs → load ≤ t .capacity → room (measuresFor demand t) xs ≡ true
-  within xs load e h = and-both (leb (total (boxesAt demand) xs) (t .capacity)) true (le-leb (total (boxesAt demand) xs) (t .capacity) (rw e at h)) refl
+  within : (xs : List ℕ) (load : ℕ) → load ≡ total (boxesOf demand) xs → load ≤ t .capacity → room (measuresFor demand t) xs ≡ true
+  within xs load e h = and-both (leb (total (boxesOf demand) xs) (t .capacity)) true (le-leb (total (boxesOf demand) xs) (t .capacity) (rw e at h)) refl
 
   module _ (X Y : List ℕ) (cut1 cut2 : ℕ) (best : Choice) where
     abbrev newX : List ℕ
@@ -69,13 +69,13 @@ module _ (c : Columns) (demand : List ℤ) (t : Terms) where
     abbrev rooms : Bool
     rooms = room (measuresFor demand t) newX && room (measuresFor demand t) newY
 
-    pub stays-first-load : (load : ℕ) → load ≡ total (boxesAt demand) newX → t .capacity < load → best ≡ better c demand t X Y cut1 cut2 best
+    pub stays-first-load : (load : ℕ) → load ≡ total (boxesOf demand) newX → t .capacity < load → best ≡ better c demand t X Y cut1 cut2 best
     unfolding better
     stays-first-load load e h =
         let out = left-out (room (measuresFor demand t) newX) (room (measuresFor demand t) newY) (over newX load e h) in
         other _ _ _ _ (right-out (lt delta (best .delta)) _ (left-out rooms (priced (costIn c t) X Y) out)) refl
 
-    pub stays-second-load : (load : ℕ) → load ≡ total (boxesAt demand) newY → t .capacity < load → best ≡ better c demand t X Y cut1 cut2 best
+    pub stays-second-load : (load : ℕ) → load ≡ total (boxesOf demand) newY → t .capacity < load → best ≡ better c demand t X Y cut1 cut2 best
     unfolding better
     stays-second-load load e h =
         let out = right-out (room (measuresFor demand t) newX) (room (measuresFor demand t) newY) (over newY load e h) in
@@ -96,8 +96,8 @@ module _ (c : Columns) (demand : List ℤ) (t : Terms) where
           let out : lt delta (best .delta) ≡ false = ap (λ (x : Float). lt x (best .delta)) (sym same-delta) ∙ h in
           other _ _ _ _ (left-out (lt delta (best .delta)) (rooms && priced (costIn c t) X Y) out) refl
 
-      pub taken-up : priced (costIn c t) X Y ≡ true → (load1 load2 : ℕ) → load1 ≡ total (boxesAt demand) newX → load1 ≤ t .capacity
-          → load2 ≡ total (boxesAt demand) newY → load2 ≤ t .capacity → lt (new1 ⊕ new2 ⊖ f .cost1 ⊖ f .cost2) (best .delta) ≡ true
+      pub taken-up : priced (costIn c t) X Y ≡ true → (load1 load2 : ℕ) → load1 ≡ total (boxesOf demand) newX → load1 ≤ t .capacity
+          → load2 ≡ total (boxesOf demand) newY → load2 ≤ t .capacity → lt (new1 ⊕ new2 ⊖ f .cost1 ⊖ f .cost2) (best .delta) ≡ true
           → record { cut1 = cut1; cut2 = cut2; delta = new1 ⊕ new2 ⊖ f .cost1 ⊖ f .cost2 } ≡ better c demand t X Y cut1 cut2 best
       unfolding better
       taken-up both-priced load1 load2 d1 h1 d2 h2 h =

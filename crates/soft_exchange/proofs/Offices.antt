@@ -25,7 +25,7 @@ use Rattle.descent.proofs.Kept.{Kept, kept-same, kept-on, permitted-keeps}
 use Rattle.descent.proofs.Sweeps.{next-some}
 use Rattle.descent.proofs.Claims.{Tried, handed-total}
 use Rattle.descent.proofs.Demand3.{faithful}
-use Rattle.exchange.specs.Boxes.{boxesAt, boxes}
+use Rattle.loads.specs.Loads.{boxesOf, boxes}
 use Rattle.soft_exchange.specs.SoftExchange.{priced, soft-exchange-search, soft-exchange-judge, soft-exchange-run}
 
 -- the loads are tested, and nothing else
@@ -88,8 +88,8 @@ module _ (c : Columns) (demand : List ℤ) (limits : RouteLimits) (capacity : �
   soft-exchange-same f = soft-exchange-kept .sums f
 
   -- a list that met the capacity is within it
-  pub soft-exchange-loads : (r : ℕ) → total (boxesAt demand) (getD lent r []) ≤ natAbs capacity
-      → total (boxesAt demand) (getD (outcome .last .now) r []) ≤ natAbs capacity
+  pub soft-exchange-loads : (r : ℕ) → total (boxesOf demand) (getD lent r []) ≤ natAbs capacity
+      → total (boxesOf demand) (getD (outcome .last .now) r []) ≤ natAbs capacity
   soft-exchange-loads r h = soft-exchange-kept .loads (boxes demand capacity) here r h
 
   -- stopped exactly at the limit

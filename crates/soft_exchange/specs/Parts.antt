@@ -16,7 +16,7 @@ use Rattle.descent.specs.Order.{range}
 use Rattle.descent.specs.Permitted.{Measure, room}
 use Rattle.descent.specs.Search.{Search, Judge, Sweep, taken, firstMove, next}
 use Rattle.descent.specs.Across.{Pair, Tails}
-use Rattle.exchange.specs.Boxes.{boxesAt, Loaded}
+use Rattle.loads.specs.Loads.{boxesOf, Loaded}
 use Rattle.exchange.specs.Exchange.{scan, nothing}
 use Rattle.exchange.specs.declared.Choice.{Choice}
 use Rattle.soft_exchange.specs.SoftExchange.{priced, change, soft-exchange-search, soft-exchange-judge}
@@ -29,7 +29,7 @@ costIn c t = effectiveCost c (t .limits) (t .depot)
 
 -- the boxes against what the van holds
 abbrev pub measuresFor : List ℤ → Terms → List Measure
-measuresFor demand t = record { demand = boxesAt demand; capacity = t .capacity } ∷ []
+measuresFor demand t = record { demand = boxesOf demand; capacity = t .capacity } ∷ []
 
 -- the engine's search on a day, with a van's terms
 unfoldable pub searchOf : Columns → List ℤ → Terms → Search (List (List ℕ)) Pair Tails
@@ -47,8 +47,8 @@ pub record Asked (c : Columns) (demand : List ℤ) (t : Terms) : Type 0 where
 
 -- the loads and the costs of two lists as they are
 pub record Figured (c : Columns) (demand : List ℤ) (t : Terms) (X Y : List ℕ) (f : Figures) : Type 0 where
-  pub first-load : f .load1 ≡ total (boxesAt demand) X
-  pub second-load : f .load2 ≡ total (boxesAt demand) Y
+  pub first-load : f .load1 ≡ total (boxesOf demand) X
+  pub second-load : f .load2 ≡ total (boxesOf demand) Y
   pub first-cost : f .cost1 ≡ costIn c t X
   pub second-cost : f .cost2 ≡ costIn c t Y
 

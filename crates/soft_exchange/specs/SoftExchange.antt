@@ -15,7 +15,7 @@ use Rattle.evaluation.specs.Route.{effectiveCost}
 use Rattle.descent.specs.Permitted.{Measure, room}
 use Rattle.descent.specs.Search.{goes-on, Search, Judge, Sweep, Outcome, next, run}
 use Rattle.descent.specs.Across.{at, Pair, Tails, pairs, tail-cuts, new1, new2}
-use Rattle.exchange.specs.Boxes.{boxes}
+use Rattle.loads.specs.Loads.{boxes}
 
 -- `old1.is_finite() && old2.is_finite()`: a pair of which one list has no price has no move
 abbrev pub priced : (List ℕ → Float) → List ℕ → List ℕ → Bool

@@ -11,12 +11,12 @@ use evaluation::route::effective_cost;
 use exchange::Choice;
 use exchange::Found;
 use exchange::Place;
-use exchange::boxes_at;
-use exchange::boxes_of;
-use exchange::load_of;
 use exchange::place_after;
 use lists::exchange_tails;
 use lists::list_of;
+use loads::boxes_at;
+use loads::boxes_in;
+use loads::load_of;
 use numbers::gain_floor;
 use numbers::is_finite;
 ghost use mathlib.Core.Path.{_≡_};
@@ -35,8 +35,9 @@ ghost use Rattle.evaluation.specs.Columns.{columnsAt, Formed};
 ghost use Rattle.evaluation.specs.Route.{effectiveCost};
 ghost use Rattle.descent.specs.Search.{run};
 ghost use Rattle.engine.specs.Engine.{endedAs};
-ghost use Rattle.exchange.specs.Boxes.{boxesAt, Loaded};
-ghost use Rattle.exchange.specs.Exchange.{Held, Two, pairAt, movedBy, from, InSweep, leads, Apt};
+ghost use Rattle.loads.specs.Loads.{boxesOf, Loaded};
+ghost use Rattle.loads.specs.Loads.{Held};
+ghost use Rattle.exchange.specs.Exchange.{Two, pairAt, movedBy, from, InSweep, leads, Apt};
 ghost use Rattle.soft_exchange.specs.SoftExchange.{priced, soft-exchange-run};
 ghost use Rattle.soft_exchange.specs.Parts.{costIn, Asked, Figured, better, bestRow, bestOf, takenAt, firstAt, nextOf};
 
@@ -127,8 +128,8 @@ fn consider(
     requires { ⌜ Two (terms .l) (now one) (now other) × (cut1 ≤ length (now one)) × (cut2 ≤ length (now other)) ⌝ }
     requires { ⌜ Figured (columnsAt (terms .l) flags service ready due penalty distances times) (now demand) terms (now one) (now other) figures ⌝ }
     requires { ⌜ priced (costIn (columnsAt (terms .l) flags service ready due penalty distances times) terms) (now one) (now other) ≡ true ⌝ }
-    requires { ⌜ (load1 ≡ total (boxesAt (now demand)) (joined (now one) cut1 (now other) cut2))
-        × (load2 ≡ total (boxesAt (now demand)) (joined (now other) cut2 (now one) cut1)) ⌝ }
+    requires { ⌜ (load1 ≡ total (boxesOf (now demand)) (joined (now one) cut1 (now other) cut2))
+        × (load2 ≡ total (boxesOf (now demand)) (joined (now other) cut2 (now one) cut1)) ⌝ }
     ensures { λ r.
         ⌜ r ≡ better
         (columnsAt (terms .l) (flags .entry) (service .entry) (ready .entry) (due .entry) (penalty .entry) (distances .entry) (times .entry))
@@ -199,7 +200,7 @@ fn best_row(
     requires { ⌜ Two (terms .l) (now one) (now other) × (cut1 ≤ length (now one)) ⌝ }
     requires { ⌜ Figured (columnsAt (terms .l) flags service ready due penalty distances times) (now demand) terms (now one) (now other) figures ⌝ }
     requires { ⌜ priced (costIn (columnsAt (terms .l) flags service ready due penalty distances times) terms) (now one) (now other) ≡ true ⌝ }
-    requires { ⌜ head1 ≡ total (boxesAt (now demand)) (take cut1 (now one)) ⌝ }
+    requires { ⌜ head1 ≡ total (boxesOf (now demand)) (take cut1 (now one)) ⌝ }
     ensures { λ r.
         ⌜ r ≡ bestRow
         (columnsAt (terms .l) (flags .entry) (service .entry) (ready .entry) (due .entry) (penalty .entry) (distances .entry) (times .entry))
@@ -666,7 +667,7 @@ pub fn improve(
         l,
         depot,
         limits,
-        capacity: boxes_of(capacity),
+        capacity: boxes_in(capacity),
         floor,
     };
     run_moves(

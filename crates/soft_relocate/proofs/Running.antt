@@ -5,14 +5,10 @@ use mathlib.Core.Bool.{true, false, _&&_}
 use mathlib.Core.List.{List, [], _∷_}
 use Prim.Native.Nat.{ℕ, _+_, _≤_, _<_}
 use native.Mathlib.Omega.{arith}
-use borrow.Author.Tests.{lt-ltb, ltb-true}
-use lib.Dec.{ltb}
 use lib.IntN.{ℤ}
 use lib.ListN.{length, getD}
-use Rattle.edits.proofs.Kept.{same-each, same-length}
 use Rattle.lists.specs.Table.{Laid, lists}
 use Rattle.lists.specs.Edits.{Edited, Relocates, relocated}
-use Rattle.lists.specs.Refused.{TableFine}
 use Rattle.lists.proofs.Tables.{length-lists}
 use Rattle.evaluation.specs.Columns.{Columns}
 use Rattle.descent.specs.Permitted.{room}
@@ -20,28 +16,15 @@ use Rattle.descent.specs.Search.{taken}
 use Rattle.engine.specs.Engine.{endedAs}
 use Rattle.engine.specs.declared.Ended.{Ended}
 use Rattle.engine.specs.declared.Ended.the-variants.{Settled, Stopped}
-use Rattle.pairs.specs.Pairs.{moveOf, Table, leastEntry, Renewed, Agree}
+use Rattle.pairs.specs.Pairs.{isFound, moveOf, Table, leastEntry, Renewed, Agree}
 use Rattle.pairs.specs.declared.Choice.{Choice}
 use Rattle.pairs.proofs.Taken.{edited-other, agree-local, relocates, Relocating, table-taken, taken-there, right-moved}
 use Rattle.pairs.proofs.Going as going
-use Rattle.soft_relocate.specs.SoftRelocate.{measureOf, inserted, softDelta, priced}
-use Rattle.soft_relocate.specs.Offers.{Held, priceOf, searchOf, judgeOf, bound, runFrom, RightOf, AllRight}
-use Rattle.soft_relocate.specs.declared.Setup.{Setup}
-
--- ---- what the tables have to be
-
--- lists that are not refused, on a day with a depot
-pub held-of : (depots l : ℕ) (visits lengths : List ℕ) → 1 ≤ depots → l ≤ 64 → TableFine depots l visits lengths → Held l visits lengths
-held-of depots l visits lengths one few fine = record { laid = fine .laid; below = fine .below; few = omega (arith, fine .at-most) }
-
--- it is kept by an edit
-pub still-held : (l : ℕ) (visits lengths visits′ lengths′ : List ℕ) (ls : List (List ℕ)) → Edited visits lengths visits′ lengths′ ls
-    → Held l visits lengths → Held l visits′ lengths′
-still-held l visits lengths visits′ lengths′ ls e h = record {
-  laid = e .laid;
-  below = λ k t. ltb-true _ _ (same-each (λ v. ltb v l) visits visits′ (e .same) (λ i there. lt-ltb _ _ (h .below i there)) k t);
-  few = omega (arith, same-length visits visits′ (e .same), h .few);
-}
+use Rattle.loads.specs.Loads.{measureOf}
+use Rattle.soft_offers.specs.Prices.{inserted, softDelta, priced}
+use Rattle.soft_offers.specs.Offers.{priceOf, searchOf, judgeOf, bound}
+use Rattle.soft_relocate.specs.Running.{runFrom, RightOf, AllRight}
+use Rattle.soft_offers.specs.declared.Setup.{Setup}
 
 -- ---- the run
 
@@ -65,7 +48,7 @@ module _ (c : Columns) (demand : List ℤ) (s : Setup) where
       (rw (length-lists visits lengths)) right
 
   pub least-there : (visits lengths : List ℕ) → Laid visits lengths → (best : Choice)
-      → moveOf best ≡ taken (searchOf c demand s) (judgeOf c s) (lists visits lengths) tt → best .found ≡ true
+      → moveOf best ≡ taken (searchOf c demand s) (judgeOf c s) (lists visits lengths) tt → isFound best ≡ true
       → Relocates visits lengths (best .from) (best .position) (best .to) (best .place)
   least-there visits lengths laid best found e =
       relocates visits lengths laid _ _ _ _ (taken-there (searchOf c demand s) (judgeOf c s) (bound s) relocating (lists visits lengths) best found e)
@@ -100,20 +83,20 @@ module _ (c : Columns) (demand : List ℤ) (s : Setup) where
 
     module _ (ls : List (List ℕ)) (running : Running ls) (best : Choice) (found : moveOf best ≡ taken (searchOf c demand s) (judgeOf c s) ls tt) where
       module _ (visits lengths visits′ lengths′ : List ℕ) (edited : Edited visits lengths visits′ lengths′ ls) where
-        pub answers-settled : best .found ≡ false → Answered visits lengths visits′ lengths′ (Settled moves)
+        pub answers-settled : isFound best ≡ false → Answered visits lengths visits′ lengths′ (Settled moves)
         unfolding runFrom endedAs
         answers-settled e =
             let whole = going.run-settled _ _ (bound s) relocating limit first moves ls running best found e in
             (rw whole edited, rw whole)
 
-        pub answers-stopped : best .found ≡ true → limit ≤ moves → Answered visits lengths visits′ lengths′ (Stopped moves)
+        pub answers-stopped : isFound best ≡ true → limit ≤ moves → Answered visits lengths visits′ lengths′ (Stopped moves)
         unfolding runFrom endedAs
         answers-stopped e used =
             let whole = going.run-stopped _ _ (bound s) relocating limit first moves ls running best found e used in
             (rw whole edited, rw whole)
 
   pub goes-on : (limit : ℕ) (first : List (List ℕ)) (moves : ℕ) (ls : List (List ℕ)) → Running limit first moves ls → (best : Choice)
-      → moveOf best ≡ taken (searchOf c demand s) (judgeOf c s) ls tt → best .found ≡ true → moves < limit
+      → moveOf best ≡ taken (searchOf c demand s) (judgeOf c s) ls tt → isFound best ≡ true → moves < limit
       → (ms : List (List ℕ)) → ms ≡ relocated ls (best .from) (best .position) (best .to) (best .place) → Running limit first (moves + 1) ms
   goes-on limit first moves ls running best found e room ms is =
       going.run-goes-on _ _ (bound s) relocating limit first moves ls running best found e room ms is

@@ -1,81 +1,14 @@
--- Relocate where a day has a soft window (local_search/relocate.rs, `best_between_soft`): every move is priced whole, on both lists.
--- For the contract of `improve`, which relocate calls there. Assumes nothing.
-use Prim.Native.Nat.{ℕ, suc}
-use mathlib.Core.Bool.{Bool, _&&_}
-use mathlib.Core.List.{List, [], _∷_, _++_}
-use lib.Dec.{eqb}
-use lib.IntN.{ℤ, pos, natAbs}
-use lib.ListN.{length, getD, set, take, drop}
-use lib.Ieee.{Float, lt}
-use lib.Ieee.Scale.{finite}
-use Rattle.numbers.specs.Operations.{_⊕_, _⊖_}
-use Rattle.numbers.specs.Floor.{counts}
+-- Relocate where a day has a soft window, as a whole run. For the contract of `improve`, which relocate calls there. Assumes nothing.
+use Prim.Native.Nat.{ℕ}
+use mathlib.Core.List.{List, [], _∷_}
+use lib.IntN.{ℤ}
+use lib.Ieee.{Float}
 use Rattle.day.specs.declared.vehicle.RouteLimits.{RouteLimits}
 use Rattle.evaluation.specs.Columns.{Columns}
 use Rattle.evaluation.specs.Route.{effectiveCost}
-use Rattle.descent.specs.Permitted.{Measure, room}
-use Rattle.descent.specs.Search.{begins-again, Search, Judge, Sweep, Outcome, next, run}
-use Rattle.descent.specs.Across.{at, Relocation, relocations, giver, receiver}
-use Rattle.deltas.specs.Changes.{fixedIf}
-
--- ---- boxes (as relocate's own)
-
--- the boxes of a visit: a demand isn't below 0
-unfoldable pub boxesOf : List ℤ → ℕ → ℕ
-boxesOf demand visit = natAbs (getD demand visit (pos 0))
-
--- boxes against so many
-abbrev pub measureOf : List ℤ → ℕ → Measure
-measureOf demand capacity = record { demand = boxesOf demand; capacity = capacity }
-
--- 01: 'a list's load, its visits' demands added up', and the van's capacity
-abbrev pub boxes : List ℤ → ℤ → Measure
-boxes demand capacity = measureOf demand (natAbs capacity)
-
--- ---- what a move changes; `price` is the Rust's `eval`, and the operations are in its order
-
--- a list without the visit at a position: `giving.remove(from_pos)`
-abbrev pub without : List ℕ → ℕ → List ℕ
-without list position = take position list ++ drop (suc position) list
-
--- a list with a visit put in at a place: `receiving`
-abbrev pub inserted : List ℕ → ℕ → ℕ → List ℕ
-inserted list visit place = take place list ++ visit ∷ drop place list
-
-module _ (price : List ℕ → Float) (fixed : Float) where
-  -- `from_delta = eval(&giving) - old_from - if giving.is_empty() { fixed } else { 0.0 }`
-  unfoldable pub givingDelta : List ℕ → ℕ → Float
-  givingDelta list position = price (without list position) ⊖ price list ⊖ fixedIf (eqb (length (without list position)) 0) fixed
-
-  -- `to_delta = eval(&receiving) - old_to + if to_route.is_empty() { fixed } else { 0.0 }`
-  unfoldable pub receivingDelta : List ℕ → ℕ → ℕ → Float
-  receivingDelta list visit place = price (inserted list visit place) ⊖ price list ⊕ fixedIf (eqb (length list) 0) fixed
-
-  -- `delta = from_delta + to_delta`
-  unfoldable pub softDelta : List ℕ → List ℕ → ℕ → ℕ → Float
-  softDelta from to position place = givingDelta from position ⊕ receivingDelta to (getD from position 0) place
-
-  -- `is_finite`: 'A route already outside its limits is not moved into or out of', an empty one included, and the giver has a price without the visit
-  unfoldable pub priced : List ℕ → List ℕ → ℕ → Bool
-  priced from to position = finite (price from) && finite (price to) && finite (givingDelta from position)
-
-  -- one place; the candidates of relocate, in its order; the receiver has room, and the move is priced
-  abbrev pub soft-relocate-search : List Measure → Search (List (List ℕ)) Unit Relocation
-  soft-relocate-search measures = record {
-    places = λ ls. tt ∷ [];
-    candidates = λ ls p. relocations ls;
-    passes = λ ls m. room measures (receiver ls m) && priced (at ls (m .from)) (at ls (m .to)) (m .position);
-    made = λ ls m. set (set ls (m .from) (giver ls m)) (m .to) (receiver ls m);
-    after = begins-again;
-  }
-
-  -- `delta < -self.floor`, and the lesser delta is the better
-  abbrev pub soft-relocate-judge : Float → Judge (List (List ℕ)) Relocation Float
-  soft-relocate-judge floor = record {
-    delta = λ ls m. softDelta (at ls (m .from)) (at ls (m .to)) (m .position) (m .place);
-    counts = λ delta. counts delta floor;
-    less = lt;
-  }
+use Rattle.descent.specs.Search.{Sweep, Outcome, next, run}
+use Rattle.loads.specs.Loads.{boxes}
+use Rattle.soft_offers.specs.Prices.{soft-relocate-search, soft-relocate-judge}
 
 -- `relocate_improve` where `has_soft_windows`, under a limit: what it leaves, how it ends, and the moves made
 unfoldable pub soft-relocate-run : Columns → List ℤ → RouteLimits → ℤ → Float → ℕ → Float → ℕ → List (List ℕ) → Outcome (Sweep (List (List ℕ)) Unit)

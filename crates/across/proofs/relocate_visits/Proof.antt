@@ -1,9 +1,6 @@
 -- `relocate_visits`: with a soft window the run is `soft_relocate`'s, and without one the engine's, pruned or not.
 use borrow.Author.Needs.{needs}
-use Rattle.across.proofs.Asked.{relocate-boxed, soft-boxed, relocate-held, soft-held}
 use Rattle.across.specs.Across.{relocateRan, hardRelocate}
-use Rattle.soft_relocate.specs.SoftRelocate as soft
-use Rattle.relocate.specs.Relocate.{boxesOf}
 use mir.ValLaws.{toZ-ofZ}
 use mir.Syntax.{w32}
 use Rattle.across.proofs.relocate_visits.Statement.{statement}
@@ -19,14 +16,12 @@ improve-requires c κs =
       c .before .before .before .before .before .before .before .before .before .before .before .before .before .pre .0 .0,
       (
         (
-          soft-boxed _ _
-              (c .before .before .before .before .before .before .before .before .before .before .before .before .before .pre .0 .1),
+          c .before .before .before .before .before .before .before .before .before .before .before .before .before .pre .0 .1,
           c .before .before .before .before .before .before .before .before .before .before .before .before .before .pre .1 .0,
         ),
         (
           c .before .before .before .before .before .before .before .before .before .before .before .before .before .pre .1 .1,
-          soft-held _ _ _
-              (c .before .before .before .before .before .before .before .before .before .before .before .before .before .pre .1 .2),
+          c .before .before .before .before .before .before .before .before .before .before .before .before .before .pre .1 .2,
         ),
       ),
     )
@@ -38,7 +33,7 @@ same-length-2 : tie.Need-same-length-2
 same-length-2 c = search needs
 
 returns : tie.Need-returns
-unfolding relocateRan soft.boxesOf
+unfolding relocateRan
 returns c =
     rw (
       ← c .before .before .before .before .before .before .before .before .has-soft-windows .ensures,
@@ -55,14 +50,12 @@ relocate-improve-requires c κs =
       c .before .before .before .before .before .before .before .before .before .before .before .before .before .pre .0 .0,
       (
         (
-          relocate-boxed _ _
-              (c .before .before .before .before .before .before .before .before .before .before .before .before .before .pre .0 .1),
+          c .before .before .before .before .before .before .before .before .before .before .before .before .before .pre .0 .1,
           c .before .before .before .before .before .before .before .before .before .before .before .before .before .pre .1 .0,
         ),
         (
           c .before .before .before .before .before .before .before .before .before .before .before .before .before .pre .1 .1,
-          relocate-held _ _ _
-              (c .before .before .before .before .before .before .before .before .before .before .before .before .before .pre .1 .2),
+          c .before .before .before .before .before .before .before .before .before .before .before .before .before .pre .1 .2,
         ),
       ),
     )
@@ -74,7 +67,7 @@ same-length-4 : tie.Need-same-length-4
 same-length-4 c = search needs
 
 returns-2 : tie.Need-returns-2
-unfolding relocateRan hardRelocate boxesOf
+unfolding relocateRan hardRelocate
 returns-2 c =
     rw (
       ← c .before .before .before .before .before .before .before .before .has-soft-windows .ensures,

@@ -6,10 +6,10 @@ use lib.ListN.{length, take}
 use Rattle.edits.specs.Total.{total}
 use Rattle.evaluation.specs.Columns.{columns}
 use Rattle.descent.specs.Order.{range}
-use Rattle.exchange.specs.Boxes.{boxesAt}
+use Rattle.loads.specs.Loads.{boxesOf}
 use Rattle.exchange.specs.Exchange.{scan, bestRow, bestOf}
 use Rattle.exchange.proofs.Choosing.{scan-turn, scan-end}
-use Rattle.exchange.proofs.Loads.{load-more, sum-small}
+use Rattle.loads.proofs.Boxes.{load-more, sum-small}
 use Rattle.exchange.proofs.best_exchange.Statement.{statement}
 use Rattle.exchange.proofs.best_exchange.Tie as tie
 
@@ -17,7 +17,7 @@ abbrev Inv-loop : tie.InvT-loop
 Inv-loop flags demand service ready due penalty distances times terms one other load1 load2 best₀ head1₀ last₀ best head1 last =
     let c = columns (terms .l) flags service ready due penalty distances times in
     (last ≤ length one)
-    × (head1 ≡ total (boxesAt demand) (take last one))
+    × (head1 ≡ total (boxesOf demand) (take last one))
     × (scan (bestRow c demand terms one other) (range (suc last) (suc (length one))) best ≡ bestOf c demand terms one other)
 
 abbrev μ-loop : tie.MeasureT-loop
@@ -67,8 +67,8 @@ best-row-requires c κs =
         (start .pre .1, omega (arith, c .before .loop-test .taken)),
         (
           load-more _ _ _ _ _ (c .before .loop-test .taken) (at-loop .loop .inv .1) (c .boxes-at .ensures),
-          at-load-of .load-of .ensures,
-          at-load-of2 .load-of2 .ensures,
+          at-load-of .load-of .ensures .0,
+          at-load-of2 .load-of2 .ensures .0,
         ),
       ),
     )

@@ -6,10 +6,10 @@ use lib.ListN.{length, take}
 use Rattle.edits.specs.Total.{total}
 use Rattle.evaluation.specs.Columns.{columns}
 use Rattle.descent.specs.Order.{range}
-use Rattle.exchange.specs.Boxes.{boxesAt}
+use Rattle.loads.specs.Loads.{boxesOf}
 use Rattle.exchange.specs.Exchange.{better, scan, bestRow}
 use Rattle.exchange.proofs.Choosing.{scan-turn, scan-end}
-use Rattle.exchange.proofs.Loads.{load-small, load-more, load-joined, sum-small, head-small}
+use Rattle.loads.proofs.Boxes.{load-small, load-more, load-joined, sum-small, head-small}
 use Rattle.exchange.proofs.best_row.Statement.{statement}
 use Rattle.exchange.proofs.best_row.Tie as tie
 
@@ -17,7 +17,7 @@ abbrev Inv-loop : tie.InvT-loop
 Inv-loop flags demand service ready due penalty distances times terms one other cut1 head1 load1 load2 found₀ head2₀ last₀ found head2 last =
     let c = columns (terms .l) flags service ready due penalty distances times in
     (last ≤ length other)
-    × (head2 ≡ total (boxesAt demand) (take last other))
+    × (head2 ≡ total (boxesOf demand) (take last other))
     × (scan (better c demand terms one other cut1) (range (suc last) (suc (length other))) found ≡ bestRow c demand terms one other cut1 found₀)
 
 abbrev μ-loop : tie.MeasureT-loop
@@ -39,7 +39,7 @@ start c = c .before .before .before .before .before .before .before .before .bef
 
 -- the second head is part of the list
 head2-small : (c : tie.After-boxes-at Inv-loop μ-loop) →
-    let load = total (boxesAt (start c .args .demand .now)) (start c .args .other .now) in
+    let load = total (boxesOf (start c .args .demand .now)) (start c .args .other .now) in
     (c .before .before .loop .head2 + c .boxes-at .result ≤ load) × (load ≤ 63000000)
 head2-small c =
     let two = start c .pre .1 .0 .0 in
@@ -47,10 +47,10 @@ head2-small c =
     (c .boxes-at .ensures)
 
 -- and so is the first
-head1-small : (c : tie.After-boxes-at Inv-loop μ-loop) → start c .args .head1 ≤ total (boxesAt (start c .args .demand .now)) (start c .args .one .now)
-head1-small c = head-small (boxesAt (start c .args .demand .now)) (start c .args .cut1) (start c .args .one .now) (start c .args .head1) (start c .pre .1 .1 .0)
+head1-small : (c : tie.After-boxes-at Inv-loop μ-loop) → start c .args .head1 ≤ total (boxesOf (start c .args .demand .now)) (start c .args .one .now)
+head1-small c = head-small (boxesOf (start c .args .demand .now)) (start c .args .cut1) (start c .args .one .now) (start c .args .head1) (start c .pre .1 .1 .0)
 
-one-small : (c : tie.After-boxes-at Inv-loop μ-loop) → total (boxesAt (start c .args .demand .now)) (start c .args .one .now) ≤ 63000000
+one-small : (c : tie.After-boxes-at Inv-loop μ-loop) → total (boxesOf (start c .args .demand .now)) (start c .args .one .now) ≤ 63000000
 one-small c =
     let two = start c .pre .1 .0 .0 in
     load-small (start c .args .terms .l) (start c .args .demand .now) (start c .args .one .now) (start c .pre .0 .loaded) (two .one-below)
@@ -91,7 +91,7 @@ add-new2 c =
 consider-requires : tie.Need-consider-requires Inv-loop μ-loop
 consider-requires c κs =
     let at-loop = c .before .before in
-    let boxes = boxesAt (start c .args .demand .now) in
+    let boxes = boxesOf (start c .args .demand .now) in
     let one = start c .args .one .now in
     let other = start c .args .other .now in
     let loads = start c .pre .1 .1 in

@@ -19,8 +19,8 @@ gain-floor-requires c κs = search needs
 route-checks-needed-requires : tie.Need-route-checks-needed-requires
 route-checks-needed-requires c κs = search needs
 
-boxes-of-requires : tie.Need-boxes-of-requires
-boxes-of-requires c κs =
+boxes-in-requires : tie.Need-boxes-in-requires
+boxes-in-requires c κs =
     let start = c .before .before .before .before .before .before .before .before .before .before .before .before in
     rw (toZ-ofZ w32 (start .args .capacity) (start .fits .capacity)) (start .pre .1 .0)
 
@@ -54,9 +54,9 @@ returns : tie.Need-returns
 unfolding run-of nextOf searchOf judgeOf
 returns c =
     let at-run-moves = c .before .before .before .before in
-    let at-boxes-of = at-run-moves .before .before .before in
-    let start = at-boxes-of .before .before .before .before .before .before .before .before .before .before .before .before .before in
-    let boxes = rw (toZ-ofZ w32 (start .args .capacity) (start .fits .capacity)) at (at-boxes-of .boxes-of .ensures) in
+    let at-boxes-in = at-run-moves .before .before .before in
+    let start = at-boxes-in .before .before .before .before .before .before .before .before .before .before .before .before .before in
+    let boxes = rw (toZ-ofZ w32 (start .args .capacity) (start .fits .capacity)) at (at-boxes-in .boxes-in .ensures) in
     rw (← boxes) (at-run-moves .run-moves .ensures)
 
 pub exchange-improve-spec : {M : Type 1} → statement M
@@ -66,7 +66,7 @@ exchange-improve-spec =
     scale-requires
     gain-floor-requires
     route-checks-needed-requires
-    boxes-of-requires
+    boxes-in-requires
     run-moves-requires
     same-length
     same-length-2

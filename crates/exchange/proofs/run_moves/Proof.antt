@@ -10,9 +10,11 @@ use Rattle.lists.specs.Edits.{Edited}
 use Rattle.lists.proofs.Edited.{edited-on}
 use Rattle.descent.specs.Search.{Sweep}
 use Rattle.descent.specs.Across.{Pair}
-use Rattle.exchange.specs.Exchange.{Held, from, InSweep, nextOf}
+use Rattle.loads.specs.Loads.{Held}
+use Rattle.exchange.specs.Exchange.{from, InSweep, nextOf}
 use Rattle.exchange.proofs.Places.{still-in, none-ahead, nothing-ahead}
-use Rattle.exchange.proofs.Tables.{held-kept, edited-none, edited-length}
+use Rattle.loads.proofs.Tables.{still-held}
+use Rattle.exchange.proofs.Tables.{edited-none, edited-length}
 use Rattle.exchange.proofs.Moves.{moved-on, leads-none, leads-some}
 use Rattle.lists.proofs.Tables.{length-lists}
 use Rattle.exchange.proofs.Running.{Going, going-starts, going-settles, going-stops}
@@ -124,7 +126,7 @@ loop-again c =
           (moved-on _ _ (start .args .terms) _ _ _ _ _ _ _ _ _ (at-loop .loop .inv .0) (at-if2 .if2 .left) (at-next-move .next-move .ensures .0)
           (at-if1 .if1 .left) edited),
       subst (Edited _ _ _ _) (sym (edited .holds)) (edited-on _ _ _ _ _ _ _ _ (at-loop .loop .inv .1) edited),
-      held-kept _ _ _ (at-loop .loop .inv .2) _ _ _ edited,
+      still-held _ _ _ _ _ _ edited (at-loop .loop .inv .2),
       rw (c .place-after .ensures, at-loop .loop .inv .4, edited .number) (still-in _ _ (cuts .before) (cuts .there)),
       at-loop .loop .inv .4 ∙ sym (edited .number),
     )

@@ -16,6 +16,9 @@ mul-delta c = search needs
 shared-slice-read-delta : tie.Need-shared-slice-read-delta
 shared-slice-read-delta c = search needs
 
+found-if-requires : tie.Need-found-if-requires
+found-if-requires c κs = search needs
+
 mul-wide : tie.Need-mul-wide
 mul-wide c = search needs
 
@@ -36,7 +39,7 @@ wide-requires-2 c κs = search needs
 
 returns : tie.Need-returns
 unfolding entry
-returns c = rw (c .before .before .wide .ensures, c .wide2 .ensures)
+returns c = rw (c .before .before .before .before .found-if .ensures, c .before .before .wide .ensures, c .wide2 .ensures)
 
 pub entry-at-spec : {M : Type 1} → statement M
 entry-at-spec =
@@ -46,6 +49,7 @@ entry-at-spec =
     add-slot
     mul-delta
     shared-slice-read-delta
+    found-if-requires
     mul-wide
     shared-slice-read-wide
     wide-requires

@@ -1,13 +1,13 @@
 -- `is_ahead`: what is not found is ahead of nothing; else the order decides.
-use borrow.Author.Tests.{not-true, not-false}
 use Rattle.pairs.specs.Pairs.{ahead}
+use Rattle.pairs.proofs.Least.{is-none, is-some}
 use borrow.Author.Needs.{needs}
 use Rattle.pairs.proofs.is_ahead.Statement.{statement}
 use Rattle.pairs.proofs.is_ahead.Tie as tie
 
 returns : tie.Need-returns
 unfolding ahead
-returns c = rw (not-true (c .before .before .args .choice .found) (c .if1 .taken))
+returns c = rw (is-none (c .before .before .args .choice .found) (c .if1 .taken))
 
 is-earlier-requires : tie.Need-is-earlier-requires
 is-earlier-requires c κs = search needs
@@ -18,7 +18,7 @@ less-then-requires c κs = search needs
 returns-2 : tie.Need-returns-2
 unfolding ahead
 returns-2 c =
-    rw (not-false (c .before .before .before .before .args .choice .found) (c .before .before .if1 .left), ← c .before .is-earlier .ensures)
+    rw (is-some (c .before .before .before .before .args .choice .found) (c .before .before .if1 .left), ← c .before .is-earlier .ensures)
     (c .less-then .ensures)
 
 pub is-ahead-spec : {M : Type 1} → statement M

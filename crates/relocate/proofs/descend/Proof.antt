@@ -2,19 +2,21 @@
 use mathlib.Core.Path.{_≡_, refl, sym, _∙_}
 use Prim.Native.Nat.{_-_}
 use native.Mathlib.Omega.{arith}
-use borrow.Author.Tests.{not-true, not-false}
 use lib.ListN.{length}
 use Rattle.lists.specs.Table.{lists}
 use Rattle.lists.specs.Edits.{Edited}
 use Rattle.lists.proofs.Tables.{length-lists}
 use Rattle.evaluation.specs.Columns.{columns}
 use Rattle.pairs.specs.Pairs.{table}
+use Rattle.pairs.proofs.Least.{is-none, is-some}
 use Rattle.pairs.proofs.Taken.{relocates}
-use Rattle.relocate.specs.Relocate.{Held, Cached, PairsRight, Every}
-use Rattle.relocate.proofs.Searching.{moved-right}
+use Rattle.loads.specs.Loads.{Held}
+use Rattle.offers.specs.Offers.{Cached}
+use Rattle.relocations.specs.Relocations.{PairsRight, Every}
+use Rattle.relocations.proofs.Searching.{moved-right}
 use Rattle.pairs.proofs.Going.{going-start, unedited, edited-again}
 use Rattle.relocate.proofs.Going.{Running, table-choice, choice-there, answers-settled, answers-stopped, goes-on}
-use Rattle.relocate.proofs.Going.{still-held}
+use Rattle.loads.proofs.Tables.{still-held}
 use Rattle.relocate.proofs.descend.Statement.{statement}
 use Rattle.relocate.proofs.descend.Tie as tie
 
@@ -128,7 +130,7 @@ returns c =
     let start = further3 .before .before .before .before .before .before .before in
     answers-settled _ _ (start .args .setup) _ _ _ _ (at-loop .loop .inv .0) _
     (table-choice _ _ (start .args .setup) _ (start .pre .0) _ _ (sym (length-lists _ _)) (at-loop .loop .inv .4) _
-    (at-best-pair .best-pair .ensures)) _ _ _ _ (at-loop .loop .inv .1) (not-true _ (c .if1 .taken))
+    (at-best-pair .best-pair .ensures)) _ _ _ _ (at-loop .loop .inv .1) (is-none _ (c .if1 .taken))
 
 same-length-9 : tie.Need-same-length-9 Inv-loop μ-loop
 same-length-9 c =
@@ -191,7 +193,7 @@ returns-2 c =
     let start = further3 .before .before .before .before .before .before .before in
     answers-stopped _ _ (start .args .setup) _ _ _ _ (at-loop .loop .inv .0) _
     (table-choice _ _ (start .args .setup) _ (start .pre .0) _ _ (sym (length-lists _ _)) (at-loop .loop .inv .4) _
-    (at-best-pair .best-pair .ensures)) _ _ _ _ (at-loop .loop .inv .1) (not-false _ (at-if1 .if1 .left)) (c .if2 .taken)
+    (at-best-pair .best-pair .ensures)) _ _ _ _ (at-loop .loop .inv .1) (is-some _ (at-if1 .if1 .left)) (c .if2 .taken)
 
 make-move-requires : tie.Need-make-move-requires Inv-loop μ-loop
 make-move-requires c κs =
@@ -206,7 +208,7 @@ make-move-requires c κs =
       (
         relocates _ _ (at-loop .loop .inv .2 .laid) _ _ _ _ (choice-there _ _ (start .args .setup) _ _
             (table-choice _ _ (start .args .setup) _ (start .pre .0) _ _ (sym (length-lists _ _)) (at-loop .loop .inv .4) _
-            (at-best-pair .best-pair .ensures)) (not-false _ (at-if1 .if1 .left))),
+            (at-best-pair .best-pair .ensures)) (is-some _ (at-if1 .if1 .left))),
         at-loop .loop .inv .3,
       ),
     )
@@ -225,7 +227,7 @@ search-changed-requires c κs =
     let start = further4 .before .before .before .before in
     let made = relocates _ _ (at-loop .loop .inv .2 .laid) _ _ _ _
     (choice-there _ _ (start .args .setup) _ _ (table-choice _ _ (start .args .setup) _ (start .pre .0) _ _ (sym (length-lists _ _))
-    (at-loop .loop .inv .4) _ (at-best-pair .best-pair .ensures)) (not-false _ (at-if1 .if1 .left))) in (
+    (at-loop .loop .inv .4) _ (at-best-pair .best-pair .ensures)) (is-some _ (at-if1 .if1 .left))) in (
       start .pre .0,
       (
         (
@@ -284,7 +286,7 @@ loop-again c =
     let start = further4 .before .before .before .before .before .before .before in (
       goes-on _ _ (start .args .setup) _ _ _ _ (at-loop .loop .inv .0) _
           (table-choice _ _ (start .args .setup) _ (start .pre .0) _ _ (sym (length-lists _ _)) (at-loop .loop .inv .4) _
-          (at-best-pair .best-pair .ensures)) (not-false _ (at-if1 .if1 .left)) (at-if2 .if2 .left) _ (at-make-move .make-move .ensures .0 .holds),
+          (at-best-pair .best-pair .ensures)) (is-some _ (at-if1 .if1 .left)) (at-if2 .if2 .left) _ (at-make-move .make-move .ensures .0 .holds),
       edited-again _ _ _ _ _ _ _ (at-loop .loop .inv .1) (at-make-move .make-move .ensures .0),
       still-held _ _ _ _ _ _ (at-make-move .make-move .ensures .0) (at-loop .loop .inv .2),
       at-search-changed .search-changed .ensures .1,

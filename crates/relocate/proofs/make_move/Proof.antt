@@ -1,8 +1,7 @@
 -- `make_move`: the tables are edited, and the cache follows.
 use mathlib.Core.Path.{_∙_}
 use native.Mathlib.Omega.{arith}
-use Rattle.relocate.proofs.Choosing.{list-visits, visit-below}
-use Rattle.relocate.proofs.Going.{still-held}
+use Rattle.loads.proofs.Tables.{list-visits, visit-below, still-held}
 use Rattle.relocate.proofs.Moving.{position-small, place-small, giver-room, receiver-room, place-low, known-after}
 use Rattle.relocate.proofs.make_move.Statement.{statement}
 use Rattle.relocate.proofs.make_move.Tie as tie

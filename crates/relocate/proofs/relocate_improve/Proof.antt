@@ -5,8 +5,8 @@ use native.Mathlib.Omega.{arith}
 use mir.Syntax.{w32}
 use mir.ValLaws.{toZ-ofZ}
 use Rattle.numbers.specs.Floor.{gainFloor}
-use Rattle.relocate.proofs.Cached.{nothing-known-yet}
-use Rattle.relocate.proofs.Choosing.{capacity-plain}
+use Rattle.insertions.proofs.Cached.{nothing-known-yet}
+use Rattle.loads.proofs.Boxes.{capacity-plain}
 use Rattle.relocate.proofs.relocate_improve.Statement.{statement}
 use Rattle.relocate.proofs.relocate_improve.Tie as tie
 

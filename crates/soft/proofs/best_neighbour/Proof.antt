@@ -1,8 +1,10 @@
--- `best_neighbour`. The invariant: what is chosen from here on is what the whole scan chooses. The measure: the neighbours left.
+-- `best_neighbour`. The invariant: what is chosen from here on is what the whole scan chooses, and the head is driven. The measure: the neighbours left.
 use mathlib.Core.Path.{_≡_, refl, _∙_}
 use lib.ListN.{length}
 use Rattle.evaluation.specs.Columns.{columns}
 use Rattle.evaluation.specs.Route.{effectiveCost}
+use Rattle.heads.specs.Head.{Driven}
+use Rattle.heads.proofs.Heads.{depot-driven}
 use Rattle.soft.specs.Soft.{made}
 use Rattle.soft.specs.Places.{rest}
 use Rattle.soft.proofs.Passes.{Scanning, scan-starts, scan-turns, scan-ends, inside-at, fewer}
@@ -11,21 +13,26 @@ use Rattle.soft.proofs.best_neighbour.Statement.{statement}
 use Rattle.soft.proofs.best_neighbour.Tie as tie
 
 abbrev Inv-loop : tie.InvT-loop
-Inv-loop l flags service ready due penalty distances times limits depot list buffer₀ cost floor n best₀ here₀ buffer best here =
-    let price = effectiveCost (columns l flags service ready due penalty distances times) limits depot in
-    Scanning (λ m. price (made list m)) n best₀ here₀ best here × (length buffer ≡ length buffer₀)
+Inv-loop l flags service ready due penalty distances times limits depot list buffer₀ cost floor n best₀ head₀ here₀ buffer best head here =
+    let day = columns l flags service ready due penalty distances times in
+    let price = effectiveCost day limits depot in
+    Scanning (λ m. price (made list m)) n best₀ here₀ best here × (length buffer ≡ length buffer₀) × Driven day (limits .rest) depot list head
 
 abbrev μ-loop : tie.MeasureT-loop
-μ-loop l flags service ready due penalty distances times limits depot list buffer₀ cost floor n best₀ here₀ buffer best here =
+μ-loop l flags service ready due penalty distances times limits depot list buffer₀ cost floor n best₀ head₀ here₀ buffer best head here =
     length (rest n here)
+
+at-depot-requires : tie.Need-at-depot-requires Inv-loop μ-loop
+at-depot-requires c κs = search needs
 
 first-place-requires : tie.Need-first-place-requires Inv-loop μ-loop
 first-place-requires c κs =
-    let start = c .before .before .before .before .before .before .before .before .before in
-    start .pre .1 .0 .1 .few
+    c .before .before .before .before .before .before .before .before .before .before .pre .1 .0 .1 .few
 
 loop-holds : tie.Need-loop-holds Inv-loop μ-loop
-loop-holds c = (scan-starts _ _ _ _ (c .first-place .ensures .1), refl)
+loop-holds c =
+    let pre = c .before .before .before .before .before .before .before .before .before .before .before .pre in
+    (scan-starts _ _ _ _ (c .first-place .ensures .1), refl, rw (c .before .at-depot .ensures) (depot-driven _ _ _ _ (pre .1 .0 .0)))
 
 enum-known-here : tie.Need-enum-known-here Inv-loop μ-loop
 enum-known-here c = search needs
@@ -34,51 +41,53 @@ enum-told : tie.Need-enum-told Inv-loop μ-loop
 enum-told c = search needs
 
 same-length : tie.Need-same-length Inv-loop μ-loop
-same-length c = c .before .before .loop .inv .1
+same-length c =
+    c .before .before .loop .inv .1
 
 returns : tie.Need-returns Inv-loop μ-loop
 returns c =
-    let at-loop = c .before .before in
-    let at-first-place = at-loop .before in
-    let start = at-first-place .before .before .before .before .before .before .before .before .before .before in
-    let a = start .args in
+    let args = c .before .before .before .before .before .before .before .before .before .before .before .before .before .before .args in
+    let pre = c .before .before .before .before .before .before .before .before .before .before .before .before .before .before .pre in
+    let first-place = c .before .before .before .first-place in
+    let loop = c .before .before .loop in
+    let a = args in
     let day = columns (a .l) (a .flags .now) (a .service .now) (a .ready .now) (a .due .now) (a .penalty .now) (a .distances .now) (a .times .now) in
     let price = effectiveCost day (a .limits) (a .depot) in
-    scan-ends (a .which) price (a .cost) (a .floor) (a .list .now) _ _ _ (start .pre .1 .1 .1) (at-first-place .first-place .ensures .0) (at-loop .loop .inv .0)
+    scan-ends (a .which) price (a .cost) (a .floor) (a .list .now) _ _ _ (pre .1 .1 .1) (first-place .ensures .0) (loop .inv .0)
     (c .enum-told .given .1)
 
 price-of-requires : tie.Need-price-of-requires Inv-loop μ-loop
 price-of-requires c κs =
-    let at-here = c .before .before in
-    let at-loop = at-here .before .before in
-    let start = at-loop .before .before .before .before .before .before .before .before .before .before .before in
-    let inside = inside-at _ _ _ (at-here .here .given .1) (at-loop .loop .inv .0 .inside) in
-    (start .pre .0, (start .pre .1 .0, (rw (at-loop .loop .inv .1) (start .pre .1 .1 .0), inside)))
+    let pre = c .before .before .before .before .before .before .before .before .before .before .before .before .before .before .before .before .pre in
+    let loop = c .before .before .before .before .loop in
+    let here = c .before .before .here in
+    let inside = inside-at _ _ _ (here .given .1) (loop .inv .0 .inside) in
+    (pre .0, (pre .1 .0, ((rw (loop .inv .1) (pre .1 .1 .0), inside), loop .inv .2)))
 
 or-requires : tie.Need-or-requires Inv-loop μ-loop
 or-requires c κs = search needs
 
 after-requires : tie.Need-after-requires Inv-loop μ-loop
 after-requires c κs =
-    let at-here = c .before .before .before .before .before .before in
-    let at-loop = at-here .before .before in
-    let start = at-loop .before .before .before .before .before .before .before .before .before .before .before in
-    (start .pre .1 .0 .1 .few, inside-at _ _ _ (at-here .here .given .1) (at-loop .loop .inv .0 .inside))
+    let entered = c .before .before .before .before .before .before .before .before .before .before in
+    let pre = entered .before .before .before .before .before .before .before .before .before .before .before .pre in
+    let loop = c .before .before .before .before .before .before .before .before .before .loop in
+    let here = c .before .before .before .before .before .before .before .here in
+    (pre .1 .0 .1 .few, inside-at _ _ _ (here .given .1) (loop .inv .0 .inside))
 
 loop-less : tie.Need-loop-less Inv-loop μ-loop
 loop-less c =
-    let at-here = c .before .before .before .before .before .before .before in
-    fewer _ _ _ _ (at-here .here .given .1) (c .after .ensures)
+    let here = c .before .before .before .before .before .before .before .before .here in
+    fewer _ _ _ _ (here .given .1) (c .after .ensures)
 
 loop-again : tie.Need-loop-again Inv-loop μ-loop
 loop-again c =
-    let at-or = c .before in
-    let at-price-of = at-or .before .before .before in
-    let at-here = at-price-of .before .before .before in
-    let at-loop = at-here .before .before in
-    let scanning = scan-turns _ _ _ _ _ _ _ _ _ _ (at-loop .loop .inv .0) (at-here .here .given .1) (at-price-of .price-of .ensures)
-    (at-or .or .ensures) (c .after .ensures) in
-    (scanning, at-price-of .price-of .kept .1 .1 .1 .1 .1 .1 .1 .1 .1 .1 .1 .0 ∙ at-loop .loop .inv .1)
+    let loop = c .before .before .before .before .before .before .before .before .before .before .loop in
+    let here = c .before .before .before .before .before .before .before .before .here in
+    let price-of = c .before .before .before .before .before .price-of in
+    let scanning = scan-turns _ _ _ _ _ _ _ _ _ _ (loop .inv .0) (here .given .1) (price-of .ensures .0)
+    (c .before .or .ensures) (c .after .ensures) in
+    (scanning, price-of .kept .1 .1 .1 .1 .1 .1 .1 .1 .1 .1 .1 .0 ∙ loop .inv .1, price-of .ensures .1)
 
 pub best-neighbour-spec : {M : Type 1} → statement M
 best-neighbour-spec =
@@ -86,6 +95,7 @@ best-neighbour-spec =
     (tie.spec
     Inv-loop
     μ-loop
+    at-depot-requires
     first-place-requires
     loop-holds
     enum-known-here

@@ -1,52 +1,87 @@
--- `price_of`: the part of the buffer that is priced is the neighbour, and has the list's visits.
+-- `price_of`: the part of the buffer that is priced is the neighbour behind the head that it shares with the list.
+use native.Mathlib.Omega.{arith}
 use mathlib.Core.Path.{ap, _∙_}
-use Rattle.evaluation.specs.Route.{effectiveCost}
-use Rattle.soft.proofs.Layouts.{part-is, made-visits}
+use Rattle.heads.specs.Head.{priceFrom}
+use Rattle.heads.proofs.Heads.{from-head}
+use Rattle.soft.proofs.Layouts.{part-is, made-visits, visits-behind, shares}
 use borrow.Author.Needs.{needs}
 use Rattle.soft.proofs.price_of.Statement.{statement}
 use Rattle.soft.proofs.price_of.Tie as tie
 
 layout-of-requires : tie.Need-layout-of-requires
-layout-of-requires c κs = search needs
+layout-of-requires c κs =
+    let pre = c .before .before .before .before .before .before .before .before .before .pre in
+    (pre .1 .0 .1 .few, pre .1 .1 .0 .1)
+
+reach-requires : tie.Need-reach-requires
+reach-requires c κs =
+    let pre = c .before .before .before .before .before .before .before .before .before .before .pre in
+    let w = c .layout-of .ensures .within in
+    (pre .0, ((pre .1 .0 .0, pre .1 .0 .1, omega (arith, w .b-c, w .c-d, w .d-n)), pre .1 .1 .1))
 
 lay-out-requires : tie.Need-lay-out-requires
-lay-out-requires c κs = search needs
+lay-out-requires c κs =
+    let pre = c .before .before .before .before .before .before .before .before .before .before .before .before .pre in
+    let layout-of = c .before .before .layout-of in
+    (pre .1 .1 .0 .0, (layout-of .ensures .within, c .before .reach .ensures .1))
 
-sub-effective-cost : tie.Need-sub-effective-cost
-sub-effective-cost c = search needs
+sub-count : tie.Need-sub-count
+sub-count c =
+    omega (arith, c .before .before .before .before .reach .ensures .0 .few)
 
-part-effective-cost-start : tie.Need-part-effective-cost-start
-part-effective-cost-start c = search needs
+sub-price-from : tie.Need-sub-price-from
+sub-price-from c = search needs
 
-part-effective-cost-end : tie.Need-part-effective-cost-end
-part-effective-cost-end c = search needs
+part-price-from-start : tie.Need-part-price-from-start
+part-price-from-start c = search needs
 
-effective-cost-requires : tie.Need-effective-cost-requires
-effective-cost-requires c κs =
-    let at-lay-out = c .before .before .before .before in
-    let at-layout-of = at-lay-out .before .before in
-    let start = at-layout-of .before .before .before .before .before .before .before .before .before .before in
-    let lays = at-layout-of .layout-of .ensures in
-    (start .pre .0, (start .pre .1 .0 .0, rw (part-is _ _ _ _ _ lays (at-lay-out .lay-out .ensures)) (made-visits _ _ _ _ _ lays (start .pre .1 .0 .1))))
+part-price-from-end : tie.Need-part-price-from-end
+part-price-from-end c =
+    let pre = c .before .before .before .before .before .before .before .before .before .before .before .before .before .before .before .before .pre in
+    let lay-out = c .before .before .before .lay-out in
+    omega (arith, lay-out .kept .0, pre .1 .1 .0 .0)
+
+price-from-requires : tie.Need-price-from-requires
+price-from-requires c κs =
+    let pre = c .before .before .before .before .before .before .before .before .before .before .before .before .before .before .before .before .before .pre in
+    let layout-of = c .before .before .before .before .before .before .before .layout-of in
+    let reach = c .before .before .before .before .before .before .reach in
+    let lay-out = c .before .before .before .before .lay-out in
+    let lays = layout-of .ensures in (
+      pre .0,
+      (
+        pre .1 .0 .0,
+        reach .ensures .0 .placed,
+        rw (part-is _ _ _ _ _ _ lays (lay-out .ensures)) (visits-behind _ (reach .result .visits) _ (made-visits _ _ _ _ _ lays (pre .1 .0 .1))),
+      ),
+    )
 
 same-length : tie.Need-same-length
 same-length c = search needs
 
 returns : tie.Need-returns
 returns c =
-    let at-lay-out = c .before .before .before .before .before in
-    let at-layout-of = at-lay-out .before .before in
-    c .effective-cost .ensures ∙ ap (effectiveCost _ _ _) (part-is _ _ _ _ _ (at-layout-of .layout-of .ensures) (at-lay-out .lay-out .ensures))
+    let layout-of = c .before .before .before .before .before .before .before .before .layout-of in
+    let reach = c .before .before .before .before .before .before .before .reach in
+    let lay-out = c .before .before .before .before .before .lay-out in
+    let lays = layout-of .ensures in
+    let driven = reach .ensures .0 in (
+      c .price-from .ensures ∙ ap (priceFrom _ _ _ _) (part-is _ _ _ _ _ _ lays (lay-out .ensures))
+          ∙ from-head _ _ _ _ _ _ driven (shares _ _ _ _ lays (reach .ensures .1)),
+      driven,
+    )
 
 pub price-of-spec : {M : Type 1} → statement M
 price-of-spec =
     tie.close
     (tie.spec
     layout-of-requires
+    reach-requires
     lay-out-requires
-    sub-effective-cost
-    part-effective-cost-start
-    part-effective-cost-end
-    effective-cost-requires
+    sub-count
+    sub-price-from
+    part-price-from-start
+    part-price-from-end
+    price-from-requires
     same-length
     returns)

@@ -6,10 +6,10 @@ use lib.ListN.{length, take}
 use Rattle.edits.specs.Total.{total}
 use Rattle.evaluation.specs.Columns.{columns}
 use Rattle.descent.specs.Order.{range}
-use Rattle.exchange.specs.Boxes.{boxesAt}
+use Rattle.loads.specs.Loads.{boxesOf}
 use Rattle.exchange.specs.Exchange.{scan}
 use Rattle.exchange.proofs.Choosing.{scan-turn, scan-end}
-use Rattle.exchange.proofs.Loads.{load-more, sum-small}
+use Rattle.loads.proofs.Boxes.{load-more, sum-small}
 use Rattle.soft_exchange.specs.Parts.{bestRow, bestOf}
 use Rattle.soft_exchange.proofs.best_priced.Statement.{statement}
 use Rattle.soft_exchange.proofs.best_priced.Tie as tie
@@ -18,7 +18,7 @@ abbrev Inv-loop : tie.InvT-loop
 Inv-loop flags demand service ready due penalty distances times terms one other figures best₀ head1₀ last₀ best head1 last =
     let c = columns (terms .l) flags service ready due penalty distances times in
     (last ≤ length one)
-    × (head1 ≡ total (boxesAt demand) (take last one))
+    × (head1 ≡ total (boxesOf demand) (take last one))
     × (scan (bestRow c demand terms one other) (range (suc last) (suc (length one))) best ≡ bestOf c demand terms one other)
 
 abbrev μ-loop : tie.MeasureT-loop

@@ -6,10 +6,10 @@ use lib.ListN.{length, take}
 use Rattle.edits.specs.Total.{total}
 use Rattle.evaluation.specs.Columns.{columns}
 use Rattle.descent.specs.Order.{range}
-use Rattle.exchange.specs.Boxes.{boxesAt}
+use Rattle.loads.specs.Loads.{boxesOf}
 use Rattle.exchange.specs.Exchange.{scan}
 use Rattle.exchange.proofs.Choosing.{scan-turn, scan-end}
-use Rattle.exchange.proofs.Loads.{load-small, load-more, load-joined, sum-small, head-small}
+use Rattle.loads.proofs.Boxes.{load-small, load-more, load-joined, sum-small, head-small}
 use Rattle.soft_exchange.specs.Parts.{better, bestRow}
 use Rattle.soft_exchange.proofs.best_row.Statement.{statement}
 use Rattle.soft_exchange.proofs.best_row.Tie as tie
@@ -18,7 +18,7 @@ abbrev Inv-loop : tie.InvT-loop
 Inv-loop flags demand service ready due penalty distances times terms one other figures cut1 head1 found₀ head2₀ last₀ found head2 last =
     let c = columns (terms .l) flags service ready due penalty distances times in
     (last ≤ length other)
-    × (head2 ≡ total (boxesAt demand) (take last other))
+    × (head2 ≡ total (boxesOf demand) (take last other))
     × (scan (better c demand terms one other cut1) (range (suc last) (suc (length other))) found ≡ bestRow c demand terms one other cut1 found₀)
 
 abbrev μ-loop : tie.MeasureT-loop
@@ -40,7 +40,7 @@ start c = c .before .before .before .before .before .before .before .before .bef
 
 -- the second head is part of the list
 head2-small : (c : tie.After-boxes-at Inv-loop μ-loop) →
-    let load = total (boxesAt (start c .args .demand .now)) (start c .args .other .now) in
+    let load = total (boxesOf (start c .args .demand .now)) (start c .args .other .now) in
     (c .before .before .loop .head2 + c .boxes-at .result ≤ load) × (load ≤ 63000000)
 head2-small c =
     let two = start c .pre .1 .0 .0 in
@@ -48,11 +48,11 @@ head2-small c =
     (c .boxes-at .ensures)
 
 -- and so is the first
-head1-small : (c : tie.After-boxes-at Inv-loop μ-loop) → start c .args .head1 ≤ total (boxesAt (start c .args .demand .now)) (start c .args .one .now)
+head1-small : (c : tie.After-boxes-at Inv-loop μ-loop) → start c .args .head1 ≤ total (boxesOf (start c .args .demand .now)) (start c .args .one .now)
 head1-small c =
-    head-small (boxesAt (start c .args .demand .now)) (start c .args .cut1) (start c .args .one .now) (start c .args .head1) (start c .pre .1 .1 .1 .1)
+    head-small (boxesOf (start c .args .demand .now)) (start c .args .cut1) (start c .args .one .now) (start c .args .head1) (start c .pre .1 .1 .1 .1)
 
-one-small : (c : tie.After-boxes-at Inv-loop μ-loop) → total (boxesAt (start c .args .demand .now)) (start c .args .one .now) ≤ 63000000
+one-small : (c : tie.After-boxes-at Inv-loop μ-loop) → total (boxesOf (start c .args .demand .now)) (start c .args .one .now) ≤ 63000000
 one-small c =
     let two = start c .pre .1 .0 .0 in
     load-small (start c .args .terms .l) (start c .args .demand .now) (start c .args .one .now) (start c .pre .0 .loaded) (two .one-below)
@@ -103,7 +103,7 @@ consider-requires c κs =
     let at-loop-test = at-boxes-at .before in
     let at-loop = at-loop-test .before in
     let start = at-loop .before .before .before .before .before .before .before .before .before .before in
-    let boxes = boxesAt (start .args .demand .now) in
+    let boxes = boxesOf (start .args .demand .now) in
     let one = start .args .one .now in
     let other = start .args .other .now in
     let figured = start .pre .1 .1 .0 in

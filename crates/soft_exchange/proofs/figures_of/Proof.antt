@@ -28,8 +28,8 @@ returns c =
     let at-effective-cost2 = c .before .before in
     let at-effective-cost = at-effective-cost2 .before in
     record {
-      first-load = c .before .load-of .ensures;
-      second-load = c .load-of2 .ensures;
+      first-load = c .before .load-of .ensures .0;
+      second-load = c .load-of2 .ensures .0;
       first-cost = at-effective-cost .effective-cost .ensures;
       second-cost = at-effective-cost2 .effective-cost2 .ensures;
     }

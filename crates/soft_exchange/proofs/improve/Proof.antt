@@ -16,8 +16,8 @@ scale-requires c κs = search needs
 gain-floor-requires : tie.Need-gain-floor-requires
 gain-floor-requires c κs = search needs
 
-boxes-of-requires : tie.Need-boxes-of-requires
-boxes-of-requires c κs =
+boxes-in-requires : tie.Need-boxes-in-requires
+boxes-in-requires c κs =
     let start = c .before .before .before .before .before .before .before .before .before .before .before in
     rw (toZ-ofZ w32 (start .args .capacity) (start .fits .capacity)) (start .pre .1 .0)
 
@@ -40,11 +40,11 @@ returns : tie.Need-returns
 unfolding soft-exchange-run nextOf searchOf judgeOf
 returns c =
     let at-run-moves = c .before .before .before .before in
-    let at-boxes-of = at-run-moves .before .before .before in
-    let at-gain-floor = at-boxes-of .before in
+    let at-boxes-in = at-run-moves .before .before .before in
+    let at-gain-floor = at-boxes-in .before in
     let at-scale = at-gain-floor .before in
     let start = at-scale .before .before .before .before .before .before .before .before .before .before in
-    let boxes = rw (toZ-ofZ w32 (start .args .capacity) (start .fits .capacity)) at (at-boxes-of .boxes-of .ensures) in
+    let boxes = rw (toZ-ofZ w32 (start .args .capacity) (start .fits .capacity)) at (at-boxes-in .boxes-in .ensures) in
     let floor = at-gain-floor .gain-floor .ensures ∙ ap gainFloor (at-scale .scale .ensures) in
     rw (← boxes, ← floor) (at-run-moves .run-moves .ensures)
 
@@ -54,7 +54,7 @@ improve-spec =
     (tie.spec
     scale-requires
     gain-floor-requires
-    boxes-of-requires
+    boxes-in-requires
     run-moves-requires
     same-length
     same-length-2

@@ -1,5 +1,4 @@
 -- `descend`: the moves made and the run that is left are the whole run, and the table is right for the lists as they stand.
-use borrow.Author.Tests.{not-true, not-false}
 use mathlib.Core.Path.{_≡_, refl, _∙_}
 use Prim.Native.Nat.{_-_}
 use native.Mathlib.Omega.{arith}
@@ -8,9 +7,12 @@ use Rattle.lists.specs.Table.{lists}
 use Rattle.lists.specs.Edits.{Edited}
 use Rattle.evaluation.specs.Columns.{columns}
 use Rattle.pairs.specs.Pairs.{table}
+use Rattle.pairs.proofs.Least.{is-none, is-some}
 use Rattle.pairs.proofs.Going.{going-start, unedited, edited-again}
-use Rattle.soft_relocate.specs.Offers.{Held, AllRight}
-use Rattle.soft_relocate.proofs.Running.{Running, least-taken, least-there, after-move, still-held, answers-settled, answers-stopped, goes-on}
+use Rattle.loads.specs.Loads.{Held}
+use Rattle.soft_relocate.specs.Running.{AllRight}
+use Rattle.loads.proofs.Tables.{still-held}
+use Rattle.soft_relocate.proofs.Running.{Running, least-taken, least-there, after-move, answers-settled, answers-stopped, goes-on}
 use Rattle.soft_relocate.proofs.descend.Statement.{statement}
 use Rattle.soft_relocate.proofs.descend.Tie as tie
 
@@ -89,7 +91,7 @@ returns c =
     let start = further .before .before .before .before .before .before .before .before .before in
     answers-settled _ _ (start .args .setup) _ _ _ _ (at-loop .loop .inv .0) _
     (least-taken _ _ (start .args .setup) _ _ _ _ (at-loop .loop .inv .3) (at-best-pair .best-pair .ensures)) _ _ _ _ (at-loop .loop .inv .1)
-    (not-true _ (c .if1 .taken))
+    (is-none _ (c .if1 .taken))
 
 same-length-7 : tie.Need-same-length-7 Inv-loop μ-loop
 same-length-7 c =
@@ -135,7 +137,7 @@ returns-2 c =
     let start = further .before .before .before .before .before .before .before .before .before in
     answers-stopped _ _ (start .args .setup) _ _ _ _ (at-loop .loop .inv .0) _
     (least-taken _ _ (start .args .setup) _ _ _ _ (at-loop .loop .inv .3) (at-best-pair .best-pair .ensures)) _ _ _ _ (at-loop .loop .inv .1)
-    (not-false _ (at-if1 .if1 .left)) (c .if2 .taken)
+    (is-some _ (at-if1 .if1 .left)) (c .if2 .taken)
 
 move-visit-requires : tie.Need-move-visit-requires Inv-loop μ-loop
 move-visit-requires c κs =
@@ -146,7 +148,7 @@ move-visit-requires c κs =
     let further = further .before .before .before .before .before .before .before .before .before .before in
     let start = further .before .before .before .before .before .before .before .before .before in
     least-there _ _ (start .args .setup) _ _ (at-loop .loop .inv .2 .laid) _
-    (least-taken _ _ (start .args .setup) _ _ _ _ (at-loop .loop .inv .3) (at-best-pair .best-pair .ensures)) (not-false _ (at-if1 .if1 .left))
+    (least-taken _ _ (start .args .setup) _ _ _ _ (at-loop .loop .inv .3) (at-best-pair .best-pair .ensures)) (is-some _ (at-if1 .if1 .left))
 
 search-again-requires : tie.Need-search-again-requires Inv-loop μ-loop
 search-again-requires c κs =
@@ -158,7 +160,7 @@ search-again-requires c κs =
     let further = at-search-all .before .before .before .before .before .before .before .before .before .before in
     let start = further .before .before .before .before .before .before .before .before .before .before in
     let there = least-there _ _ (start .args .setup) _ _ (at-loop .loop .inv .2 .laid) _
-    (least-taken _ _ (start .args .setup) _ _ _ _ (at-loop .loop .inv .3) (at-best-pair .best-pair .ensures)) (not-false _ (at-if1 .if1 .left)) in (
+    (least-taken _ _ (start .args .setup) _ _ _ _ (at-loop .loop .inv .3) (at-best-pair .best-pair .ensures)) (is-some _ (at-if1 .if1 .left)) in (
       start .pre .0,
       (
         (start .pre .1 .0 .0, still-held _ _ _ _ _ _ (at-move-visit .move-visit .ensures) (at-loop .loop .inv .2)),
@@ -199,7 +201,7 @@ loop-again c =
     let further = at-loop .before .before .before .before .before .before .before .before .before .before .before .before .before .before .before in
     let start = further .before .before .before .before .before .before .before .before .before .before .before .before .before .before in (
       goes-on _ _ (start .args .setup) _ _ _ _ (at-loop .loop .inv .0) _
-          (least-taken _ _ (start .args .setup) _ _ _ _ (at-loop .loop .inv .3) (at-best-pair .best-pair .ensures)) (not-false _ (at-if1 .if1 .left))
+          (least-taken _ _ (start .args .setup) _ _ _ _ (at-loop .loop .inv .3) (at-best-pair .best-pair .ensures)) (is-some _ (at-if1 .if1 .left))
           (at-if2 .if2 .left) _ (at-move-visit .move-visit .ensures .holds),
       edited-again _ _ _ _ _ _ _ (at-loop .loop .inv .1) (at-move-visit .move-visit .ensures),
       still-held _ _ _ _ _ _ (at-move-visit .move-visit .ensures) (at-loop .loop .inv .2),

@@ -6,8 +6,9 @@ use mir.Syntax.{w32}
 use mir.ValLaws.{toZ-ofZ}
 use Rattle.numbers.specs.Floor.{gainFloor}
 use Rattle.soft_relocate.specs.SoftRelocate.{soft-relocate-run}
-use Rattle.soft_relocate.specs.Offers.{runFrom, searchOf, judgeOf}
-use Rattle.soft_relocate.proofs.Boxes.{capacity-plain}
+use Rattle.soft_offers.specs.Offers.{searchOf, judgeOf}
+use Rattle.soft_relocate.specs.Running.{runFrom}
+use Rattle.loads.proofs.Boxes.{capacity-plain}
 use Rattle.soft_relocate.proofs.improve.Statement.{statement}
 use Rattle.soft_relocate.proofs.improve.Tie as tie
 

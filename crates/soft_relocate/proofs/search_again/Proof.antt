@@ -7,7 +7,7 @@ use Rattle.evaluation.specs.Columns.{columns}
 use Rattle.pairs.specs.Pairs.{table, Renewed}
 use Rattle.pairs.proofs.Kept.{both-sized, renew-both, renew-end}
 use Rattle.pairs.proofs.Taken.{short-lists}
-use Rattle.soft_relocate.specs.Offers.{RightOf}
+use Rattle.soft_relocate.specs.Running.{RightOf}
 use Rattle.soft_relocate.proofs.search_again.Statement.{statement}
 use Rattle.soft_relocate.proofs.search_again.Tie as tie
 

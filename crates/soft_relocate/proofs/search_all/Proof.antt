@@ -6,7 +6,7 @@ use lib.ListN.{length}
 use Rattle.evaluation.specs.Columns.{columns}
 use Rattle.pairs.specs.Pairs.{table, Before}
 use Rattle.pairs.proofs.Kept.{right-start, right-end}
-use Rattle.soft_relocate.specs.Offers.{RightOf}
+use Rattle.soft_relocate.specs.Running.{RightOf}
 use Rattle.soft_relocate.proofs.search_all.Statement.{statement}
 use Rattle.soft_relocate.proofs.search_all.Tie as tie
 

@@ -7,7 +7,7 @@ use Rattle.evaluation.specs.Columns.{columns}
 use Rattle.pairs.specs.Pairs.{table, Before}
 use Rattle.pairs.proofs.Kept.{right-turn, right-row}
 use Rattle.pairs.proofs.Taken.{short-lists}
-use Rattle.soft_relocate.specs.Offers.{RightOf}
+use Rattle.soft_relocate.specs.Running.{RightOf}
 use Rattle.soft_relocate.proofs.search_row.Statement.{statement}
 use Rattle.soft_relocate.proofs.search_row.Tie as tie
 

@@ -14,7 +14,9 @@ enum-told-2 : tie.Need-enum-told-2
 enum-told-2 c = search needs
 
 or-opt-improve-requires : tie.Need-or-opt-improve-requires
-or-opt-improve-requires c κs = (c .before .before .before .before .before .before .before .before .before .before .before .pre .0, c .before .before .before .before .before .before .before .before .before .before .before .pre .1 .0)
+or-opt-improve-requires c κs =
+    let start = c .before .before .before .before .before .before .before .before .before .before .before in
+    (start .pre .0, start .pre .1 .0)
 
 enum-told-3 : tie.Need-enum-told-3
 enum-told-3 c = search needs

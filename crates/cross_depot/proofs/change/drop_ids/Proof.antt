@@ -1,6 +1,5 @@
 -- `drop_ids`: proofs/Dropping.antt has where the loop stands, its start, its turn and its end.
 use borrow.Author.Needs.{needs}
-use mathlib.Core.Path.{refl, _∙_}
 use Prim.Native.Nat.{_-_}
 use native.Mathlib.Omega.{arith}
 use lib.ListN.{length}
@@ -47,7 +46,13 @@ slice-write-ids-2 c =
     let at-loop-test = c .before .before .before in
     let at-loop = at-loop-test .before in
     let start = at-loop .before .before .before in
-    lt-length-set (at-loop .loop .ids) _ _ (omega (arith, at-loop .loop .inv .kept-below, at-loop .loop .inv .same-length, at-loop-test .loop-test .taken, start .pre .0))
+    lt-length-set (at-loop .loop .ids) _ _ (omega (
+      arith,
+      at-loop .loop .inv .kept-below,
+      at-loop .loop .inv .same-length,
+      at-loop-test .loop-test .taken,
+      start .pre .0,
+    ))
 
 one-if-filled-requires : tie.Need-one-if-filled-requires Inv-loop μ-loop
 one-if-filled-requires c κs = search needs
@@ -58,7 +63,8 @@ add-kept c =
     let at-loop-test = at-id-if-filled .before .before .before in
     let at-loop = at-loop-test .before in
     let start = at-loop .before .before .before in
-    let turned = packing-turns 0 _ _ _ 0 _ _ _ _ (at-loop .loop .inv) (start .pre .0) (at-loop-test .loop-test .taken) (at-id-if-filled .id-if-filled .ensures) (c .one-if-filled .ensures) in
+    let turned = packing-turns 0 _ _ _ 0 _ _ _ _ (at-loop .loop .inv) (start .pre .0) (at-loop-test .loop-test .taken)
+    (at-id-if-filled .id-if-filled .ensures) (c .one-if-filled .ensures) in
     omega (arith, turned .kept-below, at-loop-test .loop-test .taken, start .pre .1)
 
 add-i : tie.Need-add-i Inv-loop μ-loop
@@ -75,7 +81,8 @@ loop-again c =
     let at-loop-test = at-id-if-filled .before .before .before in
     let at-loop = at-loop-test .before in
     let start = at-loop .before .before .before in
-    packing-turns 0 _ _ _ 0 _ _ _ _ (at-loop .loop .inv) (start .pre .0) (at-loop-test .loop-test .taken) (at-id-if-filled .id-if-filled .ensures) (c .one-if-filled .ensures)
+    packing-turns 0 _ _ _ 0 _ _ _ _ (at-loop .loop .inv) (start .pre .0) (at-loop-test .loop-test .taken) (at-id-if-filled .id-if-filled .ensures)
+    (c .one-if-filled .ensures)
 
 same-length : tie.Need-same-length Inv-loop μ-loop
 same-length c = search needs

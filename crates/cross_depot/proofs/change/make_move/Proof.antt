@@ -1,7 +1,6 @@
 -- `make_move`: proofs/Making.antt has what the five edits leave together.
 use borrow.Author.Needs.{needs}
 use native.Mathlib.Omega.{arith}
-use mathlib.Core.Path.{_∙_}
 use Rattle.cross_depot.proofs.Making.{move-made}
 use Rattle.cross_depot.proofs.change.make_move.Statement.{statement}
 use Rattle.cross_depot.proofs.change.make_move.Tie as tie
@@ -57,7 +56,8 @@ returns c =
     let at-store-costs = at-drop-ids .before .before .before .before .before in
     let at-exchange-stretches = at-store-costs .before .before .before .before .before .before in
     let start = at-exchange-stretches .before .before .before .before .before .before .before in
-    move-made _ _ _ _ (start .args .m) _ _ _ _ (at-exchange-stretches .exchange-stretches .ensures) (start .pre .1 .0) (start .pre .1 .1) _ _ _ _ _ (at-store-costs .store-costs .ensures) (at-drop-ids .drop-ids .ensures)
+    move-made _ _ _ _ (start .args .m) _ _ _ _ (at-exchange-stretches .exchange-stretches .ensures) (start .pre .1 .0) (start .pre .1 .1) _ _ _ _ _
+    (at-store-costs .store-costs .ensures) (at-drop-ids .drop-ids .ensures)
     (at-drop-costs .drop-costs .ensures) (at-drop-empty .drop-empty .ensures .0) (at-drop-empty .drop-empty .ensures .1)
 
 pub make-move-spec : {M : Type 1} → statement M

@@ -1,5 +1,4 @@
 -- `pair_at`: each field is its definition.
-use borrow.Author.Needs.{needs}
 use native.Mathlib.Omega.{arith}
 use Rattle.cross_depot.specs.CrossDepot.{pairOf}
 use Rattle.cross_depot.proofs.pair.pair_at.Statement.{statement}
@@ -52,7 +51,8 @@ mul-t24 c =
 
 shared-slice-read-t26 : tie.Need-shared-slice-read-t26
 shared-slice-read-t26 c =
-    let start = c .before .before .before .before .before .before .before .before .before .before .before .before .before .before .before .before .before .before in
+    let nearer = c .before .before .before .before .before .before .before .before .before .before .before .before in
+    let start = nearer .before .before .before .before .before .before in
     omega (arith, start .pre .1 .1 .0, start .pre .1 .1 .1, start .pre .1 .1 .2, start .pre .1 .1 .3)
 
 returns : tie.Need-returns

@@ -37,7 +37,8 @@ returns c =
         start .pre .0 .3,
         start .pre .1,
       ),
-      built (start .args .list .now) _ (start .args .from) (start .args .to) (at-append-stretch .append-stretch .ensures .1 .filled) (at-append-stretch2 .append-stretch2 .ensures .1 .filled)
+      built (start .args .list .now) _ (start .args .from) (start .args .to) (at-append-stretch .append-stretch .ensures .1 .filled)
+          (at-append-stretch2 .append-stretch2 .ensures .1 .filled)
           (at-append-stretch3 .append-stretch3 .ensures .1 .filled),
     )
 

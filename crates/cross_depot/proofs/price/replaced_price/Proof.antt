@@ -1,7 +1,7 @@
 -- `replaced_price`: the buffer's front is the list, and the callee answers.
 use borrow.Author.Needs.{needs}
 use mathlib.Core.Path.{ap, _∙_}
-use Rattle.cross_depot.specs.CrossDepot.{allowed}
+use Rattle.cross_depot.specs.CrossDepot.{pricedAs}
 use Rattle.cross_depot.proofs.Stretch.{front, visits-replaced}
 use Rattle.cross_depot.proofs.price.replaced_price.Statement.{statement}
 use Rattle.cross_depot.proofs.price.replaced_price.Tie as tie
@@ -12,17 +12,17 @@ slice-aggregate-replaced-into c = search needs
 replaced-into-requires : tie.Need-replaced-into-requires
 replaced-into-requires c κs = search needs
 
-sub-allowed-price : tie.Need-sub-allowed-price
-sub-allowed-price c = search needs
+sub-priced : tie.Need-sub-priced
+sub-priced c = search needs
 
-part-allowed-price-start : tie.Need-part-allowed-price-start
-part-allowed-price-start c = search needs
+part-priced-start : tie.Need-part-priced-start
+part-priced-start c = search needs
 
-part-allowed-price-end : tie.Need-part-allowed-price-end
-part-allowed-price-end c = search needs
+part-priced-end : tie.Need-part-priced-end
+part-priced-end c = search needs
 
-allowed-price-requires : tie.Need-allowed-price-requires
-allowed-price-requires c κs =
+priced-requires : tie.Need-priced-requires
+priced-requires c κs =
     let at-replaced-into = c .before .before .before in
     let start = at-replaced-into .before .before .before .before .before .before .before .before .before .before .before in
     let whole = front (at-replaced-into .replaced-into .result) (at-replaced-into .replaced-into .last .0) _ (at-replaced-into .replaced-into .ensures .1) in (
@@ -36,7 +36,8 @@ allowed-price-requires c κs =
 returns : tie.Need-returns
 returns c =
     let at-replaced-into = c .before .before .before .before in
-    c .allowed-price .ensures ∙ ap (allowed _ _ _ _) (front (at-replaced-into .replaced-into .result) (at-replaced-into .replaced-into .last .0) _ (at-replaced-into .replaced-into .ensures .1))
+    c .priced .ensures ∙ ap (pricedAs _ _) (front (at-replaced-into .replaced-into .result) (at-replaced-into .replaced-into .last .0) _
+    (at-replaced-into .replaced-into .ensures .1))
 
 pub replaced-price-spec : {M : Type 1} → statement M
 replaced-price-spec =
@@ -44,8 +45,8 @@ replaced-price-spec =
     (tie.spec
     slice-aggregate-replaced-into
     replaced-into-requires
-    sub-allowed-price
-    part-allowed-price-start
-    part-allowed-price-end
-    allowed-price-requires
+    sub-priced
+    part-priced-start
+    part-priced-end
+    priced-requires
     returns)

@@ -2,34 +2,35 @@
 -- the turn and the two ends.
 use borrow.Author.Needs.{needs}
 use borrow.Author.Tests.{not-true, not-false}
-use mathlib.Core.Path.{_≡_, refl, sym, ap, _∙_}
+use mathlib.Core.Path.{sym, _∙_}
 use Prim.Native.Nat.{_-_}
 use native.Mathlib.Omega.{arith}
 use lib.ListN.{length, take}
-use lib.Seq.{length-take-le}
 use Rattle.edits.proofs.Kept.{same-length as kept-length}
 use Rattle.evaluation.specs.Columns.{columns}
 use Rattle.fleet.specs.Fleet.{fleetOf}
 use Rattle.cross_depot.specs.Scan.{planOf}
-use Rattle.cross_depot.proofs.Going.{Live, Running, part, put, live-start, live-asks, begins, answers-settled, answers-stopped, goes-on-made}
+use Rattle.cross_depot.proofs.Going.{Live, Running, part, live-asks, begins, answers-settled, answers-stopped, goes-on-made}
 use Rattle.cross_depot.proofs.run.descend.Statement.{statement}
 use Rattle.cross_depot.proofs.run.descend.Tie as tie
 
 abbrev Inv-loop : tie.InvT-loop
-Inv-loop l flags demand service ready due penalty distances times van-ids depots capacities distance-costs fixed-costs van-flags max-distances max-durations earliest latest durations floor visits₀ lengths₀ ids₀ costs₀ limit n₀ moves₀ visits lengths ids costs n moves =
+Inv-loop l flags demand service ready due penalty distances times van-ids depots capacities distance-costs fixed-costs van-flags max-distances
+    max-durations earliest latest durations floor visits₀ lengths₀ ids₀ costs₀ limit n₀ moves₀ visits lengths ids costs n moves =
     Running (columns l flags service ready due penalty distances times) demand
     (fleetOf van-ids depots capacities distance-costs fixed-costs van-flags max-distances max-durations earliest latest durations)
     limit (planOf visits₀ lengths₀ ids₀ costs₀) moves (planOf visits (take n lengths) (take n ids) (take n costs))
     × Live l visits₀ visits lengths ids costs n (length lengths₀)
 
 abbrev μ-loop : tie.MeasureT-loop
-μ-loop l flags demand service ready due penalty distances times van-ids depots capacities distance-costs fixed-costs van-flags max-distances max-durations earliest latest durations floor visits₀ lengths₀ ids₀ costs₀ limit n₀ moves₀ visits lengths ids costs n moves =
+μ-loop l flags demand service ready due penalty distances times van-ids depots capacities distance-costs fixed-costs van-flags max-distances
+    max-durations earliest latest durations floor visits₀ lengths₀ ids₀ costs₀ limit n₀ moves₀ visits lengths ids costs n moves =
     limit - moves
 
 loop-holds : tie.Need-loop-holds Inv-loop μ-loop
 loop-holds c =
-    let further = c .before .before .before .before .before .before .before .before .before .before .before .before .before .before .before .before .before .before .before .before in
-    let start = further .before in
+    let further = c .before .before .before .before .before .before .before .before .before .before .before .before .before .before .before in
+    let start = further .before .before .before .before .before .before in
     begins _ _ _ _ _ _ _ _ _ (start .pre .1 .1 .0) (start .pre .1 .1 .1) (start .pre .1 .1 .2)
 
 sub-next-move : tie.Need-sub-next-move Inv-loop μ-loop
@@ -40,8 +41,7 @@ part-next-move-start c = search needs
 
 part-next-move-end : tie.Need-part-next-move-end Inv-loop μ-loop
 part-next-move-end c =
-    let at-loop = c .before .before in
-    omega (arith, at-loop .loop .inv .1 .few, at-loop .loop .inv .1 .many-lengths)
+    omega (arith, c .before .before .loop .inv .1 .few, c .before .before .loop .inv .1 .many-lengths)
 
 sub-next-move-2 : tie.Need-sub-next-move-2 Inv-loop μ-loop
 sub-next-move-2 c = search needs
@@ -51,8 +51,7 @@ part-next-move-start-2 c = search needs
 
 part-next-move-end-2 : tie.Need-part-next-move-end-2 Inv-loop μ-loop
 part-next-move-end-2 c =
-    let at-loop = c .before .before .before .before in
-    omega (arith, at-loop .loop .inv .1 .few, at-loop .loop .inv .1 .many-ids)
+    omega (arith, c .before .before .before .before .loop .inv .1 .few, c .before .before .before .before .loop .inv .1 .many-ids)
 
 sub-next-move-3 : tie.Need-sub-next-move-3 Inv-loop μ-loop
 sub-next-move-3 c = search needs
@@ -68,137 +67,120 @@ part-next-move-end-3 c =
 next-move-requires : tie.Need-next-move-requires Inv-loop μ-loop
 next-move-requires c κs =
     let at-loop = c .before .before .before .before .before .before .before in
-    let further = at-loop .before .before .before .before .before .before .before .before .before .before in
-    let start = further .before .before .before .before .before .before .before .before .before .before .before .before in
-    (start .pre .0, (start .pre .1 .0, rw (part _ (at-loop .loop .lengths), part _ (at-loop .loop .ids), part _ (at-loop .loop .costs)) (live-asks _ _ _ _ _ _ _ _ (at-loop .loop .inv .1))))
+    let further = at-loop .before .before .before .before .before .before .before .before .before .before .before .before .before .before .before in
+    let start = further .before .before .before .before .before .before .before in
+    let asks = live-asks _ _ _ _ _ _ _ _ (at-loop .loop .inv .1) in
+    (start .pre .0, (start .pre .1 .0, rw (part _ (at-loop .loop .lengths), part _ (at-loop .loop .ids), part _ (at-loop .loop .costs)) asks))
+
+ended-with-requires : tie.Need-ended-with-requires Inv-loop μ-loop
+ended-with-requires c κs = search needs
 
 same-length : tie.Need-same-length Inv-loop μ-loop
 same-length c =
-    let at-loop = c .before .before .before .before .before .before .before .before .before .before in
-    let further = at-loop .before .before .before .before .before .before .before .before .before .before in
-    let start = further .before .before .before .before .before .before .before .before .before .before .before .before in
+    let at-loop = c .before .before .before .before .before .before .before .before .before .before .before in
+    let further = at-loop .before .before .before .before .before .before .before .before .before .before .before .before .before .before .before in
+    let start = further .before .before .before .before .before .before .before in
     kept-length (start .args .visits .now) (at-loop .loop .visits) (at-loop .loop .inv .1 .same)
 
 same-length-2 : tie.Need-same-length-2 Inv-loop μ-loop
 same-length-2 c =
-    let at-loop = c .before .before .before .before .before .before .before .before .before .before in
-    at-loop .loop .inv .1 .many-lengths
+    c .before .before .before .before .before .before .before .before .before .before .before .loop .inv .1 .many-lengths
 
 same-length-3 : tie.Need-same-length-3 Inv-loop μ-loop
 same-length-3 c =
-    let at-loop = c .before .before .before .before .before .before .before .before .before .before in
-    let further = at-loop .before .before .before .before .before .before .before .before .before .before in
-    let start = further .before .before .before .before .before .before .before .before .before .before .before .before in
+    let at-loop = c .before .before .before .before .before .before .before .before .before .before .before in
+    let further = at-loop .before .before .before .before .before .before .before .before .before .before .before .before .before .before .before in
+    let start = further .before .before .before .before .before .before .before in
     at-loop .loop .inv .1 .many-ids ∙ sym (start .pre .1 .1 .1)
 
 same-length-4 : tie.Need-same-length-4 Inv-loop μ-loop
 same-length-4 c =
-    let at-loop = c .before .before .before .before .before .before .before .before .before .before in
-    let further = at-loop .before .before .before .before .before .before .before .before .before .before in
-    let start = further .before .before .before .before .before .before .before .before .before .before .before .before in
+    let at-loop = c .before .before .before .before .before .before .before .before .before .before .before in
+    let further = at-loop .before .before .before .before .before .before .before .before .before .before .before .before .before .before .before in
+    let start = further .before .before .before .before .before .before .before in
     at-loop .loop .inv .1 .many-costs ∙ sym (start .pre .1 .1 .2)
 
 returns : tie.Need-returns Inv-loop μ-loop
 returns c =
-    let at-next-move = c .before .before in
+    let at-if1 = c .before in
+    let at-next-move = at-if1 .before .before in
     let at-loop = at-next-move .before .before .before .before .before .before .before .before in
-    answers-settled _ _ _ _ _ _ _ _ _ _ _ _ _ _ (at-loop .loop .inv .1) (at-loop .loop .inv .0) _ (at-next-move .next-move .ensures) (not-true _ (c .if1 .taken))
+    rw (c .ended-with .ensures)
+    (answers-settled _ _ _ _ _ _ _ _ _ _ _ _ _ _ (at-loop .loop .inv .1) (at-loop .loop .inv .0) _ (at-next-move .next-move .ensures)
+    (not-true _ (at-if1 .if1 .taken)))
+
+ended-with-requires-2 : tie.Need-ended-with-requires-2 Inv-loop μ-loop
+ended-with-requires-2 c κs = search needs
 
 same-length-5 : tie.Need-same-length-5 Inv-loop μ-loop
 same-length-5 c =
-    let at-loop = c .before .before .before .before .before .before .before .before .before .before .before in
-    let further = at-loop .before .before .before .before .before .before .before .before .before .before in
-    let start = further .before .before .before .before .before .before .before .before .before .before .before .before in
+    let at-loop = c .before .before .before .before .before .before .before .before .before .before .before .before in
+    let further = at-loop .before .before .before .before .before .before .before .before .before .before .before .before .before .before .before in
+    let start = further .before .before .before .before .before .before .before in
     kept-length (start .args .visits .now) (at-loop .loop .visits) (at-loop .loop .inv .1 .same)
 
 same-length-6 : tie.Need-same-length-6 Inv-loop μ-loop
 same-length-6 c =
-    let at-loop = c .before .before .before .before .before .before .before .before .before .before .before in
-    at-loop .loop .inv .1 .many-lengths
+    c .before .before .before .before .before .before .before .before .before .before .before .before .loop .inv .1 .many-lengths
 
 same-length-7 : tie.Need-same-length-7 Inv-loop μ-loop
 same-length-7 c =
-    let at-loop = c .before .before .before .before .before .before .before .before .before .before .before in
-    let further = at-loop .before .before .before .before .before .before .before .before .before .before in
-    let start = further .before .before .before .before .before .before .before .before .before .before .before .before in
+    let at-loop = c .before .before .before .before .before .before .before .before .before .before .before .before in
+    let further = at-loop .before .before .before .before .before .before .before .before .before .before .before .before .before .before .before in
+    let start = further .before .before .before .before .before .before .before in
     at-loop .loop .inv .1 .many-ids ∙ sym (start .pre .1 .1 .1)
 
 same-length-8 : tie.Need-same-length-8 Inv-loop μ-loop
 same-length-8 c =
-    let at-loop = c .before .before .before .before .before .before .before .before .before .before .before in
-    let further = at-loop .before .before .before .before .before .before .before .before .before .before in
-    let start = further .before .before .before .before .before .before .before .before .before .before .before .before in
+    let at-loop = c .before .before .before .before .before .before .before .before .before .before .before .before in
+    let further = at-loop .before .before .before .before .before .before .before .before .before .before .before .before .before .before .before in
+    let start = further .before .before .before .before .before .before .before in
     at-loop .loop .inv .1 .many-costs ∙ sym (start .pre .1 .1 .2)
 
 returns-2 : tie.Need-returns-2 Inv-loop μ-loop
 returns-2 c =
-    let at-if1 = c .before in
+    let at-if2 = c .before in
+    let at-if1 = at-if2 .before in
     let at-next-move = at-if1 .before .before in
     let at-loop = at-next-move .before .before .before .before .before .before .before .before in
-    answers-stopped _ _ _ _ _ _ _ _ _ _ _ _ _ _ (at-loop .loop .inv .1) (at-loop .loop .inv .0) _ (at-next-move .next-move .ensures) (not-false _ (at-if1 .if1 .left)) (c .if2 .taken)
+    rw (c .ended-with2 .ensures)
+    (answers-stopped _ _ _ _ _ _ _ _ _ _ _ _ _ _ (at-loop .loop .inv .1) (at-loop .loop .inv .0) _ (at-next-move .next-move .ensures)
+    (not-false _ (at-if1 .if1 .left)) (at-if2 .if2 .taken))
 
-sub-make-move : tie.Need-sub-make-move Inv-loop μ-loop
-sub-make-move c = search needs
-
-part-make-move-start : tie.Need-part-make-move-start Inv-loop μ-loop
-part-make-move-start c = search needs
-
-part-make-move-end : tie.Need-part-make-move-end Inv-loop μ-loop
-part-make-move-end c =
-    let at-loop = c .before .before .before .before .before .before .before .before .before .before .before .before in
-    omega (arith, at-loop .loop .inv .1 .few, at-loop .loop .inv .1 .many-lengths)
-
-sub-make-move-2 : tie.Need-sub-make-move-2 Inv-loop μ-loop
-sub-make-move-2 c = search needs
-
-part-make-move-start-2 : tie.Need-part-make-move-start-2 Inv-loop μ-loop
-part-make-move-start-2 c = search needs
-
-part-make-move-end-2 : tie.Need-part-make-move-end-2 Inv-loop μ-loop
-part-make-move-end-2 c =
-    let at-loop = c .before .before .before .before .before .before .before .before .before .before .before .before .before in
-    omega (arith, at-loop .loop .inv .1 .few, at-loop .loop .inv .1 .many-ids)
-
-sub-make-move-3 : tie.Need-sub-make-move-3 Inv-loop μ-loop
-sub-make-move-3 c = search needs
-
-part-make-move-start-3 : tie.Need-part-make-move-start-3 Inv-loop μ-loop
-part-make-move-start-3 c = search needs
-
-part-make-move-end-3 : tie.Need-part-make-move-end-3 Inv-loop μ-loop
-part-make-move-end-3 c =
-    let at-loop = c .before .before .before .before .before .before .before .before .before .before .before .before .before .before in
-    omega (arith, at-loop .loop .inv .1 .few, at-loop .loop .inv .1 .many-costs)
-
-make-move-requires : tie.Need-make-move-requires Inv-loop μ-loop
-make-move-requires c κs =
+make-best-requires : tie.Need-make-best-requires Inv-loop μ-loop
+make-best-requires c κs =
     let at-if1 = c .before .before .before .before .before in
     let at-next-move = at-if1 .before .before in
     let at-loop = at-next-move .before .before .before .before .before .before .before .before in
-    let asks = live-asks _ _ _ _ _ _ _ _ (at-loop .loop .inv .1) in
-    (at-next-move .next-move .ensures .makes (not-false _ (at-if1 .if1 .left)), rw (part _ (at-loop .loop .lengths), part _ (at-loop .loop .ids), part _ (at-loop .loop .costs)) (asks .1, asks .2))
+    let live = at-loop .loop .inv .1 in
+    let makes = at-next-move .next-move .ensures .makes (not-false _ (at-if1 .if1 .left)) in (
+      (rw (part _ (at-loop .loop .lengths)) at makes, omega (arith, live .few, live .many-lengths)),
+      (live .many-ids ∙ sym (live .many-lengths), live .many-costs ∙ sym (live .many-lengths)),
+    )
 
 add-moves : tie.Need-add-moves Inv-loop μ-loop
 add-moves c =
     let at-if2 = c .before .before .before .before .before .before .before .before .before .before .before .before .before in
-    let further = at-if2 .before .before .before .before .before .before .before .before .before .before .before .before .before .before .before .before .before .before .before .before in
-    let start = further .before .before .before .before .before .before .before .before .before .before .before .before .before in
+    let further = at-if2 .before .before .before .before .before .before .before .before .before .before .before .before .before .before .before in
+    let further2 = further .before .before .before .before .before .before .before .before .before .before .before .before .before .before .before in
+    let start = further2 .before .before .before in
     omega (arith, start .fits .limit, at-if2 .if2 .left)
 
 loop-less : tie.Need-loop-less Inv-loop μ-loop
 loop-less c =
-    let at-if2 = c .before .before .before .before .before .before .before .before .before .before .before .before .before in
-    omega (arith, at-if2 .if2 .left)
+    omega (arith, c .before .before .before .before .before .before .before .before .before .before .before .before .before .if2 .left)
 
 loop-again : tie.Need-loop-again Inv-loop μ-loop
 loop-again c =
-    let at-make-move = c .before .before .before .before .before .before .before .before in
-    let at-if2 = at-make-move .before .before .before .before .before in
+    let at-make-best = c .before .before .before .before .before .before .before .before in
+    let at-if2 = at-make-best .before .before .before .before .before in
     let at-if1 = at-if2 .before in
     let at-next-move = at-if1 .before .before in
     let at-loop = at-next-move .before .before .before .before .before .before .before .before in
-    goes-on-made _ _ _ _ _ _ _ _ _ _ _ _ _ _ (at-loop .loop .inv .1) (at-loop .loop .inv .0) _ (at-next-move .next-move .ensures) (not-false _ (at-if1 .if1 .left)) (at-if2 .if2 .left) _ _ _ _ _
-    (at-make-move .make-move .ensures) (at-make-move .make-move .kept .1 .0) (at-make-move .make-move .kept .1 .1 .0) (at-make-move .make-move .kept .1 .1 .1 .0)
+    goes-on-made _ _ _ _ _ _ _ _ _ _ _ _ _ _ (at-loop .loop .inv .1) (at-loop .loop .inv .0) _ (at-next-move .next-move .ensures)
+    (not-false _ (at-if1 .if1 .left)) (at-if2 .if2 .left) _ _ _ _ _
+    (at-make-best .make-best .ensures) (at-make-best .make-best .kept .1 .0) (at-make-best .make-best .kept .1 .1 .0)
+    (at-make-best .make-best .kept .1 .1 .1 .0)
 
 pub descend-spec : {M : Type 1} → statement M
 descend-spec =
@@ -217,26 +199,19 @@ descend-spec =
     part-next-move-start-3
     part-next-move-end-3
     next-move-requires
+    ended-with-requires
     same-length
     same-length-2
     same-length-3
     same-length-4
     returns
+    ended-with-requires-2
     same-length-5
     same-length-6
     same-length-7
     same-length-8
     returns-2
-    sub-make-move
-    part-make-move-start
-    part-make-move-end
-    sub-make-move-2
-    part-make-move-start-2
-    part-make-move-end-2
-    sub-make-move-3
-    part-make-move-start-3
-    part-make-move-end-3
-    make-move-requires
+    make-best-requires
     add-moves
     loop-less
     loop-again)

@@ -12,12 +12,17 @@ use Rattle.cross_depot.proofs.run.improve.Tie as tie
 either-requires : tie.Need-either-requires
 either-requires c κs = search needs
 
+ended-with-requires : tie.Need-ended-with-requires
+ended-with-requires c κs = search needs
+
 returns : tie.Need-returns
 returns c =
-    let at-either = c .before in
+    let at-if1 = c .before in
+    let at-either = at-if1 .before in
     let further = at-either .before .before .before .before .before .before .before .before .before .before .before .before .before .before .before in
     let start = further .before .before .before .before .before .before .before in
-    improves-as-given _ _ _ _ _ _ _ _ (start .pre .1 .1 .0 .laid) (start .pre .1 .1 .1) (sym (at-either .either .ensures) ∙ c .if1 .taken)
+    rw (c .ended-with .ensures)
+    (improves-as-given _ _ _ _ _ _ _ _ (start .pre .1 .1 .0 .laid) (start .pre .1 .1 .1) (sym (at-either .either .ensures) ∙ at-if1 .if1 .taken))
 
 sub-descend-from : tie.Need-sub-descend-from
 sub-descend-from c = search needs
@@ -65,6 +70,7 @@ improve-spec =
     tie.close
     (tie.spec
     either-requires
+    ended-with-requires
     returns
     sub-descend-from
     part-costs-start

@@ -9,14 +9,16 @@ no-choice-requires c κs = search needs
 
 best-move-requires : tie.Need-best-move-requires
 best-move-requires c κs =
-    let further = c .before .before .before .before .before .before .before .before .before .before .before .before .before .before .before .before .before .before .before .before in
+    let nearer = c .before .before .before .before .before .before .before .before .before .before .before .before in
+    let further = nearer .before .before .before .before .before .before .before .before in
     let start = further .before .before in
     (start .pre .0 .0, start .pre .1)
 
 returns : tie.Need-returns
 returns c =
     let at-no-choice = c .before in
-    let further = at-no-choice .before .before .before .before .before .before .before .before .before .before .before .before .before .before .before .before .before .before .before .before in
+    let nearer = at-no-choice .before .before .before .before .before .before .before .before .before .before .before .before in
+    let further = nearer .before .before .before .before .before .before .before .before in
     let start = further .before .before in
     choice-is _ _ _ _ _ _ _ (start .pre .1 .1 .0 .laid) _ (start .pre .0 .1) _ _ (at-no-choice .no-choice .ensures) (c .best-move .ensures)
 

@@ -1,6 +1,6 @@
 -- `best_from`: before each second list, the scan from here on comes to the scan over all of them.
 use borrow.Author.Needs.{needs}
-use mathlib.Core.Path.{_≡_, refl, sym, _∙_}
+use mathlib.Core.Path.{_≡_, sym, _∙_}
 use Prim.Native.Nat.{_-_}
 use native.Mathlib.Omega.{arith}
 use lib.ListN.{length}
@@ -14,7 +14,8 @@ use Rattle.cross_depot.proofs.search.best_from.Statement.{statement}
 use Rattle.cross_depot.proofs.search.best_from.Tie as tie
 
 abbrev Inv-loop : tie.InvT-loop
-Inv-loop l flags demand service ready due penalty distances times van-ids depots capacities distance-costs fixed-costs van-flags max-distances max-durations earliest latest durations visits lengths ids costs a found₀ next₀ found next =
+Inv-loop l flags demand service ready due penalty distances times van-ids depots capacities distance-costs fixed-costs van-flags max-distances
+    max-durations earliest latest durations visits lengths ids costs a found₀ next₀ found next =
     scan (bestOfPair (columns l flags service ready due penalty distances times) demand
     (fleetOf van-ids depots capacities distance-costs fixed-costs van-flags max-distances max-durations earliest latest durations)
     (planOf visits lengths ids costs) a) (range next (length lengths)) found
@@ -23,7 +24,8 @@ Inv-loop l flags demand service ready due penalty distances times van-ids depots
     (planOf visits lengths ids costs) a found₀
 
 abbrev μ-loop : tie.MeasureT-loop
-μ-loop l flags demand service ready due penalty distances times van-ids depots capacities distance-costs fixed-costs van-flags max-distances max-durations earliest latest durations visits lengths ids costs a found₀ next₀ found next =
+μ-loop l flags demand service ready due penalty distances times van-ids depots capacities distance-costs fixed-costs van-flags max-distances
+    max-durations earliest latest durations visits lengths ids costs a found₀ next₀ found next =
     length lengths - next
 
 loop-holds : tie.Need-loop-holds Inv-loop μ-loop
@@ -31,13 +33,15 @@ loop-holds c = from-start _ _ _ _ _ _ _ _ _
 
 add-next : tie.Need-add-next Inv-loop μ-loop
 add-next c =
-    let further = c .before .before .before .before .before .before .before .before .before .before .before .before .before .before .before .before .before .before .before .before in
+    let nearer = c .before .before .before .before .before .before .before .before .before .before .before .before in
+    let further = nearer .before .before .before .before .before .before .before .before in
     let start = further .before .before .before in
     omega (arith, c .loop-test .taken, start .pre .1 .1 .0 .0 .laid .few)
 
 pair-at-requires : tie.Need-pair-at-requires Inv-loop μ-loop
 pair-at-requires c κs =
-    let further = c .before .before .before .before .before .before .before .before .before .before .before .before .before .before .before .before .before .before .before .before in
+    let nearer = c .before .before .before .before .before .before .before .before .before .before .before .before in
+    let further = nearer .before .before .before .before .before .before .before .before in
     let start = further .before .before .before in (
       start .pre .1 .0 .crewed .fitted,
       (
@@ -65,19 +69,22 @@ loop-again c =
     let at-pair-at = at-is-same-depot .before in
     let at-loop-test = at-pair-at .before in
     let at-loop = at-loop-test .before in
-    scan-turn _ _ _ _ _ (at-loop-test .loop-test .taken) (pair-same _ _ _ _ _ _ _ _ _ _ _ (at-pair-at .pair-at .ensures) _ (at-is-same-depot .is-same-depot .ensures) (c .if1 .taken))
+    scan-turn _ _ _ _ _ (at-loop-test .loop-test .taken) (pair-same _ _ _ _ _ _ _ _ _ _ _ (at-pair-at .pair-at .ensures) _
+    (at-is-same-depot .is-same-depot .ensures) (c .if1 .taken))
     ∙ at-loop .loop .inv
 
 list-of-requires : tie.Need-list-of-requires Inv-loop μ-loop
 list-of-requires c κs =
-    let further = c .before .before .before .before .before .before .before .before .before .before .before .before .before .before .before .before .before .before .before .before in
+    let nearer = c .before .before .before .before .before .before .before .before .before .before .before .before in
+    let further = nearer .before .before .before .before .before .before .before .before in
     let start = further .before .before .before .before .before .before in
     (start .pre .1 .1 .0 .0 .laid, start .pre .1 .1 .1)
 
 list-of-requires-2 : tie.Need-list-of-requires-2 Inv-loop μ-loop
 list-of-requires-2 c κs =
     let at-loop-test = c .before .before .before .before in
-    let further = at-loop-test .before .before .before .before .before .before .before .before .before .before .before .before .before .before .before .before .before .before .before .before in
+    let nearer = at-loop-test .before .before .before .before .before .before .before .before .before .before .before .before in
+    let further = nearer .before .before .before .before .before .before .before .before in
     let start = further .before .before .before in
     (start .pre .1 .1 .0 .0 .laid, at-loop-test .loop-test .taken)
 
@@ -87,7 +94,8 @@ between-lists-requires c κs =
     let at-if1 = at-list-of .before in
     let at-is-same-depot = at-if1 .before in
     let at-pair-at = at-is-same-depot .before in
-    let further = at-pair-at .before .before .before .before .before .before .before .before .before .before .before .before .before .before .before .before .before .before .before .before in
+    let nearer = at-pair-at .before .before .before .before .before .before .before .before .before .before .before .before in
+    let further = nearer .before .before .before .before .before .before .before .before in
     let start = further .before .before .before .before in
     let apart = pair-apart _ _ _ _ _ _ (at-pair-at .pair-at .ensures) _ (at-is-same-depot .is-same-depot .ensures) (at-if1 .if1 .left) in (
       start .pre .0,
@@ -109,7 +117,8 @@ loop-again-2 c =
     let at-pair-at = at-is-same-depot .before in
     let at-loop-test = at-pair-at .before in
     let at-loop = at-loop-test .before in
-    scan-turn _ _ _ _ _ (at-loop-test .loop-test .taken) (pair-other _ _ _ _ _ _ _ _ _ _ _ (at-pair-at .pair-at .ensures) _ (at-is-same-depot .is-same-depot .ensures) _ _ _ (at-if1 .if1 .left)
+    scan-turn _ _ _ _ _ (at-loop-test .loop-test .taken) (pair-other _ _ _ _ _ _ _ _ _ _ _ (at-pair-at .pair-at .ensures) _
+    (at-is-same-depot .is-same-depot .ensures) _ _ _ (at-if1 .if1 .left)
     (at-list-of .list-of .ensures) (at-list-of2 .list-of2 .ensures) (c .between-lists .ensures)) ∙ at-loop .loop .inv
 
 returns : tie.Need-returns Inv-loop μ-loop

@@ -1,6 +1,5 @@
 -- `best_move`: before each first list, the scan from here on comes to the scan over all of them.
-use borrow.Author.Needs.{needs}
-use mathlib.Core.Path.{_≡_, refl, sym, _∙_}
+use mathlib.Core.Path.{_≡_, sym, _∙_}
 use Prim.Native.Nat.{_-_}
 use native.Mathlib.Omega.{arith}
 use lib.ListN.{length}
@@ -14,7 +13,8 @@ use Rattle.cross_depot.proofs.search.best_move.Statement.{statement}
 use Rattle.cross_depot.proofs.search.best_move.Tie as tie
 
 abbrev Inv-loop : tie.InvT-loop
-Inv-loop l flags demand service ready due penalty distances times van-ids depots capacities distance-costs fixed-costs van-flags max-distances max-durations earliest latest durations visits lengths ids costs found₀ a₀ found a =
+Inv-loop l flags demand service ready due penalty distances times van-ids depots capacities distance-costs fixed-costs van-flags max-distances
+    max-durations earliest latest durations visits lengths ids costs found₀ a₀ found a =
     scan (bestFrom (columns l flags service ready due penalty distances times) demand
     (fleetOf van-ids depots capacities distance-costs fixed-costs van-flags max-distances max-durations earliest latest durations)
     (planOf visits lengths ids costs)) (range a (length lengths)) found
@@ -23,7 +23,8 @@ Inv-loop l flags demand service ready due penalty distances times van-ids depots
     (planOf visits lengths ids costs) found₀
 
 abbrev μ-loop : tie.MeasureT-loop
-μ-loop l flags demand service ready due penalty distances times van-ids depots capacities distance-costs fixed-costs van-flags max-distances max-durations earliest latest durations visits lengths ids costs found₀ a₀ found a =
+μ-loop l flags demand service ready due penalty distances times van-ids depots capacities distance-costs fixed-costs van-flags max-distances
+    max-durations earliest latest durations visits lengths ids costs found₀ a₀ found a =
     length lengths - a
 
 loop-holds : tie.Need-loop-holds Inv-loop μ-loop
@@ -31,14 +32,16 @@ loop-holds c = all-start _ _ _ _ _ _ _ _
 
 best-from-requires : tie.Need-best-from-requires Inv-loop μ-loop
 best-from-requires c κs =
-    let further = c .before .before .before .before .before .before .before .before .before .before .before .before .before .before .before .before .before .before .before .before in
+    let nearer = c .before .before .before .before .before .before .before .before .before .before .before .before in
+    let further = nearer .before .before .before .before .before .before .before .before in
     let start = further .before .before .before in
     (start .pre .0, (start .pre .1 .0, (start .pre .1 .1, c .loop-test .taken)))
 
 add-a : tie.Need-add-a Inv-loop μ-loop
 add-a c =
     let at-loop-test = c .before in
-    let further = at-loop-test .before .before .before .before .before .before .before .before .before .before .before .before .before .before .before .before .before .before .before .before in
+    let nearer = at-loop-test .before .before .before .before .before .before .before .before .before .before .before .before in
+    let further = nearer .before .before .before .before .before .before .before .before in
     let start = further .before .before .before in
     omega (arith, at-loop-test .loop-test .taken, start .pre .1 .1 .0 .laid .few)
 

@@ -1,38 +1,72 @@
--- `between_lists`: the three kinds of moves one after another, and only relocations where the first list isn't the earlier.
-use Rattle.cross_depot.proofs.Scanning.{between-later, between-earlier}
+-- `between_lists`: the prefix loads of both lists, relocations, and then the exchanges.
+use borrow.Author.Needs.{needs}
+use mathlib.Core.Path.{refl}
+use Rattle.cross_depot.proofs.Fitting.{visits-first, visits-second}
+use Rattle.cross_depot.proofs.Scanning.{between-is}
 use Rattle.cross_depot.proofs.search.between_lists.Statement.{statement}
 use Rattle.cross_depot.proofs.search.between_lists.Tie as tie
 
+slice-aggregate-prefix-loads : tie.Need-slice-aggregate-prefix-loads
+slice-aggregate-prefix-loads c = search needs
+
+prefix-loads-requires : tie.Need-prefix-loads-requires
+prefix-loads-requires c κs =
+    let start = c .before .before .before .before .before .before .before .before .before .before in
+    (start .pre .0 .loaded, visits-first _ _ _ (start .pre .2), refl)
+
+slice-aggregate-prefix-loads-2 : tie.Need-slice-aggregate-prefix-loads-2
+slice-aggregate-prefix-loads-2 c = search needs
+
+prefix-loads-requires-2 : tie.Need-prefix-loads-requires-2
+prefix-loads-requires-2 c κs =
+    let start = c .before .before .before .before .before .before .before .before .before .before .before .before .before in
+    (start .pre .0 .loaded, visits-second _ _ _ (start .pre .2), refl)
+
+slice-aggregate-relocations : tie.Need-slice-aggregate-relocations
+slice-aggregate-relocations c = search needs
+
+slice-aggregate-relocations-2 : tie.Need-slice-aggregate-relocations-2
+slice-aggregate-relocations-2 c = search needs
+
 relocations-requires : tie.Need-relocations-requires
 relocations-requires c κs =
-    let start = c .before .before .before .before .before .before .before .before .before in
-    start .pre
+    let at-prefix-loads2 = c .before .before .before in
+    let at-prefix-loads = at-prefix-loads2 .before .before .before in
+    let start = at-prefix-loads .before .before .before .before .before .before .before .before .before .before .before in
+    (start .pre, (at-prefix-loads .prefix-loads .ensures, at-prefix-loads2 .prefix-loads2 .ensures))
+
+slice-aggregate-exchanges : tie.Need-slice-aggregate-exchanges
+slice-aggregate-exchanges c = search needs
+
+slice-aggregate-exchanges-2 : tie.Need-slice-aggregate-exchanges-2
+slice-aggregate-exchanges-2 c = search needs
+
+exchanges-requires : tie.Need-exchanges-requires
+exchanges-requires c κs =
+    let at-prefix-loads2 = c .before .before .before .before .before .before in
+    let at-prefix-loads = at-prefix-loads2 .before .before .before in
+    let start = at-prefix-loads .before .before .before .before .before .before .before .before .before .before .before in
+    (start .pre, (at-prefix-loads .prefix-loads .ensures, at-prefix-loads2 .prefix-loads2 .ensures))
 
 returns : tie.Need-returns
 returns c =
-    let at-relocations = c .before .before in
-    let start = at-relocations .before .before .before .before .before .before .before .before .before .before in
-    between-later _ _ (start .args .pair) _ _ _ _ (at-relocations .relocations .ensures) (c .if1 .taken)
-
-swaps-requires : tie.Need-swaps-requires
-swaps-requires c κs =
-    let start = c .before .before .before .before .before .before .before .before .before .before .before .before in
-    start .pre
-
-tail-exchanges-requires : tie.Need-tail-exchanges-requires
-tail-exchanges-requires c κs =
-    let start = c .before .before .before .before .before .before .before .before .before .before .before .before .before in
-    start .pre
-
-returns-2 : tie.Need-returns-2
-returns-2 c =
-    let at-swaps = c .before in
-    let at-if1 = at-swaps .before in
-    let at-relocations = at-if1 .before .before in
-    let start = at-relocations .before .before .before .before .before .before .before .before .before .before in
-    between-earlier _ _ (start .args .pair) _ _ _ _ (at-relocations .relocations .ensures) (at-if1 .if1 .left) _ _ (at-swaps .swaps .ensures) (c .tail-exchanges .ensures)
+    let at-relocations = c .before .before .before in
+    let further = at-relocations .before .before .before .before .before .before .before .before .before in
+    let start = further .before .before .before .before .before .before .before .before .before in
+    between-is _ _ (start .args .pair) _ _ _ _ _ (at-relocations .relocations .ensures) (c .exchanges .ensures)
 
 pub between-lists-spec : {M : Type 1} → statement M
 between-lists-spec =
     tie.close
-    (tie.spec relocations-requires returns swaps-requires tail-exchanges-requires returns-2)
+    (tie.spec
+    slice-aggregate-prefix-loads
+    prefix-loads-requires
+    slice-aggregate-prefix-loads-2
+    prefix-loads-requires-2
+    slice-aggregate-relocations
+    slice-aggregate-relocations-2
+    relocations-requires
+    slice-aggregate-exchanges
+    slice-aggregate-exchanges-2
+    exchanges-requires
+    returns)

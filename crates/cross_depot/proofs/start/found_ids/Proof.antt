@@ -1,6 +1,5 @@
 -- `found_ids`: the entries so far are the ids found, and the rest is as it was.
-use borrow.Author.Needs.{needs}
-use mathlib.Core.Path.{_≡_, refl, sym, ap, _∙_}
+use mathlib.Core.Path.{ap}
 use Prim.Native.Nat.{_-_}
 use native.Mathlib.Omega.{arith}
 use lib.ListN.{length}
@@ -12,7 +11,8 @@ use Rattle.cross_depot.proofs.start.found_ids.Tie as tie
 
 abbrev Inv-loop : tie.InvT-loop
 Inv-loop van-ids depots capacities distance-costs fixed-costs van-flags max-distances max-durations earliest latest durations ids₀ i₀ ids i =
-    Mapping (λ id. fleetVehicle (fleetOf van-ids depots capacities distance-costs fixed-costs van-flags max-distances max-durations earliest latest durations) id .id) ids₀ ids i
+    Mapping (λ id. fleetVehicle (fleetOf van-ids depots capacities distance-costs fixed-costs van-flags max-distances max-durations earliest latest
+    durations) id .id) ids₀ ids i
 
 abbrev μ-loop : tie.MeasureT-loop
 μ-loop van-ids depots capacities distance-costs fixed-costs van-flags max-distances max-durations earliest latest durations ids₀ i₀ ids i =
@@ -66,7 +66,8 @@ loop-again : tie.Need-loop-again Inv-loop μ-loop
 loop-again c =
     let at-loop-test = c .before .before in
     let at-loop = at-loop-test .before in
-    mapping-turns _ _ _ _ (at-loop .loop .inv) 0 _ (omega (arith, at-loop-test .loop-test .taken, at-loop .loop .inv .same-length)) (ap (λ (v : Van). v .id) (c .fleet-vehicle .ensures))
+    mapping-turns _ _ _ _ (at-loop .loop .inv) 0 _ (omega (arith, at-loop-test .loop-test .taken, at-loop .loop .inv .same-length))
+    (ap (λ (v : Van). v .id) (c .fleet-vehicle .ensures))
 
 same-length : tie.Need-same-length Inv-loop μ-loop
 same-length c =

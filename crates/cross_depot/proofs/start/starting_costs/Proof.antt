@@ -1,6 +1,6 @@
 -- `starting_costs`: the costs so far are those of the first lists.
 use borrow.Author.Needs.{needs}
-use mathlib.Core.Path.{_≡_, refl, sym, ap, _∙_}
+use mathlib.Core.Path.{sym, ap, _∙_}
 use Prim.Native.Nat.{_-_}
 use native.Mathlib.Omega.{arith}
 use lib.ListN.{length, getD}
@@ -90,7 +90,8 @@ loop-again c =
     let at-loop-test = at-fleet-vehicle .before .before in
     let at-loop = at-loop-test .before in
     let start = at-loop .before .before .before .before .before .before .before .before .before .before .before .before .before .before in
-    costing-turns _ _ _ _ (start .pre .1 .1 .0) _ _ (at-loop .loop .inv) (at-loop-test .loop-test .taken) (c .route-cost .ensures ∙ ap (λ (v : Van). routeCost v (getD (start .args .prices .now) (at-loop .loop .i) nan)) (at-fleet-vehicle .fleet-vehicle .ensures))
+    costing-turns _ _ _ _ (start .pre .1 .1 .0) _ _ (at-loop .loop .inv) (at-loop-test .loop-test .taken)
+    (c .route-cost .ensures ∙ ap (λ (v : Van). routeCost v (getD (start .args .prices .now) (at-loop .loop .i) nan)) (at-fleet-vehicle .fleet-vehicle .ensures))
 
 same-length : tie.Need-same-length Inv-loop μ-loop
 same-length c =

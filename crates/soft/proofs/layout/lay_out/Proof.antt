@@ -1,6 +1,7 @@
--- `lay_out`: four appends, in the order of the arrangement. `search` finds that each part still fits.
+-- `lay_out`: four appends, in the order of the arrangement, the first without the visits before the place. `search` finds that each part still fits.
 use native.Mathlib.Omega.{arith}
 use mathlib.Core.Path.{_≡_}
+use Prim.Native.Nat.{_-_}
 use lib.ListN.{length}
 use Rattle.soft.proofs.Layouts.{laid-straight, laid-exchanged}
 use borrow.Author.Needs.{needs}
@@ -30,14 +31,15 @@ returns c =
     let at-if1 = at-append-piece .before .before in
     let at-append-stretch = at-if1 .before .before .before in
     let start = at-append-stretch .before .before .before .before in
-    let cut = start .pre .1 in
+    let cut = start .pre .1 .0 in
+    let near = start .pre .1 .1 in
     let one = at-append-stretch .append-stretch .ensures in
     let two = at-append-piece .append-piece .ensures in
     let three = at-append-piece2 .append-piece2 .ensures in
     let four = at-append-stretch2 .append-stretch2 .ensures in
-    let whole : at-append-stretch2 .append-stretch2 .result ≡ length (start .args .list .now) =
-    omega (arith, cut .b-c, cut .c-d, cut .d-n, one .0, two .0, three .0, four .0) in
-    laid-exchanged (start .args .list .now) (start .args .p) (one .1) whole (at-if1 .if1 .taken) (two .1) (three .1) (four .1)
+    let whole : at-append-stretch2 .append-stretch2 .result ≡ length (start .args .list .now) - start .args .from =
+    omega (arith, near, cut .b-c, cut .c-d, cut .d-n, one .0, two .0, three .0, four .0) in
+    laid-exchanged (start .args .from) (start .args .list .now) (start .args .p) cut near (one .1) whole (at-if1 .if1 .taken) (two .1) (three .1) (four .1)
 
 append-piece-requires-3 : tie.Need-append-piece-requires-3
 append-piece-requires-3 c κs = search needs
@@ -59,14 +61,15 @@ returns-2 c =
     let at-if1 = at-append-piece3 .before .before in
     let at-append-stretch = at-if1 .before .before .before in
     let start = at-append-stretch .before .before .before .before in
-    let cut = start .pre .1 in
+    let cut = start .pre .1 .0 in
+    let near = start .pre .1 .1 in
     let one = at-append-stretch .append-stretch .ensures in
     let two = at-append-piece3 .append-piece3 .ensures in
     let three = at-append-piece4 .append-piece4 .ensures in
     let four = at-append-stretch3 .append-stretch3 .ensures in
-    let whole : at-append-stretch3 .append-stretch3 .result ≡ length (start .args .list .now) =
-    omega (arith, cut .b-c, cut .c-d, cut .d-n, one .0, two .0, three .0, four .0) in
-    laid-straight (start .args .list .now) (start .args .p) (one .1) whole (at-if1 .if1 .left) (two .1) (three .1) (four .1)
+    let whole : at-append-stretch3 .append-stretch3 .result ≡ length (start .args .list .now) - start .args .from =
+    omega (arith, near, cut .b-c, cut .c-d, cut .d-n, one .0, two .0, three .0, four .0) in
+    laid-straight (start .args .from) (start .args .list .now) (start .args .p) cut near (one .1) whole (at-if1 .if1 .left) (two .1) (three .1) (four .1)
 
 pub lay-out-spec : {M : Type 1} → statement M
 lay-out-spec =

@@ -1,0 +1,137 @@
+-- A head driven once gives every list that shares it its price, because a walk over a list goes on from where its first part ended. Assumes nothing.
+use Prim.Native.Nat.{ℕ, suc, _+_, _<_, _≤_}
+use native.Mathlib.Numerals.{add-one}
+use native.Mathlib.Omega.{arith}
+use borrow.Author.Tests.{ltb-false}
+use mathlib.Core.Path.{_≡_, refl, sym, ap, _∙_}
+use mathlib.Core.Bool.{Bool, true, false, cond}
+use mathlib.Core.List.{List, [], _∷_, _++_}
+use lib.Dec.{ltb}
+use lib.ListN.{length, getD, take, drop, take-append-drop}
+use lib.Seq.{take-suc}
+use lib.Ieee.{Float, inf}
+use Rattle.numbers.specs.Operations.{_⊕_, zero64}
+use Rattle.day.specs.Vehicle.{allows}
+use Rattle.day.specs.declared.vehicle.Rest.{Rest}
+use Rattle.day.specs.declared.vehicle.Rest.the-variants.{NoBreak, Break}
+use Rattle.day.specs.declared.vehicle.VehicleBreak.{VehicleBreak}
+use Rattle.day.specs.declared.vehicle.RouteLimits.{RouteLimits}
+use Rattle.evaluation.specs.Columns.{Columns, legIn}
+use Rattle.evaluation.specs.Walk.{Tour, tourOf, onward, walk, walk-on}
+use Rattle.evaluation.specs.Label.{atStart}
+use Rattle.evaluation.specs.Schedule.{ended}
+use Rattle.evaluation.specs.Route.{tick, home, unbroken, outcome, evaluated, eval, pricedDistance, costOf, effectiveCost}
+use Rattle.evaluation.specs.declared.label.Label.{Label}
+use Rattle.evaluation.specs.declared.label.Taken.the-variants.{Untaken}
+use Rattle.evaluation.specs.declared.label.Reached.{Reached}
+use Rattle.evaluation.specs.declared.label.Reached.the-variants.{Served}
+use Rattle.evaluation.specs.declared.route.Evaluation.the-variants.{Fails, Passes}
+use Rattle.evaluation.specs.declared.schedule.Outcome.the-variants.{Impossible}
+use Rattle.heads.specs.Head.{atDepot, tourAt, shared, nearest, Driven, endedCost, costFrom, priceBy, priceFrom}
+use Rattle.heads.specs.declared.Head.{Head}
+
+-- ---- a head
+
+-- the van at the depot is a head of any list
+pub depot-driven : (c : Columns) (rest : Rest) (depot : ℕ) (list : List ℕ) → depot < c .l → Driven c rest depot list (atDepot depot)
+unfolding atDepot
+depot-driven c rest depot list h = record { few = omega arith; placed = h; same = refl; unbroken = λ pause e. refl }
+
+-- a start that is near enough is a head
+pub nearest-driven : (c : Columns) (rest : Rest) (depot to : ℕ) (list : List ℕ) (head : Head) → depot < c .l → Driven c rest depot list head →
+    Driven c rest depot list (nearest head depot to) × (nearest head depot to .visits ≤ to)
+unfolding nearest atDepot
+nearest-driven c rest depot to list head h driven = go (ltb to (head .visits)) refl
+  where
+    go : (b : Bool) → ltb to (head .visits) ≡ b →
+        Driven c rest depot list (cond b (atDepot depot) head) × (cond b (atDepot depot) head .visits ≤ to)
+    go true e = (depot-driven c rest depot list h, omega arith)
+    go false e = (driven, ltb-false to (head .visits) e)
+
+-- with a break to take none is shared
+pub none-shared : (rest : Rest) (to : ℕ) (pause : VehicleBreak) → rest ≡ Break pause → shared rest to ≡ 0
+unfolding shared
+none-shared rest to pause e = rw e
+
+pub few-shared : (rest : Rest) (to : ℕ) → shared rest to ≤ to
+unfolding shared
+few-shared NoBreak to = omega arith
+few-shared (Break pause) to = omega arith
+
+-- where the loop starts
+pub start-driven : (c : Columns) (rest : Rest) (depot to end : ℕ) (list : List ℕ) (head start : Head) → depot < c .l → to ≤ length list →
+    Driven c rest depot list head → end ≡ shared rest to → start ≡ nearest head depot end →
+    (start .visits ≤ end) × (end ≤ length list) × (start .place < c .l)
+    × (walk c (tick c) (tourOf zero64 (Served atStart) depot) (take (start .visits) list) ≡ tourAt start)
+start-driven c rest depot to end list head start h t driven e f =
+    let near = nearest-driven c rest depot end list head h driven in
+    let few = few-shared rest to in
+    rw f (near .1, omega (arith, e), near .0 .placed, near .0 .same)
+
+-- one visit more
+pub drive-turn : (c : Columns) (depot : ℕ) (list : List ℕ) (i : ℕ) (label next : Label) (distance x : Float) (place : ℕ) → i < length list →
+    walk c (tick c) (tourOf zero64 (Served atStart) depot) (take i list) ≡ tourOf distance (Served label) place →
+    x ≡ legIn c place (getD list i 0) → Served next ≡ tick c (Served label) place (getD list i 0) →
+    walk c (tick c) (tourOf zero64 (Served atStart) depot) (take (i + 1) list) ≡ tourOf (distance ⊕ x) (Served next) (getD list i 0)
+drive-turn c depot list i label next distance x place h so-far e f =
+    let start = tourOf zero64 (Served atStart) depot in
+    rw (add-one i, take-suc list i 0 h) (walk-on c (tick c) start (take i list) (getD list i 0 ∷ [])
+    ∙ ap (λ (t : Tour Reached). onward c (tick c) t (getD list i 0)) so-far ∙ rw (e, f))
+
+-- what the loop has driven so far is a head
+pub drives : {c : Columns} {rest : Rest} {depot : ℕ} {list : List ℕ} {head : Head} (end : ℕ) → (head .visits ≤ end) × (end ≤ length list) → head .place < c .l →
+    walk c (tick c) (tourOf zero64 (Served atStart) depot) (take (head .visits) list) ≡ tourAt head →
+    ((pause : VehicleBreak) → rest ≡ Break pause → end ≡ 0) → Driven c rest depot list head
+drives end h p e none = record { few = omega arith; placed = p; same = e; unbroken = λ pause f. let z = none pause f in omega (arith, h .0) }
+
+-- ---- a price
+
+-- the price of an end
+pub end-costs : (limits : RouteLimits) (label : Label) (distance back : Float) →
+    endedCost limits label distance back ≡ costOf (evaluated limits (ended label Untaken distance back))
+unfolding endedCost costOf evaluated ended pricedDistance
+end-costs limits label distance back = go (allows limits distance (label .time ⊕ back))
+  where
+    go : (b : Bool) → cond b (distance ⊕ label .«lateness_cost») (inf false)
+        ≡ costOf (cond b (Passes (record {
+          distance = distance;
+          duration = label .time ⊕ back;
+          lateness = label .lateness;
+          «lateness_cost» = label .«lateness_cost»;
+        })) Fails)
+    go true = refl
+    go false = refl
+
+-- a list that can't be served costs infinity
+pub missed-costs : (limits : RouteLimits) → inf false ≡ costOf (evaluated limits Impossible)
+unfolding costOf evaluated
+missed-costs limits = refl
+
+module _ (c : Columns) (limits : RouteLimits) (depot : ℕ) (head : Head) (others : List ℕ) (rest : Rest) where
+  pub price-unbroken : rest ≡ NoBreak → costFrom c limits depot head others ≡ priceBy rest c limits depot head others
+  unfolding priceBy
+  price-unbroken e = rw e
+
+  pub price-broken : (pause : VehicleBreak) → rest ≡ Break pause → effectiveCost c limits depot others ≡ priceBy rest c limits depot head others
+  unfolding priceBy
+  price-broken pause e = rw e
+
+-- a list with this head costs what its visits behind the head cost from there on
+pub from-head : (c : Columns) (limits : RouteLimits) (depot : ℕ) (list other : List ℕ) (head : Head) → Driven c (limits .rest) depot list head →
+    take (head .visits) other ≡ take (head .visits) list → priceFrom c limits depot head (drop (head .visits) other) ≡ effectiveCost c limits depot other
+unfolding priceBy costFrom effectiveCost eval outcome unbroken
+from-head c limits depot list other head driven e = go (limits .rest) refl
+  where
+    start : Tour Reached
+    start = tourOf zero64 (Served atStart) depot
+
+    whole : walk c (tick c) start other ≡ walk c (tick c) (tourAt head) (drop (head .visits) other)
+    whole =
+        ap (walk c (tick c) start) (sym (take-append-drop (head .visits) other))
+        ∙ walk-on c (tick c) start (take (head .visits) other) (drop (head .visits) other)
+        ∙ ap (λ (t : Tour Reached). walk c (tick c) t (drop (head .visits) other)) (ap (walk c (tick c) start) e ∙ driven .same)
+
+    go : (rest : Rest) → limits .rest ≡ rest →
+        priceBy rest c limits depot head (drop (head .visits) other) ≡ costOf (evaluated limits (outcome c rest depot other))
+    go NoBreak r = ap (λ (t : Tour Reached). costOf (evaluated limits (home c depot t))) (sym whole)
+    go (Break pause) r = rw (driven .unbroken pause r, r)

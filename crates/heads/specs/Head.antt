@@ -1,0 +1,63 @@
+-- A head of a list, driven once, and what a list costs from its head on. For the searches that price many lists with one head. Assumes nothing.
+use Prim.Native.Nat.{ℕ, _<_, _≤_}
+use mathlib.Core.Path.{_≡_}
+use mathlib.Core.Bool.{false, cond}
+use mathlib.Core.List.{List}
+use lib.Dec.{ltb}
+use lib.ListN.{length, take}
+use lib.Ieee.{Float, inf}
+use Rattle.numbers.specs.Operations.{_⊕_, zero64}
+use Rattle.day.specs.Vehicle.{allows}
+use Rattle.day.specs.declared.vehicle.Rest.{Rest}
+use Rattle.day.specs.declared.vehicle.Rest.the-variants.{NoBreak, Break}
+use Rattle.day.specs.declared.vehicle.VehicleBreak.{VehicleBreak}
+use Rattle.day.specs.declared.vehicle.RouteLimits.{RouteLimits}
+use Rattle.evaluation.specs.Columns.{Columns}
+use Rattle.evaluation.specs.Walk.{Tour, tourOf, walk}
+use Rattle.evaluation.specs.Label.{atStart}
+use Rattle.evaluation.specs.Route.{tick, home, evaluated, costOf, effectiveCost}
+use Rattle.evaluation.specs.declared.label.Label.{Label}
+use Rattle.evaluation.specs.declared.label.Reached.{Reached}
+use Rattle.evaluation.specs.declared.label.Reached.the-variants.{Served}
+use Rattle.heads.specs.declared.Head.{Head}
+
+-- the head of no visits: the van at the depot at time 0
+unfoldable pub atDepot : ℕ → Head
+atDepot depot = record { visits = 0; distance = zero64; label = atStart; place = depot }
+
+-- a walk goes on from the end of a head
+abbrev pub tourAt : Head → Tour Reached
+tourAt head = tourOf (head .distance) (Served (head .label)) (head .place)
+
+-- how far a head may go: nowhere with a break to take
+unfoldable pub shared : Rest → ℕ → ℕ
+shared NoBreak to = to
+shared (Break pause) to = 0
+
+-- the head, or the depot where it goes too far
+unfoldable pub nearest : Head → ℕ → ℕ → Head
+nearest head depot to = cond (ltb to (head .visits)) (atDepot depot) head
+
+-- the head is the walk over the list's first visits, all served; with a break to take it has none
+pub record Driven (c : Columns) (rest : Rest) (depot : ℕ) (list : List ℕ) (head : Head) : Type 0 where
+  pub few : head .visits ≤ length list
+  pub placed : head .place < c .l
+  pub same : walk c (tick c) (tourOf zero64 (Served atStart) depot) (take (head .visits) list) ≡ tourAt head
+  pub unbroken : (pause : VehicleBreak) → rest ≡ Break pause → head .visits ≡ 0
+
+-- what a list costs that ends with this label
+unfoldable pub endedCost : RouteLimits → Label → Float → Float → Float
+endedCost limits label distance back = cond (allows limits distance (label .time ⊕ back)) (distance ⊕ label .«lateness_cost») (inf false)
+
+-- what a list costs with no break to take, the visits behind its head given
+unfoldable pub costFrom : Columns → RouteLimits → ℕ → Head → List ℕ → Float
+costFrom c limits depot head others = costOf (evaluated limits (home c depot (walk c (tick c) (tourAt head) others)))
+
+-- the same, whether there is a break or not
+unfoldable pub priceBy : Rest → Columns → RouteLimits → ℕ → Head → List ℕ → Float
+priceBy NoBreak c limits depot head others = costFrom c limits depot head others
+priceBy (Break pause) c limits depot head others = effectiveCost c limits depot others
+
+-- the price of the list of a head and the visits behind it, or, with a break, of the whole list
+abbrev pub priceFrom : Columns → RouteLimits → ℕ → Head → List ℕ → Float
+priceFrom c limits depot head others = priceBy (limits .rest) c limits depot head others
