@@ -1,5 +1,5 @@
 -- A head driven once gives every list that shares it its price, because a walk over a list goes on from where its first part ended. Assumes nothing.
-use Prim.Native.Nat.{ℕ, suc, _+_, _<_, _≤_}
+use Prim.Native.Nat.{ℕ, _+_, _<_, _≤_}
 use native.Mathlib.Numerals.{add-one}
 use native.Mathlib.Omega.{arith}
 use borrow.Author.Tests.{ltb-false}
@@ -8,7 +8,7 @@ use mathlib.Core.Bool.{Bool, true, false, cond}
 use mathlib.Core.List.{List, [], _∷_, _++_}
 use lib.Dec.{ltb}
 use lib.ListN.{length, getD, take, drop, take-append-drop}
-use lib.Seq.{take-suc}
+use lib.Seq.{slice, take-suc, take-take, drop-append-le, length-take-le}
 use lib.Ieee.{Float, inf}
 use Rattle.numbers.specs.Operations.{_⊕_, zero64}
 use Rattle.day.specs.Vehicle.{allows}
@@ -27,7 +27,7 @@ use Rattle.evaluation.specs.declared.label.Reached.{Reached}
 use Rattle.evaluation.specs.declared.label.Reached.the-variants.{Served}
 use Rattle.evaluation.specs.declared.route.Evaluation.the-variants.{Fails, Passes}
 use Rattle.evaluation.specs.declared.schedule.Outcome.the-variants.{Impossible}
-use Rattle.heads.specs.Head.{atDepot, tourAt, shared, nearest, Driven, endedCost, costFrom, priceBy, priceFrom}
+use Rattle.heads.specs.Head.{atDepot, tourAt, shared, nearest, Driven, Drove, endedCost, costFrom, priceBy, priceFrom}
 use Rattle.heads.specs.declared.Head.{Head}
 
 -- ---- a head
@@ -58,31 +58,50 @@ unfolding shared
 few-shared NoBreak to = omega arith
 few-shared (Break pause) to = omega arith
 
--- where the loop starts
-pub start-driven : (c : Columns) (rest : Rest) (depot to end : ℕ) (list : List ℕ) (head start : Head) → depot < c .l → to ≤ length list →
-    Driven c rest depot list head → end ≡ shared rest to → start ≡ nearest head depot end →
-    (start .visits ≤ end) × (end ≤ length list) × (start .place < c .l)
-    × (walk c (tick c) (tourOf zero64 (Served atStart) depot) (take (start .visits) list) ≡ tourAt start)
-start-driven c rest depot to end list head start h t driven e f =
-    let near = nearest-driven c rest depot end list head h driven in
-    let few = few-shared rest to in
-    rw f (near .1, omega (arith, e), near .0 .placed, near .0 .same)
+-- ---- a drive
+
+-- a stretch with one visit more
+stretch-more : (list : List ℕ) (from i : ℕ) → from ≤ i → i < length list → slice from (i + 1) list ≡ slice from i list ++ (getD list i 0 ∷ [])
+stretch-more list from i h k =
+    rw (add-one i, take-suc list i 0 k) (drop-append-le from (take i list) (getD list i 0 ∷ []) (omega (arith, h, k, length-take-le i list (omega arith))))
 
 -- one visit more
-pub drive-turn : (c : Columns) (depot : ℕ) (list : List ℕ) (i : ℕ) (label next : Label) (distance x : Float) (place : ℕ) → i < length list →
-    walk c (tick c) (tourOf zero64 (Served atStart) depot) (take i list) ≡ tourOf distance (Served label) place →
+pub drive-turn : (c : Columns) (start : Tour Reached) (list : List ℕ) (from i : ℕ) (label next : Label) (distance x : Float) (place : ℕ) → from ≤ i →
+    i < length list → walk c (tick c) start (slice from i list) ≡ tourOf distance (Served label) place →
     x ≡ legIn c place (getD list i 0) → Served next ≡ tick c (Served label) place (getD list i 0) →
-    walk c (tick c) (tourOf zero64 (Served atStart) depot) (take (i + 1) list) ≡ tourOf (distance ⊕ x) (Served next) (getD list i 0)
-drive-turn c depot list i label next distance x place h so-far e f =
-    let start = tourOf zero64 (Served atStart) depot in
-    rw (add-one i, take-suc list i 0 h) (walk-on c (tick c) start (take i list) (getD list i 0 ∷ [])
-    ∙ ap (λ (t : Tour Reached). onward c (tick c) t (getD list i 0)) so-far ∙ rw (e, f))
+    walk c (tick c) start (slice from (i + 1) list) ≡ tourOf (distance ⊕ x) (Served next) (getD list i 0)
+drive-turn c start list from i label next distance x place g h so-far e f =
+    ap (walk c (tick c) start) (stretch-more list from i g h) ∙ walk-on c (tick c) start (slice from i list) (getD list i 0 ∷ [])
+    ∙ ap (λ (t : Tour Reached). onward c (tick c) t (getD list i 0)) so-far ∙ rw (e, f)
 
--- what the loop has driven so far is a head
-pub drives : {c : Columns} {rest : Rest} {depot : ℕ} {list : List ℕ} {head : Head} (end : ℕ) → (head .visits ≤ end) × (end ≤ length list) → head .place < c .l →
-    walk c (tick c) (tourOf zero64 (Served atStart) depot) (take (head .visits) list) ≡ tourAt head →
-    ((pause : VehicleBreak) → rest ≡ Break pause → end ≡ 0) → Driven c rest depot list head
-drives end h p e none = record { few = omega arith; placed = p; same = e; unbroken = λ pause f. let z = none pause f in omega (arith, h .0) }
+front-and-on : (list : List ℕ) (i k : ℕ) → i ≤ k → take i list ++ slice i k list ≡ take k list
+front-and-on list i k h = rw (← take-take i k list h) (take-append-drop i (take k list))
+
+-- a walk up to i, and on from there
+pub walk-further : (c : Columns) (start : Tour Reached) (list : List ℕ) (i k : ℕ) (t : Tour Reached) → i ≤ k →
+    walk c (tick c) start (take i list) ≡ t → walk c (tick c) start (take k list) ≡ walk c (tick c) t (slice i k list)
+walk-further c start list i k t h e =
+    ap (walk c (tick c) start) (sym (front-and-on list i k h))
+    ∙ walk-on c (tick c) start (take i list) (slice i k list)
+    ∙ ap (λ (u : Tour Reached). walk c (tick c) u (slice i k list)) e
+
+-- from the nearest start on, a head is driven
+pub drives-on : (c : Columns) (rest : Rest) (depot to end : ℕ) (list : List ℕ) (head start r : Head) → depot < c .l → to ≤ length list →
+    Driven c rest depot list head → end ≡ shared rest to → start ≡ nearest head depot end → Drove c start list (start .visits) end r →
+    Driven c rest depot list r × (r .visits ≤ to)
+drives-on c rest depot to end list head start r h t driven e f drove =
+    let near = nearest-driven c rest depot end list head h driven in
+    let start-driven : Driven c rest depot list start = rw f (near .0) in
+    let few = few-shared rest to in (
+      record {
+        few = omega (arith, drove .within, e, few, t);
+        placed = drove .placed;
+        same = walk-further c (tourOf zero64 (Served atStart) depot) list (start .visits) (r .visits) (tourAt start) (drove .behind) (start-driven .same)
+            ∙ drove .same;
+        unbroken = λ pause g. let none = none-shared rest to pause g in omega (arith, drove .within, e, none);
+      },
+      omega (arith, drove .within, e, few),
+    )
 
 -- ---- a price
 

@@ -4,7 +4,8 @@ use mathlib.Core.Path.{_≡_}
 use mathlib.Core.Bool.{false, cond}
 use mathlib.Core.List.{List}
 use lib.Dec.{ltb}
-use lib.ListN.{length, take}
+use lib.ListN.{length, getD, take}
+use lib.Seq.{slice}
 use lib.Ieee.{Float, inf}
 use Rattle.numbers.specs.Operations.{_⊕_, zero64}
 use Rattle.day.specs.Vehicle.{allows}
@@ -18,7 +19,7 @@ use Rattle.evaluation.specs.Label.{atStart}
 use Rattle.evaluation.specs.Route.{tick, home, evaluated, costOf, effectiveCost}
 use Rattle.evaluation.specs.declared.label.Label.{Label}
 use Rattle.evaluation.specs.declared.label.Reached.{Reached}
-use Rattle.evaluation.specs.declared.label.Reached.the-variants.{Served}
+use Rattle.evaluation.specs.declared.label.Reached.the-variants.{Missed, Served}
 use Rattle.heads.specs.declared.Head.{Head}
 
 -- the head of no visits: the van at the depot at time 0
@@ -44,6 +45,14 @@ pub record Driven (c : Columns) (rest : Rest) (depot : ℕ) (list : List ℕ) (h
   pub placed : head .place < c .l
   pub same : walk c (tick c) (tourOf zero64 (Served atStart) depot) (take (head .visits) list) ≡ tourAt head
   pub unbroken : (pause : VehicleBreak) → rest ≡ Break pause → head .visits ≡ 0
+
+-- driven on from a start over the visits of a list from `from` on: the drive ends at `to`, or before a visit that can't be served
+pub record Drove (c : Columns) (start : Head) (list : List ℕ) (from to : ℕ) (end : Head) : Type 0 where
+  pub behind : from ≤ end .visits
+  pub within : end .visits ≤ to
+  pub placed : end .place < c .l
+  pub same : walk c (tick c) (tourAt start) (slice from (end .visits) list) ≡ tourAt end
+  pub lost : end .visits < to → Missed ≡ tick c (Served (end .label)) (end .place) (getD list (end .visits) 0)
 
 -- what a list costs that ends with this label
 unfoldable pub endedCost : RouteLimits → Label → Float → Float → Float
