@@ -18,7 +18,8 @@ use Rattle.evaluation.specs.Columns.{Columns}
 use Rattle.descent.specs.Order.{range}
 use Rattle.fleet.specs.Fleet.{Fleet, Manned}
 use Rattle.cross_moves.specs.CrossDepot.{pairOf, sameDepot, planOf}
-use Rattle.cross_pairs.specs.Scan.{Two, Held, Paired, scan, bestBetween, bestOfPair, bestFrom, bestOf}
+use Rattle.cross_rows.specs.Row.{Two}
+use Rattle.cross_pairs.specs.Scan.{Held, Paired, scan, bestBetween, bestOfPair, bestFrom, bestOf}
 use Rattle.cross_moves.specs.declared.pair.Pair.{Pair}
 use Rattle.cross_pairs.specs.declared.search.Choice.{Choice}
 use Rattle.fleet.proofs.Numbered.{vehicle-driven}

@@ -15,9 +15,9 @@ use Rattle.edits.specs.Total.{total}
 use Rattle.evaluation.specs.Columns.{Visits}
 use Rattle.cross_moves.specs.Boxes.{boxesAt, Loaded, Prefixed}
 use Rattle.cross_moves.specs.CrossDepot.{holds, replaced}
-use Rattle.cross_pairs.specs.Scan.{Two}
+use Rattle.cross_rows.specs.Row.{Two}
 use Rattle.cross_pairs.proofs.Loads.{load-small, load-more, load-parts}
-use Rattle.cross_pairs.proofs.Stretch.{in-three, total-replaced}
+use Rattle.cross_rows.proofs.Stretch.{in-three, total-replaced}
 
 -- ---- the table is filled
 

@@ -1,4 +1,3 @@
 pub mod Loads
-pub mod Stretch
 pub mod Fitting
 pub mod Scanning

@@ -26,7 +26,7 @@ use Rattle.cross_moves.specs.declared.price.Price.the-variants.{Unallowed, Cost
 use Rattle.cross_moves.specs.declared.pair.Pair.{Pair}
 use Rattle.cross_moves.specs.declared.pair.Move.{Move}
 use Rattle.cross_pairs.specs.declared.search.Choice.{Choice}
-use Rattle.cross_pairs.proofs.Stretch.{allowed-over, allowed-held, allowed-untested}
+use Rattle.cross_rows.proofs.Stretch.{allowed-over, allowed-held, allowed-untested}
 use Rattle.cross_pairs.proofs.Fitting.{holds-anywhere}
 
 -- ---- a loop

@@ -40,12 +40,6 @@ pub record Paired (l : ℕ) (pair : Pair) : Type 0 where
   pub driven1 : Driven l (pair .van1)
   pub driven2 : Driven l (pair .van2)
 
--- of two lists of the tables
-pub record Two (l : ℕ) (X Y : List ℕ) : Type 0 where
-  pub one-below : (k : ℕ) → k < length X → getD X k 0 < l
-  pub other-below : (k : ℕ) → k < length Y → getD Y k 0 < l
-  pub few : length X + length Y ≤ 63
-
 -- of a move between two lists: its stretches lie in them
 pub record Stretches (X Y : List ℕ) (m : Move) : Type 0 where
   pub ordered1 : m .from1 ≤ m .to1

@@ -1,10 +1,10 @@
 // The best move between two lists of different depots (the inner loops of `best_move` of local_search/cross_depot.rs).
 use crate::price::fits;
 use crate::price::prefix_loads;
-use crate::price::replaced_price;
 use cross_moves::pair::Move;
 use cross_moves::pair::Pair;
 use cross_moves::price::Price;
+use cross_rows::price::replaced_price;
 use tests::both;
 ghost use mathlib.Core.Path.{_≡_};
 ghost use mathlib.Core.Bool.{true, false, _&&_};
@@ -16,7 +16,8 @@ ghost use Rattle.evaluation.specs.Columns.{columnsAt, Formed};
 ghost use Rattle.cross_moves.specs.declared.price.Price.the-variants.{Costs};
 ghost use Rattle.cross_moves.specs.Boxes.{Loaded, Prefixed};
 ghost use Rattle.cross_moves.specs.CrossDepot.{holds, pricedAs, allowed, replaced, relocation, stretchEnd, exchange, cuts, sameDepot, planOf};
-ghost use Rattle.cross_pairs.specs.Scan.{Asked, Paired, Two, Stretches, single, made1, made2};
+ghost use Rattle.cross_rows.specs.Row.{Two};
+ghost use Rattle.cross_pairs.specs.Scan.{Asked, Paired, Stretches, single, made1, made2};
 ghost use Rattle.cross_pairs.specs.Scan.{decided, price1, better, relocateRow, exchangeRow, bestRelocation};
 ghost use Rattle.cross_pairs.specs.Scan.{bestSwap, bestTails, bestExchange, bestBetween, Held, bestFrom, bestOf};
 ghost use Rattle.fleet.specs.Fleet.{fleetAt, Manned};

@@ -1,5 +1,5 @@
 -- `second_fits`: the same of the two lists, seen from the second.
-use Rattle.cross_pairs.proofs.Stretch.{two-turned}
+use Rattle.cross_rows.proofs.Stretch.{two-turned}
 use Rattle.cross_pairs.proofs.search.second_fits.Statement.{statement}
 use Rattle.cross_pairs.proofs.search.second_fits.Tie as tie
 

@@ -1,7 +1,7 @@
 -- `try_move`: without a second price the best stays, and with one it is the better of both.
 use borrow.Author.Needs.{needs}
 use mathlib.Core.Path.{refl}
-use Rattle.cross_pairs.proofs.Stretch.{two-turned}
+use Rattle.cross_rows.proofs.Stretch.{two-turned}
 use Rattle.cross_pairs.proofs.Scanning.{price2-held, better-not2, better-both}
 use Rattle.cross_pairs.proofs.search.try_move.Statement.{statement}
 use Rattle.cross_pairs.proofs.search.try_move.Tie as tie

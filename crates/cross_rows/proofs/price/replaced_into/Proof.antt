@@ -1,9 +1,9 @@
 -- `replaced_into`: the head, the other's stretch and the tail, one behind the other, are the list.
 use borrow.Author.Needs.{needs}
 use native.Mathlib.Omega.{arith}
-use Rattle.cross_pairs.proofs.Stretch.{built}
-use Rattle.cross_pairs.proofs.price.replaced_into.Statement.{statement}
-use Rattle.cross_pairs.proofs.price.replaced_into.Tie as tie
+use Rattle.cross_rows.proofs.Stretch.{built}
+use Rattle.cross_rows.proofs.price.replaced_into.Statement.{statement}
+use Rattle.cross_rows.proofs.price.replaced_into.Tie as tie
 
 append-stretch-requires : tie.Need-append-stretch-requires
 append-stretch-requires c κs = search needs

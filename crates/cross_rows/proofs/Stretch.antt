@@ -3,7 +3,7 @@
 use mathlib.Core.Path.{_≡_, refl, ap, _∙_}
 use mathlib.Core.Logic.{_≢_}
 use mathlib.Core.Bool.{Bool, true, false, cond, not, _||_}
-use mathlib.Core.List.{List, [], _∷_, _++_, append-assoc}
+use mathlib.Core.List.{List, [], _∷_, _++_}
 use Prim.Native.Nat.{ℕ, _+_, _-_, _≤_, _<_}
 use native.Mathlib.Omega.{arith}
 use borrow.Author.Tests.{lt-leb}
@@ -21,7 +21,7 @@ use Rattle.evaluation.specs.Route.{eval}
 use Rattle.evaluation.specs.declared.route.Evaluation.{Evaluation}
 use Rattle.descent.proofs.Below.{over, Below, below-at}
 use Rattle.cross_moves.specs.CrossDepot.{priceOf, pricedAs, holds, allowed, replaced}
-use Rattle.cross_pairs.specs.Scan.{Two}
+use Rattle.cross_rows.specs.Row.{Two}
 use Rattle.cross_moves.specs.declared.price.Price.{Price}
 use Rattle.cross_moves.specs.declared.price.Price.the-variants.{Unallowed, Costs}
 

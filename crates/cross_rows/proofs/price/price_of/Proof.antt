@@ -1,9 +1,8 @@
 -- `price_of`: one arm for each case.
 use borrow.Author.Needs.{needs}
-use mathlib.Core.Path.{ap, _∙_}
 use Rattle.cross_moves.specs.CrossDepot.{priceOf}
-use Rattle.cross_pairs.proofs.price.price_of.Statement.{statement}
-use Rattle.cross_pairs.proofs.price.price_of.Tie as tie
+use Rattle.cross_rows.proofs.price.price_of.Statement.{statement}
+use Rattle.cross_rows.proofs.price.price_of.Tie as tie
 
 enum-told : tie.Need-enum-told
 enum-told c = search needs

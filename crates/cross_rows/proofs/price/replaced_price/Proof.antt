@@ -2,9 +2,9 @@
 use borrow.Author.Needs.{needs}
 use mathlib.Core.Path.{ap, _∙_}
 use Rattle.cross_moves.specs.CrossDepot.{pricedAs}
-use Rattle.cross_pairs.proofs.Stretch.{front, visits-replaced}
-use Rattle.cross_pairs.proofs.price.replaced_price.Statement.{statement}
-use Rattle.cross_pairs.proofs.price.replaced_price.Tie as tie
+use Rattle.cross_rows.proofs.Stretch.{front, visits-replaced}
+use Rattle.cross_rows.proofs.price.replaced_price.Statement.{statement}
+use Rattle.cross_rows.proofs.price.replaced_price.Tie as tie
 
 slice-aggregate-replaced-into : tie.Need-slice-aggregate-replaced-into
 slice-aggregate-replaced-into c = search needs

@@ -1,9 +1,9 @@
 -- `priced`: an empty list costs nothing, another what its evaluation says.
 use borrow.Author.Needs.{needs}
 use lib.Ieee.{ofBits}
-use Rattle.cross_pairs.proofs.Stretch.{priced-none, priced-some}
-use Rattle.cross_pairs.proofs.price.priced.Statement.{statement}
-use Rattle.cross_pairs.proofs.price.priced.Tie as tie
+use Rattle.cross_rows.proofs.Stretch.{priced-none, priced-some}
+use Rattle.cross_rows.proofs.price.priced.Statement.{statement}
+use Rattle.cross_rows.proofs.price.priced.Tie as tie
 
 returns : tie.Need-returns
 unfolding ofBits

@@ -1,0 +1,78 @@
+-- A row of candidates between two lists: the list of each is one list with a stretch of the other in the place of its own, and from candidate to candidate
+-- the ends of the stretches stay or go on by one. For `row_costs` and who calls it. Assumes nothing.
+use mathlib.Core.Path.{_≡_}
+use mathlib.Core.Bool.{false, cond}
+use mathlib.Core.List.{List}
+use Prim.Native.Nat.{ℕ, _+_, _*_, _≤_, _<_}
+use lib.ListN.{length, getD}
+use lib.Seq.{slice}
+use lib.Ieee.{Float, nan, inf, lt}
+use Rattle.numbers.specs.Operations.{_⊕_}
+use Rattle.day.specs.Vehicle.{routeCost, limitsOf, allows}
+use Rattle.day.specs.declared.vehicle.Van.{Van}
+use Rattle.day.specs.declared.vehicle.RouteLimits.{RouteLimits}
+use Rattle.day.specs.declared.vehicle.Rest.the-variants.{NoBreak}
+use Rattle.evaluation.specs.Columns.{Columns}
+use Rattle.evaluation.specs.Walk.{walk}
+use Rattle.evaluation.specs.Route.{tick, home, evaluated}
+use Rattle.evaluation.specs.declared.label.Label.{Label}
+use Rattle.heads.specs.Head.{tourAt}
+use Rattle.heads.specs.declared.Head.{Head}
+use Rattle.cross_moves.specs.CrossDepot.{priceOf, pricedAs, amount, replaced}
+use Rattle.cross_moves.specs.declared.price.Price.{Price}
+use Rattle.cross_moves.specs.declared.price.Price.the-variants.{Unallowed, Costs}
+use Rattle.cross_rows.specs.declared.row.Stretch.{Stretch}
+
+-- of two lists of the tables
+pub record Two (l : ℕ) (X Y : List ℕ) : Type 0 where
+  pub one-below : (k : ℕ) → k < length X → getD X k 0 < l
+  pub other-below : (k : ℕ) → k < length Y → getD Y k 0 < l
+  pub few : length X + length Y ≤ 63
+
+-- where the stretch of candidate j begins
+abbrev pub fromAt : Stretch → ℕ → ℕ
+fromAt s j = s .from + j * s .«from_step»
+
+-- and where it ends
+abbrev pub toAt : Stretch → ℕ → ℕ
+toAt s j = s .to + j * s .«to_step»
+
+-- the list of candidate j
+abbrev pub changed : List ℕ → Stretch → List ℕ → Stretch → ℕ → List ℕ
+changed list own other others j = replaced list (fromAt own j) (toAt own j) (slice (fromAt others j) (toAt others j) other)
+
+-- what a list costs with its van, infinite where the van doesn't allow it; it isn't asked where the mark is infinite
+unfoldable pub costUnless : Columns → Van → Float → List ℕ → Float
+costUnless c van mark list = cond (lt mark (inf false)) (amount (pricedAs c van list)) (inf false)
+
+-- the costs of a row's candidates, each at its number
+abbrev pub Costed : Columns → Van → List ℕ → Stretch → List ℕ → Stretch → List Float → ℕ → List Float → Type 0
+Costed c van list own other others skip count costs =
+    (j : ℕ) → j < count → getD costs j nan ≡ costUnless c van (getD skip j nan) (changed list own other others j)
+
+-- what a caller shows of the stretches: the ends stay or go on by one, and lie in lists of n and m visits
+pub record Rowed (n m : ℕ) (own others : Stretch) (count : ℕ) : Type 0 where
+  pub own-steps : (own .«from_step» ≤ 1) × (own .«to_step» ≤ 1)
+  pub other-steps : (others .«from_step» ≤ 1) × (others .«to_step» ≤ 1)
+  pub few : count ≤ 64
+  pub ordered : (j : ℕ) → j < count → fromAt own j ≤ toAt own j
+  pub within : (j : ℕ) → j < count → toAt own j ≤ n
+  pub others-ordered : (j : ℕ) → j < count → fromAt others j ≤ toAt others j
+  pub others-within : (j : ℕ) → j < count → toAt others j ≤ m
+
+-- ---- with no break to take
+
+-- the van's limits, and no break among them
+pub record Unbroken (van : Van) (limits : RouteLimits) : Type 0 where
+  pub limits-are : limits ≡ limitsOf van
+  pub no-break : limits .rest ≡ NoBreak
+
+-- what a list costs that ends with this label
+unfoldable pub endedPrice : Van → RouteLimits → Label → Float → Float → Price
+endedPrice van limits label distance back =
+    cond (allows limits distance (label .time ⊕ back)) (Costs (routeCost van (distance ⊕ label .«lateness_cost»))) Unallowed
+
+-- what a list costs whose head is driven, with a part and then the tail behind it
+unfoldable pub priceOn : Columns → Van → RouteLimits → Head → List ℕ → List ℕ → Price
+priceOn c van limits head part tail =
+    priceOf van (evaluated limits (home c (van .depot) (walk c (tick c) (walk c (tick c) (tourAt head) part) tail)))
