@@ -8,9 +8,8 @@ use Rattle.descent.specs.Order.{range}
 use Rattle.fleet.specs.Fleet.{fleetOf}
 use Rattle.cross_pairs.specs.Scan.{scan, bestOfPair, bestFrom}
 use Rattle.cross_moves.specs.CrossDepot.{planOf}
-use Rattle.cross_pairs.proofs.Scanning.{scan-turn, scan-done}
 use Rattle.cross_depot.specs.Deltas.{Sunk, Kept}
-use Rattle.cross_depot.proofs.Pairs.{from-start}
+use Rattle.cross_depot.proofs.Pairs.{from-start, scan-turn, scan-done}
 use Rattle.cross_depot.proofs.Joining.{after-sunk}
 use Rattle.cross_depot.proofs.Keeping.{kept-at, table-turn, table-row}
 use Rattle.cross_depot.proofs.search.best_from.Statement.{statement}

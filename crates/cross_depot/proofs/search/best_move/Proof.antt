@@ -10,9 +10,8 @@ use Rattle.descent.specs.Order.{range}
 use Rattle.fleet.specs.Fleet.{fleetOf}
 use Rattle.cross_pairs.specs.Scan.{scan, bestFrom, bestOf, nothing}
 use Rattle.cross_moves.specs.CrossDepot.{planOf}
-use Rattle.cross_pairs.proofs.Scanning.{scan-turn, scan-done}
 use Rattle.cross_depot.specs.Deltas.{Sunk, Kept}
-use Rattle.cross_depot.proofs.Pairs.{all-start}
+use Rattle.cross_depot.proofs.Pairs.{all-start, scan-turn, scan-done}
 use Rattle.cross_depot.proofs.Joining.{from-sunk}
 use Rattle.cross_depot.proofs.Keeping.{kept-at, table-whole}
 use Rattle.cross_depot.proofs.search.best_move.Statement.{statement}
