@@ -110,7 +110,7 @@ module _ (c : Columns) (demand : List ℤ) (fleet : Fleet) (p : Plan) where
             ∙ sym (scan-append (betterIn c demand fleet p) (swaps a b (length X) (length Y)) (tailExchanges a b (length X) (length Y)) found)
         by-order false found = nothing-left found
 
-    all-of-pair : (best : Choice) → bestOfPair c demand fleet p a b best ≡ all (ofPair fleet p a b) best
+    pub all-of-pair : (best : Choice) → bestOfPair c demand fleet p a b best ≡ all (ofPair fleet p a b) best
     unfolding bestOfPair ofPair
     all-of-pair best = by-depot (sameDepot pair)
       where

@@ -4,7 +4,7 @@ use mathlib.Core.Path.{_≡_, refl, sym, ap, _∙_}
 use mathlib.Core.Bool.{true, false}
 use mathlib.Core.Option.{Option, none, some}
 use mathlib.Core.List.{List, [], _∷_, _++_}
-use Prim.Native.Nat.{ℕ, zero, suc, _+_, _-_, _≤_, _<_}
+use Prim.Native.Nat.{ℕ, zero, suc, _+_, _*_, _-_, _≤_, _<_}
 use native.Mathlib.Nat.{sub-zero}
 use native.Mathlib.Omega.{arith}
 use borrow.Author.Tests.{lt-ltb, ltb-true}
@@ -28,9 +28,11 @@ use Rattle.cross_moves.specs.CrossDepot.{Plan, afterMove, searchOf, judgeOf, ru
 use Rattle.cross_pairs.specs.Scan.{Held, moveOf}
 use Rattle.cross_changes.specs.Tables.{Made}
 use Rattle.cross_depot.specs.Tables.{MadeIn, Chosen, Handed, crossedOf}
+use Rattle.cross_depot.specs.Deltas.{Kept, keptOf}
 use Rattle.cross_moves.specs.declared.pair.Move.{Move}
 use Rattle.cross_pairs.specs.declared.search.Choice.{Choice}
 use Rattle.cross_depot.specs.declared.run.Crossed.{Crossed}
+use Rattle.cross_depot.proofs.Keeping.{kept-moved}
 
 -- a run's outcome behind some moves
 abbrev behind : {S : Type 0} → ℕ → Outcome S → Outcome S
@@ -307,6 +309,8 @@ module _ (c : Columns) (demand : List ℤ) (fleet : Fleet) (limit : ℕ) (first 
         → Going (next (searchOf c demand fleet) (judgeOf c demand fleet)) limit (record { now = first; ahead = [] }) (moves + 1)
         (record { now = planOf visits′ (take kept lengths′) (take kept ids′) (take kept costs′); ahead = [] })
         × Live l visits₀ visits′ lengths′ ids′ costs′ kept number
+        × (planOf visits′ (take kept lengths′) (take kept ids′) (take kept costs′)
+        ≡ afterMove (planOf visits (take n lengths) (take n ids) (take n costs)) (r .chosen) (r .cost1) (r .cost2))
     goes-on-made e room visits′ lengths′ ids′ costs′ kept made long-lengths long-ids long-costs =
         let many-lengths = length-take-le n lengths′ (omega (arith, long-lengths, live .few, live .many-lengths)) in
         let many-ids = length-take-le n ids′ (omega (arith, long-ids, live .few, live .many-ids)) in
@@ -320,10 +324,39 @@ module _ (c : Columns) (demand : List ℤ) (fleet : Fleet) (limit : ℕ) (first 
             → Going (next (searchOf c demand fleet) (judgeOf c demand fleet)) limit (record { now = first; ahead = [] }) (moves + 1)
             (record { now = planOf visits′ (take kept lengths″) (take kept ids″) (take kept costs″); ahead = [] })
             × Live l visits₀ visits′ lengths″ ids″ costs″ kept number
+            × (planOf visits′ (take kept lengths″) (take kept ids″) (take kept costs″)
+            ≡ afterMove (planOf visits (take n lengths) (take n ids) (take n costs)) (r .chosen) (r .cost1) (r .cost2))
         in-parts L I C many-L many-I many-C now lengths″ ids″ costs″ is-L is-I is-C = rw (is-L, is-I, is-C) (
           goes-on e room _ (plan-on l visits₀ visits lengths ids costs n number live _ _ _ _ visits′ L I C kept now many-L many-I many-C),
           live-on l visits₀ visits lengths ids costs n number live _ _ _ _ visits′ L I C kept now many-L many-I many-C,
+          plan-on l visits₀ visits lengths ids costs n number live _ _ _ _ visits′ L I C kept now many-L many-I many-C,
         )
+
+    -- and the table has what that move left as it was
+    pub still-kept : (floor : Float) (visits′ lengths′ ids′ : List ℕ) (costs′ : List Float) (left : ℕ) (deltas : List Float) (kept one other : ℕ)
+        → Live l visits₀ visits′ lengths′ ids′ costs′ left number
+        → planOf visits′ (take left lengths′) (take left ids′) (take left costs′)
+        ≡ afterMove (planOf visits (take n lengths) (take n ids) (take n costs)) (r .chosen) (r .cost1) (r .cost2)
+        → Kept c demand fleet (planOf visits (take (n - 0) (drop 0 lengths)) (take (n - 0) (drop 0 ids)) (take (n - 0) (drop 0 costs))) floor kept one other
+        (16 * length (take (n - 0) (drop 0 lengths))) deltas
+        → (after : ℕ) → after ≡ keptOf n left
+        → Kept c demand fleet (planOf visits′ (take left lengths′) (take left ids′) (take left costs′)) floor after (r .chosen .one) (r .chosen .other) 0 deltas
+    still-kept floor visits′ lengths′ ids′ costs′ left deltas kept one other on is right after kept-is =
+        let many = lists-now l visits₀ visits lengths ids costs n number live in
+        let many-lengths = length-take-le n lengths (omega (arith, live .few, live .many-lengths)) in
+        let many-ids = length-take-le n ids (omega (arith, live .few, live .many-ids)) in
+        let many-costs = length-take-le n costs (omega (arith, live .few, live .many-costs)) in
+        kept-moved c demand fleet (planOf visits (take n lengths) (take n ids) (take n costs)) floor (r .chosen) (r .cost1) (r .cost2)
+        (many-ids ∙ sym many) (many-costs ∙ sym many) n left kept one other deltas _ is many (omega (arith, many-lengths, live .held .laid .few))
+        (lists-now l visits₀ visits′ lengths′ ids′ costs′ left number on)
+        (rw (part n lengths, part n ids, part n costs, many-lengths) at right) after kept-is
+
+-- the table of the first n, lent
+pub kept-part : (c : Columns) (demand : List ℤ) (fleet : Fleet) (visits lengths ids : List ℕ) (costs : List Float) (floor : Float) (n kept one other k : ℕ)
+    (deltas : List Float) → Kept c demand fleet (planOf visits (take n lengths) (take n ids) (take n costs)) floor kept one other k deltas
+    → Kept c demand fleet (planOf visits (take (n - 0) (drop 0 lengths)) (take (n - 0) (drop 0 ids)) (take (n - 0) (drop 0 costs))) floor kept one other k
+    deltas
+kept-part c demand fleet visits lengths ids costs floor n kept one other k deltas h = rw (part n lengths, part n ids, part n costs) h
 
 -- the start of the loop
 pub begins : (c : Columns) (demand : List ℤ) (fleet : Fleet) (limit l : ℕ) (visits lengths ids : List ℕ) (costs : List Float) → Held l visits lengths

@@ -1,6 +1,8 @@
 pub mod Pairs
 pub mod Onward
 pub mod Choosing
+pub mod Joining
+pub mod Keeping
 pub mod Sound
 pub mod Going
 pub mod Starting

@@ -5,6 +5,7 @@ use mathlib.Core.Logic.{_≢_}
 use mathlib.Core.Bool.{Bool, true, false, false≢true}
 use mathlib.Core.List.{List, []}
 use Prim.Native.Nat.{ℕ, _+_, _≤_, _<_}
+use native.Mathlib.Numerals.{add-one}
 use native.Mathlib.Omega.{arith}
 use borrow.Author.Tests.{eq-eqb, ltb-true, ltb-false}
 use lib.Dec.{eqb, ltb}
@@ -16,6 +17,7 @@ use Rattle.lists.specs.Table.{lists, startOf, listOf}
 use Rattle.lists.proofs.Tables.{at-lists, length-lists, length-list, list-at, start-later, start-within}
 use Rattle.evaluation.specs.Columns.{Columns}
 use Rattle.descent.specs.Order.{range}
+use Rattle.descent.proofs.Loops.{range-step, range-done}
 use Rattle.fleet.specs.Fleet.{Fleet, Manned}
 use Rattle.cross_moves.specs.CrossDepot.{pairOf, sameDepot, planOf}
 use Rattle.cross_rows.specs.Row.{Two}
@@ -23,6 +25,19 @@ use Rattle.cross_pairs.specs.Scan.{Held, Paired, scan, bestBetween, bestOfPair,
 use Rattle.cross_moves.specs.declared.pair.Pair.{Pair}
 use Rattle.cross_pairs.specs.declared.search.Choice.{Choice}
 use Rattle.fleet.proofs.Numbered.{vehicle-driven}
+
+-- ---- a loop
+
+module _ {B : Type 0} (f : ℕ → B → B) (k n : ℕ) (b : B) where
+  pub scan-turn : (after : B) → k < n → after ≡ f k b → scan f (range (k + 1) n) after ≡ scan f (range k n) b
+  unfolding scan
+  scan-turn after h e = rw (add-one k, range-step k n h, e)
+
+  pub scan-done : n ≤ k → scan f (range k n) b ≡ b
+  unfolding scan
+  scan-done h = rw (range-done k n h)
+
+-- ---- two lists
 
 module _ (l : ℕ) (visits lengths : List ℕ) (held : Held l visits lengths) where
   below-of : (r k : ℕ) → k < length (listOf visits lengths r) → getD (listOf visits lengths r) k 0 < l

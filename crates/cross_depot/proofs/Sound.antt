@@ -6,7 +6,7 @@ use mathlib.Core.Option.{some}
 use mathlib.Core.List.{List, [], _++_, map}
 use Prim.Native.Nat.{ℕ, _+_, _≤_, _<_}
 use native.Mathlib.Omega.{arith}
-use lib.Dec.{ltb}
+use lib.Dec.{eqb, ltb}
 use lib.IntN.{ℤ}
 use lib.ListN.{length, getD}
 use lib.Ieee.{Float}
@@ -21,16 +21,35 @@ use Rattle.descent.specs.Search.{taken}
 use Rattle.descent.proofs.Members.{not-in, in-either, range-in, each-in, map-in}
 use Rattle.descent.proofs.Sweeps.{first-least-some}
 use Rattle.fleet.specs.Fleet.{Fleet}
-use Rattle.cross_moves.specs.CrossDepot.{Plan, relocation, exchange, cuts, relocations, swaps, tailExchanges, pairOf, sameDepot, planOf}
+use Rattle.cross_moves.specs.CrossDepot.{Plan, relocation, stretchEnd, exchange, cuts, relocations, swaps, tailExchanges, pairOf, sameDepot, planOf}
 use Rattle.cross_moves.specs.CrossDepot.{betweenLists, ofPair, moves, moved, searchOf, judgeOf}
-use Rattle.cross_pairs.specs.Scan.{nothing, moveOf, bestOf, single}
+use Rattle.cross_pairs.specs.Scan.{nothing, moveOf, bestOf}
 use Rattle.cross_changes.specs.Tables.{Makes}
 use Rattle.cross_depot.specs.Tables.{Chosen}
 use Rattle.cross_moves.specs.declared.pair.Move.{Move}
 use Rattle.cross_pairs.specs.declared.search.Choice.{Choice}
-use Rattle.cross_pairs.proofs.Scanning.{stretch-within, cuts-few}
 use Rattle.cross_depot.proofs.Pairs.{depots-apart}
 use Rattle.cross_depot.proofs.Choosing.{chosen}
+
+-- ---- stretches and cuts
+
+-- a visit of a swap takes one place of a list, a cut none
+abbrev single : Bool → ℕ
+single true = 0
+single false = 1
+
+stretch-within : (tails : Bool) (n k end : ℕ) → end ≡ stretchEnd tails n k → k + single tails ≤ n → (k ≤ end) × (end ≤ n)
+stretch-within true n k end e h = (omega arith, omega arith)
+stretch-within false n k end e h = (omega arith, omega arith)
+
+cuts-few : (n1 n2 k : ℕ) → cuts n1 n2 k ≤ n2 + 1
+cuts-few n1 n2 k = by-test (eqb k n1)
+  where
+    by-test : (b : Bool) → cond b n2 (n2 + 1) ≤ n2 + 1
+    by-test true = omega arith
+    by-test false = omega arith
+
+-- ---- moves
 
 -- the loads of both lists are tested, or the first takes nothing in the place of its stretch
 abbrev pub TestedOrLess : Move → Type 0

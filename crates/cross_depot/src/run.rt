@@ -3,14 +3,13 @@
 use crate::search::best_move;
 use crate::start::start;
 use cross_changes::make_move;
-use cross_moves::pair::Move;
 use cross_pairs::search::Choice;
 use day::matrix::scale;
 use engine::Ended;
 use numbers::gain_floor;
 use tests::either;
 ghost use mathlib.Core.Path.{_≡_};
-ghost use Prim.Native.Nat.{_≤_};
+ghost use Prim.Native.Nat.{_*_, _≤_};
 ghost use lib.ListN.{length, take};
 ghost use Rattle.numbers.specs.Floor.{gainFloor};
 ghost use Rattle.day.specs.Matrix.{scaleOf};
@@ -19,36 +18,15 @@ ghost use Rattle.lists.specs.Table.{lists};
 ghost use Rattle.evaluation.specs.Columns.{columnsAt};
 ghost use Rattle.fleet.specs.Fleet.{fleetAt, Crewed, Manned};
 ghost use Rattle.cross_moves.specs.CrossDepot.{lentPlan, runOf, ranOf, crossRan, Carried, planOf};
-ghost use Rattle.cross_pairs.specs.Scan.{Asked, Held, nothing};
+ghost use Rattle.cross_pairs.specs.Scan.{Asked, Held};
 ghost use Rattle.cross_changes.specs.Tables.{Makes};
+ghost use Rattle.cross_depot.specs.Deltas.{Kept, keptOf};
 ghost use Rattle.cross_depot.specs.Tables.{MadeIn, Chosen, Handed, crossedOf};
 
 // How a run ended, and how many lists remain.
 pub struct Crossed {
     pub ended: Ended,
     pub lists: usize,
-}
-
-// No move so far.
-fn no_choice(floor: f64) -> Choice
-    ensures { λ r. ⌜ r ≡ nothing floor ⌝ }
-{
-    let none = Move {
-        one: 0,
-        from1: 0,
-        to1: 0,
-        other: 0,
-        from2: 0,
-        to2: 0,
-        tested: false,
-    };
-    Choice {
-        found: false,
-        chosen: none,
-        delta: -floor,
-        cost1: 0.0,
-        cost2: 0.0,
-    }
 }
 
 // The move to make.
@@ -78,11 +56,24 @@ fn next_move(
     lengths: &[u16],
     ids: &[u32],
     costs: &[f64],
+    kept: usize,
+    one: usize,
+    other: usize,
+    deltas: &mut [f64],
+    sums: &mut [usize],
+    heads: &mut [f64],
+    tried_costs: &mut [f64],
 ) -> Choice
     requires { ⌜ Asked (columnsAt l flags service ready due penalty distances times) (now demand) × (floor ≡ gainFloor (scaleOf (now distances))) ⌝ }
     requires { ⌜ Manned l (fleetAt «van_ids» depots capacities «distance_costs» «fixed_costs» «van_flags» «max_distances» «max_durations»
         earliest latest durations) ⌝ }
     requires { ⌜ Held l (now visits) (now lengths) × (length (now ids) ≡ length (now lengths)) × (length (now costs) ≡ length (now lengths)) ⌝ }
+    requires { ⌜ (length (now sums) ≡ 256) × (length (now heads) ≡ 1024) × (length (now «tried_costs») ≡ 192) ⌝ }
+    requires { ⌜ length (now deltas) ≡ 256 ⌝ }
+    requires { ⌜ Kept
+        (columnsAt l flags service ready due penalty distances times) (now demand)
+        (fleetAt «van_ids» depots capacities «distance_costs» «fixed_costs» «van_flags» «max_distances» «max_durations» earliest latest durations)
+        (planOf (now visits) (now lengths) (now ids) (now costs)) floor kept one other 0 (now deltas) ⌝ }
     ensures { λ r.
         ⌜ Chosen
         (columnsAt l (flags .entry) (service .entry) (ready .entry) (due .entry) (penalty .entry) (distances .entry) (times .entry))
@@ -90,6 +81,14 @@ fn next_move(
         (fleetAt («van_ids» .entry) (depots .entry) (capacities .entry) («distance_costs» .entry) («fixed_costs» .entry) («van_flags» .entry)
         («max_distances» .entry) («max_durations» .entry) (earliest .entry) (latest .entry) (durations .entry))
         (now (visits .entry)) (now (lengths .entry)) (now (ids .entry)) (now (costs .entry)) r ⌝ }
+    ensures { λ _.
+        ⌜ Kept
+        (columnsAt l (flags .entry) (service .entry) (ready .entry) (due .entry) (penalty .entry) (distances .entry) (times .entry))
+        (now (demand .entry))
+        (fleetAt («van_ids» .entry) (depots .entry) (capacities .entry) («distance_costs» .entry) («fixed_costs» .entry) («van_flags» .entry)
+        («max_distances» .entry) («max_durations» .entry) (earliest .entry) (latest .entry) (durations .entry))
+        (planOf (now (visits .entry)) (now (lengths .entry)) (now (ids .entry)) (now (costs .entry))) floor
+        kept one other (16 * length (now (lengths .entry))) (now (deltas .exit)) ⌝ }
 {
     best_move(
         l,
@@ -112,11 +111,18 @@ fn next_move(
         earliest,
         latest,
         durations,
+        floor,
         visits,
         lengths,
         ids,
         costs,
-        no_choice(floor),
+        kept,
+        one,
+        other,
+        deltas,
+        sums,
+        heads,
+        tried_costs,
     )
 }
 
@@ -153,6 +159,16 @@ fn make_best(
     )
 }
 
+// How many of the first lists are as they were after a move, but for its two: all n where none was dropped, else none, since the numbers shift.
+fn kept_of(n: usize, left: usize) -> usize
+    ensures { λ r. ⌜ r ≡ keptOf n left ⌝ }
+{
+    if left == n {
+        return n;
+    }
+    0
+}
+
 // Makes move after move until none is left or the limit is used up. The first n lists of the tables are the plan's.
 fn descend(
     l: usize,
@@ -181,11 +197,17 @@ fn descend(
     ids: &mut [u32],
     costs: &mut [f64],
     limit: u32,
+    deltas: &mut [f64],
+    sums: &mut [usize],
+    heads: &mut [f64],
+    tried_costs: &mut [f64],
 ) -> Crossed
     requires { ⌜ Asked (columnsAt l flags service ready due penalty distances times) (now demand) × (floor ≡ gainFloor (scaleOf (now distances))) ⌝ }
     requires { ⌜ Manned l (fleetAt «van_ids» depots capacities «distance_costs» «fixed_costs» «van_flags» «max_distances» «max_durations»
         earliest latest durations) ⌝ }
     requires { ⌜ Held l (now visits) (now lengths) × (length (now ids) ≡ length (now lengths)) × (length (now costs) ≡ length (now lengths)) ⌝ }
+    requires { ⌜ (length (now sums) ≡ 256) × (length (now heads) ≡ 1024) × (length (now «tried_costs») ≡ 192) ⌝ }
+    requires { ⌜ length (now deltas) ≡ 256 ⌝ }
     ensures { λ r.
         ⌜ (let ran = ranOf (runOf
         (columnsAt l (flags .entry) (service .entry) (ready .entry) (due .entry) (penalty .entry) (distances .entry) (times .entry))
@@ -199,6 +221,9 @@ fn descend(
 {
     let mut n = lengths.len();
     let mut moves = 0;
+    let mut kept = 0;
+    let mut one = 0;
+    let mut other = 0;
     loop {
         let best = next_move(
             l,
@@ -226,6 +251,13 @@ fn descend(
             &lengths[0..n],
             &ids[0..n],
             &costs[0..n],
+            kept,
+            one,
+            other,
+            deltas,
+            sums,
+            heads,
+            tried_costs,
         );
         if !best.found {
             return ended_with(Ended::Settled(moves), n);
@@ -233,7 +265,11 @@ fn descend(
         if limit <= moves {
             return ended_with(Ended::Stopped(moves), n);
         }
-        n = make_best(visits, lengths, ids, costs, n, best);
+        let left = make_best(visits, lengths, ids, costs, n, best);
+        kept = kept_of(n, left);
+        one = best.chosen.one;
+        other = best.chosen.other;
+        n = left;
         moves += 1;
     }
 }
@@ -299,6 +335,10 @@ fn descend_from(
         prices,
         costs,
     );
+    let mut deltas = [0.0; 256];
+    let mut sums = [0usize; 256];
+    let mut heads = [0.0; 1024];
+    let mut tried_costs = [0.0; 192];
     descend(
         l,
         flags,
@@ -326,6 +366,10 @@ fn descend_from(
         ids,
         costs,
         limit,
+        &mut deltas,
+        &mut sums,
+        &mut heads,
+        &mut tried_costs,
     )
 }
 

@@ -1,6 +1,6 @@
 -- `descend_from`: after the start the tables hold the plan that is lent.
 use borrow.Author.Needs.{needs}
-use mathlib.Core.Path.{sym, ap, _∙_}
+use mathlib.Core.Path.{refl, sym, ap, _∙_}
 use native.Mathlib.Omega.{arith}
 use Rattle.numbers.specs.Floor.{gainFloor}
 use Rattle.cross_depot.proofs.run.descend_from.Statement.{statement}
@@ -23,9 +23,21 @@ scale-requires c κs = search needs
 gain-floor-requires : tie.Need-gain-floor-requires
 gain-floor-requires c κs = search needs
 
+slice-aggregate-descend : tie.Need-slice-aggregate-descend
+slice-aggregate-descend c = search needs
+
+slice-aggregate-descend-2 : tie.Need-slice-aggregate-descend-2
+slice-aggregate-descend-2 c = search needs
+
+slice-aggregate-descend-3 : tie.Need-slice-aggregate-descend-3
+slice-aggregate-descend-3 c = search needs
+
+slice-aggregate-descend-4 : tie.Need-slice-aggregate-descend-4
+slice-aggregate-descend-4 c = search needs
+
 descend-requires : tie.Need-descend-requires
 descend-requires c κs =
-    let at-gain-floor = c .before .before .before .before in
+    let at-gain-floor = c .before .before .before .before .before .before .before .before in
     let at-scale = at-gain-floor .before in
     let at-start = at-scale .before .before .before .before .before in
     let further = at-start .before .before .before .before .before .before .before .before .before .before .before .before .before .before .before in
@@ -33,7 +45,7 @@ descend-requires c κs =
     let many-ids = at-start .start .kept .1 .1 .1 .1 .1 .1 .1 .1 .1 .1 .1 .0 ∙ start .pre .1 .1 .0 .1 in
     let many-costs = at-start .start .kept .1 .1 .1 .1 .1 .1 .1 .1 .1 .1 .1 .1 .1 .0 ∙ start .pre .1 .1 .1 in
     let floor = at-gain-floor .gain-floor .ensures ∙ ap gainFloor (at-scale .scale .ensures) in
-    ((start .pre .0, floor), (start .pre .1 .0, (start .pre .1 .1 .0 .0, many-ids, many-costs)))
+    ((start .pre .0, floor), (start .pre .1 .0, ((start .pre .1 .1 .0 .0, many-ids, many-costs), ((refl, refl, refl), refl))))
 
 same-length : tie.Need-same-length
 same-length c = search needs
@@ -49,8 +61,8 @@ same-length-4 c = search needs
 
 returns : tie.Need-returns
 returns c =
-    let at-descend = c .before .before .before .before .before .before .before .before in
-    let at-start = at-descend .before .before .before .before .before .before .before .before .before .before .before in
+    let at-descend = c .before .before .before .before .before .before .before .before .before .before .before .before in
+    let at-start = at-descend .before .before .before .before .before .before .before .before .before .before .before .before .before .before .before in
     rw (at-start .start .ensures .0, at-start .start .ensures .1) at (at-descend .descend .ensures)
 
 pub descend-from-spec : {M : Type 1} → statement M
@@ -60,6 +72,10 @@ descend-from-spec =
     start-requires
     scale-requires
     gain-floor-requires
+    slice-aggregate-descend
+    slice-aggregate-descend-2
+    slice-aggregate-descend-3
+    slice-aggregate-descend-4
     descend-requires
     same-length
     same-length-2

@@ -1,7 +1,6 @@
--- `best_from`: before each second list, the scan from here on comes to the scan over all of them.
-use borrow.Author.Needs.{needs}
+-- `best_from`: before each second list, the scan from here on comes to the scan over all of them, and the table has the pairs before.
 use mathlib.Core.Path.{_≡_, sym, _∙_}
-use Prim.Native.Nat.{_-_}
+use Prim.Native.Nat.{_+_, _*_, _-_}
 use native.Mathlib.Omega.{arith}
 use lib.ListN.{length}
 use Rattle.evaluation.specs.Columns.{columns}
@@ -9,123 +8,129 @@ use Rattle.descent.specs.Order.{range}
 use Rattle.fleet.specs.Fleet.{fleetOf}
 use Rattle.cross_pairs.specs.Scan.{scan, bestOfPair, bestFrom}
 use Rattle.cross_moves.specs.CrossDepot.{planOf}
-use Rattle.cross_pairs.proofs.Scanning.{scan-turn, scan-done}
-use Rattle.cross_depot.proofs.Pairs.{two-of, pair-driven, from-start, pair-same, pair-apart, pair-other}
+use Rattle.cross_depot.specs.Deltas.{Sunk, Kept}
+use Rattle.cross_depot.proofs.Pairs.{from-start, scan-turn, scan-done}
+use Rattle.cross_depot.proofs.Joining.{after-sunk}
+use Rattle.cross_depot.proofs.Keeping.{kept-at, table-turn, table-row}
 use Rattle.cross_depot.proofs.search.best_from.Statement.{statement}
 use Rattle.cross_depot.proofs.search.best_from.Tie as tie
 
 abbrev Inv-loop : tie.InvT-loop
 Inv-loop l flags demand service ready due penalty distances times van-ids depots capacities distance-costs fixed-costs van-flags max-distances
-    max-durations earliest latest durations visits lengths ids costs a found₀ next₀ found next =
-    scan (bestOfPair (columns l flags service ready due penalty distances times) demand
+    max-durations earliest latest durations floor visits lengths ids costs kept one other a deltas₀ sums₀ heads₀ tried-costs₀ found₀ b₀ deltas sums heads
+    tried-costs found b =
+    (scan (bestOfPair (columns l flags service ready due penalty distances times) demand
     (fleetOf van-ids depots capacities distance-costs fixed-costs van-flags max-distances max-durations earliest latest durations)
-    (planOf visits lengths ids costs) a) (range next (length lengths)) found
+    (planOf visits lengths ids costs) a) (range b (length lengths)) found
     ≡ bestFrom (columns l flags service ready due penalty distances times) demand
     (fleetOf van-ids depots capacities distance-costs fixed-costs van-flags max-distances max-durations earliest latest durations)
-    (planOf visits lengths ids costs) a found₀
+    (planOf visits lengths ids costs) a found₀)
+    × Sunk floor found
+    × Kept (columns l flags service ready due penalty distances times) demand
+    (fleetOf van-ids depots capacities distance-costs fixed-costs van-flags max-distances max-durations earliest latest durations)
+    (planOf visits lengths ids costs) floor kept one other (16 * a + b) deltas
+    × (length deltas ≡ 256) × (length sums ≡ 256) × (length heads ≡ 1024) × (length tried-costs ≡ 192)
 
 abbrev μ-loop : tie.MeasureT-loop
 μ-loop l flags demand service ready due penalty distances times van-ids depots capacities distance-costs fixed-costs van-flags max-distances
-    max-durations earliest latest durations visits lengths ids costs a found₀ next₀ found next =
-    length lengths - next
+    max-durations earliest latest durations floor visits lengths ids costs kept one other a deltas₀ sums₀ heads₀ tried-costs₀ found₀ b₀ deltas sums heads
+    tried-costs found b =
+    length lengths - b
 
 loop-holds : tie.Need-loop-holds Inv-loop μ-loop
-loop-holds c = from-start _ _ _ _ _ _ _ _ _
+loop-holds c =
+    let further = c .before .before .before .before .before .before .before .before .before .before .before .before .before .before .before in
+    let start = further .before .before .before .before .before .before .before .before .before .before in (
+      from-start _ _ _ _ _ _ _ _ _,
+      start .pre .1 .1 .1 .1 .1 .0 .1,
+      kept-at _ _ _ _ _ _ _ _ _ _ _ (omega arith) (start .pre .1 .1 .1 .1 .1 .1),
+      start .pre .1 .1 .1 .1 .1 .0 .0,
+      start .pre .1 .1 .1 .1 .0 .0,
+      start .pre .1 .1 .1 .1 .0 .1,
+      start .pre .1 .1 .1 .1 .0 .2,
+    )
 
-add-next : tie.Need-add-next Inv-loop μ-loop
-add-next c =
-    let nearer = c .before .before .before .before .before .before .before .before .before .before .before .before in
-    let further = nearer .before .before .before .before .before .before .before .before in
-    let start = further .before .before .before in
-    omega (arith, c .loop-test .taken, start .pre .1 .1 .0 .0 .laid .few)
-
-pair-at-requires : tie.Need-pair-at-requires Inv-loop μ-loop
-pair-at-requires c κs =
-    let nearer = c .before .before .before .before .before .before .before .before .before .before .before .before in
-    let further = nearer .before .before .before .before .before .before .before .before in
-    let start = further .before .before .before in (
-      start .pre .1 .0 .crewed .fitted,
+after-pair-requires : tie.Need-after-pair-requires Inv-loop μ-loop
+after-pair-requires c κs =
+    let at-loop-test = c .before .before .before .before in
+    let at-loop = at-loop-test .before in
+    let further = at-loop .before .before .before .before .before .before .before .before .before .before .before .before .before .before .before in
+    let start = further .before .before .before .before .before .before .before .before .before .before .before in (
+      start .pre .0,
       (
-        (start .pre .1 .0 .some-van, start .pre .1 .0 .crewed .few),
+        start .pre .1 .0,
         (
-          omega (arith, start .pre .1 .1 .1, start .pre .1 .1 .0 .1),
-          omega (arith, c .loop-test .taken, start .pre .1 .1 .0 .1),
-          omega (arith, start .pre .1 .1 .0 .1, start .pre .1 .1 .0 .2),
-          omega (arith, start .pre .1 .1 .0 .1, start .pre .1 .1 .0 .0 .laid .few),
+          start .pre .1 .1 .0,
+          (
+            (start .pre .1 .1 .1 .0, at-loop-test .loop-test .taken),
+            ((at-loop .loop .inv .4, at-loop .loop .inv .5, at-loop .loop .inv .6), ((at-loop .loop .inv .3, at-loop .loop .inv .1), at-loop .loop .inv .2)),
+          ),
         ),
       ),
     )
 
-is-same-depot-requires : tie.Need-is-same-depot-requires Inv-loop μ-loop
-is-same-depot-requires c κs = search needs
+add-b : tie.Need-add-b Inv-loop μ-loop
+add-b c =
+    let at-loop-test = c .before .before .before .before .before .before .before .before .before .before .before .before .before in
+    let further = at-loop-test .before .before .before .before .before .before .before .before .before .before .before .before .before .before .before in
+    let start = further .before .before .before .before .before .before .before .before .before .before .before .before in
+    omega (arith, at-loop-test .loop-test .taken, start .pre .1 .1 .0 .0 .laid .few)
 
 loop-less : tie.Need-loop-less Inv-loop μ-loop
 loop-less c =
-    let at-loop-test = c .before .before .before in
+    let at-loop-test = c .before .before .before .before .before .before .before .before .before .before .before .before .before in
     omega (arith, at-loop-test .loop-test .taken)
 
 loop-again : tie.Need-loop-again Inv-loop μ-loop
 loop-again c =
-    let at-is-same-depot = c .before in
-    let at-pair-at = at-is-same-depot .before in
-    let at-loop-test = at-pair-at .before in
+    let at-after-pair = c .before .before .before .before .before .before .before .before in
+    let at-loop-test = at-after-pair .before .before .before .before .before in
     let at-loop = at-loop-test .before in
-    scan-turn _ _ _ _ _ (at-loop-test .loop-test .taken) (pair-same _ _ _ _ _ _ _ _ _ _ _ (at-pair-at .pair-at .ensures) _
-    (at-is-same-depot .is-same-depot .ensures) (c .if1 .taken))
-    ∙ at-loop .loop .inv
-
-list-of-requires : tie.Need-list-of-requires Inv-loop μ-loop
-list-of-requires c κs =
-    let nearer = c .before .before .before .before .before .before .before .before .before .before .before .before in
-    let further = nearer .before .before .before .before .before .before .before .before in
-    let start = further .before .before .before .before .before .before in
-    (start .pre .1 .1 .0 .0 .laid, start .pre .1 .1 .1)
-
-list-of-requires-2 : tie.Need-list-of-requires-2 Inv-loop μ-loop
-list-of-requires-2 c κs =
-    let at-loop-test = c .before .before .before .before in
-    let nearer = at-loop-test .before .before .before .before .before .before .before .before .before .before .before .before in
-    let further = nearer .before .before .before .before .before .before .before .before in
-    let start = further .before .before .before in
-    (start .pre .1 .1 .0 .0 .laid, at-loop-test .loop-test .taken)
-
-between-lists-requires : tie.Need-between-lists-requires Inv-loop μ-loop
-between-lists-requires c κs =
-    let at-list-of = c .before in
-    let at-if1 = at-list-of .before in
-    let at-is-same-depot = at-if1 .before in
-    let at-pair-at = at-is-same-depot .before in
-    let nearer = at-pair-at .before .before .before .before .before .before .before .before .before .before .before .before in
-    let further = nearer .before .before .before .before .before .before .before .before in
-    let start = further .before .before .before .before in
-    let apart = pair-apart _ _ _ _ _ _ (at-pair-at .pair-at .ensures) _ (at-is-same-depot .is-same-depot .ensures) (at-if1 .if1 .left) in (
-      start .pre .0,
-      rw (at-pair-at .pair-at .ensures) (pair-driven _ _ _ _ _ _ (start .pre .1 .0)),
-      rw (at-list-of .list-of .ensures, c .list-of2 .ensures) (two-of _ _ _ (start .pre .1 .1 .0 .0) _ _ apart),
+    let further = at-loop .before .before .before .before .before .before .before .before .before .before .before .before .before .before .before in
+    let start = further .before .before .before .before .before .before .before .before .before .before .before in
+    let kept = at-after-pair .after-pair .kept .1 .1 .1 .1 .1 .1 .1 .1 .1 .1 .1 .1 .1 .1 .1 .1 .1 .1 .1 .1 .1 .1 .1 .1 .1 .1 .1 .1 .1 .1 .1 in (
+      scan-turn _ _ _ _ _ (at-loop-test .loop-test .taken) (at-after-pair .after-pair .ensures .0) ∙ at-loop .loop .inv .0,
+      after-sunk _ _ _ _ _ _ _ _ (at-loop .loop .inv .1) _ (at-after-pair .after-pair .ensures .0),
+      table-turn _ _ _ _ _ _ _ _ _ _ _ (start .pre .1 .1 .0 .0 .laid .few) _ _ (start .pre .1 .1 .1 .0) (at-loop-test .loop-test .taken) _
+          (at-loop .loop .inv .3) (at-loop .loop .inv .2) _ (at-after-pair .after-pair .ensures .1),
+      kept .0 ∙ at-loop .loop .inv .3,
+      kept .1 .0 ∙ at-loop .loop .inv .4,
+      kept .1 .1 .0 ∙ at-loop .loop .inv .5,
+      kept .1 .1 .1 .0 ∙ at-loop .loop .inv .6,
     )
 
-loop-less-2 : tie.Need-loop-less-2 Inv-loop μ-loop
-loop-less-2 c =
-    let at-loop-test = c .before .before .before .before .before .before in
-    omega (arith, at-loop-test .loop-test .taken)
+same-length : tie.Need-same-length Inv-loop μ-loop
+same-length c =
+    let further = c .before .before .before .before .before .before .before .before .before .before .before .before .before .before .before in
+    let start = further .before .before .before .before .before .before .before .before .before .before .before .before in
+    c .before .loop .inv .3 ∙ sym (start .pre .1 .1 .1 .1 .1 .0 .0)
 
-loop-again-2 : tie.Need-loop-again-2 Inv-loop μ-loop
-loop-again-2 c =
-    let at-list-of2 = c .before in
-    let at-list-of = at-list-of2 .before in
-    let at-if1 = at-list-of .before in
-    let at-is-same-depot = at-if1 .before in
-    let at-pair-at = at-is-same-depot .before in
-    let at-loop-test = at-pair-at .before in
-    let at-loop = at-loop-test .before in
-    scan-turn _ _ _ _ _ (at-loop-test .loop-test .taken) (pair-other _ _ _ _ _ _ _ _ _ _ _ (at-pair-at .pair-at .ensures) _
-    (at-is-same-depot .is-same-depot .ensures) _ _ _ (at-if1 .if1 .left)
-    (at-list-of .list-of .ensures) (at-list-of2 .list-of2 .ensures) (c .between-lists .ensures)) ∙ at-loop .loop .inv
+same-length-2 : tie.Need-same-length-2 Inv-loop μ-loop
+same-length-2 c =
+    let further = c .before .before .before .before .before .before .before .before .before .before .before .before .before .before .before in
+    let start = further .before .before .before .before .before .before .before .before .before .before .before .before in
+    c .before .loop .inv .4 ∙ sym (start .pre .1 .1 .1 .1 .0 .0)
+
+same-length-3 : tie.Need-same-length-3 Inv-loop μ-loop
+same-length-3 c =
+    let further = c .before .before .before .before .before .before .before .before .before .before .before .before .before .before .before in
+    let start = further .before .before .before .before .before .before .before .before .before .before .before .before in
+    c .before .loop .inv .5 ∙ sym (start .pre .1 .1 .1 .1 .0 .1)
+
+same-length-4 : tie.Need-same-length-4 Inv-loop μ-loop
+same-length-4 c =
+    let further = c .before .before .before .before .before .before .before .before .before .before .before .before .before .before .before in
+    let start = further .before .before .before .before .before .before .before .before .before .before .before .before in
+    c .before .loop .inv .6 ∙ sym (start .pre .1 .1 .1 .1 .0 .2)
 
 returns : tie.Need-returns Inv-loop μ-loop
 returns c =
     let at-loop = c .before in
-    sym (scan-done _ _ _ _ (c .loop-test .left)) ∙ at-loop .loop .inv
+    let further = at-loop .before .before .before .before .before .before .before .before .before .before .before .before .before .before .before in
+    let start = further .before .before .before .before .before .before .before .before .before .before .before in (
+      sym (scan-done _ _ _ _ (c .loop-test .left)) ∙ at-loop .loop .inv .0,
+      table-row _ _ _ _ _ _ _ _ _ _ _ (start .pre .1 .1 .0 .0 .laid .few) _ _ _ (c .loop-test .left) (at-loop .loop .inv .2),
+    )
 
 pub best-from-spec : {M : Type 1} → statement M
 best-from-spec =
@@ -134,14 +139,12 @@ best-from-spec =
     Inv-loop
     μ-loop
     loop-holds
-    add-next
-    pair-at-requires
-    is-same-depot-requires
+    after-pair-requires
+    add-b
     loop-less
     loop-again
-    list-of-requires
-    list-of-requires-2
-    between-lists-requires
-    loop-less-2
-    loop-again-2
+    same-length
+    same-length-2
+    same-length-3
+    same-length-4
     returns)
