@@ -145,6 +145,9 @@ fn best_of_pair(
         pair,
         one,
         other,
+        sums,
+        heads,
+        tried_costs,
         best,
     )
 }

@@ -1,3 +1,6 @@
 pub mod Loads
 pub mod Fitting
-pub mod Scanning
+pub mod Numbers
+pub mod Along
+pub mod Deciding
+pub mod Between

@@ -1,5 +1,6 @@
 -- Cross-depot's search as its functions state it: one candidate more, the rows of candidates one after another, and the best so far. For src/; the engine's
 -- own definition is CrossDepot.antt. Assumes nothing.
+use mathlib.Core.Path.{_≡_}
 use mathlib.Core.Bool.{Bool, true, false, cond}
 use mathlib.Core.Option.{Option, none, some}
 use mathlib.Core.List.{List, [], _∷_}
@@ -14,13 +15,15 @@ use Rattle.lists.specs.Table.{Laid}
 use Rattle.lists.specs.Edits.{at}
 use Rattle.evaluation.specs.Columns.{Columns, Formed}
 use Rattle.descent.specs.Order.{range}
-use Rattle.cross_moves.specs.Boxes.{Loaded}
+use Rattle.cross_moves.specs.Boxes.{Loaded, Prefixed}
 use Rattle.fleet.specs.Fleet.{Fleet, Driven}
 use Rattle.cross_moves.specs.CrossDepot.{Plan, allowed, replaced, relocation, exchange, cuts, pairOf, sameDepot}
 use Rattle.cross_moves.specs.declared.price.Price.{Price}
 use Rattle.cross_moves.specs.declared.price.Price.the-variants.{Unallowed, Costs}
 use Rattle.cross_moves.specs.declared.pair.Pair.{Pair}
 use Rattle.cross_moves.specs.declared.pair.Move.{Move}
+use Rattle.heads.specs.Kept.{Kept}
+use Rattle.cross_rows.specs.Row.{Two}
 use Rattle.cross_pairs.specs.declared.search.Choice.{Choice}
 
 -- a loop: what f makes of the value, for one after another
@@ -40,23 +43,26 @@ pub record Paired (l : ℕ) (pair : Pair) : Type 0 where
   pub driven1 : Driven l (pair .van1)
   pub driven2 : Driven l (pair .van2)
 
--- of a move between two lists: its stretches lie in them
-pub record Stretches (X Y : List ℕ) (m : Move) : Type 0 where
-  pub ordered1 : m .from1 ≤ m .to1
-  pub within1 : m .to1 ≤ length X
-  pub ordered2 : m .from2 ≤ m .to2
-  pub within2 : m .to2 ≤ length Y
+-- of two lists whose loads and heads are worked out
+pub record Ready (c : Columns) (demand : List ℤ) (pair : Pair) (X Y loads1 loads2 : List ℕ) (heads1 heads2 : List Float) (reached1 reached2 : ℕ) : Type 0 where
+  pub asked : Asked c demand
+  pub paired : Paired (c .l) pair
+  pub two : Two (c .l) X Y
+  pub prefixed1 : Prefixed demand X loads1
+  pub prefixed2 : Prefixed demand Y loads2
+  pub kept1 : Kept c (pair .van1 .depot) X heads1 reached1
+  pub kept2 : Kept c (pair .van2 .depot) Y heads2 reached2
+
+-- of the tables of a row
+pub record Roomy (costs1 costs2 : List Float) : Type 0 where
+  pub costs1-long : length costs1 ≡ 64
+  pub costs2-long : length costs2 ≡ 64
 
 -- of the tables: the lists are laid out, each visit is a location, and there are at most 63
 pub record Held (l : ℕ) (visits lengths : List ℕ) : Type 0 where
   pub laid : Laid visits lengths
   pub below : (k : ℕ) → k < length visits → getD visits k 0 < l
   pub few : length visits ≤ 63
-
--- a visit of a swap takes one place of a list, a cut none
-abbrev pub single : Bool → ℕ
-single true = 0
-single false = 1
 
 -- the two lists that a move makes
 abbrev pub made1 : List ℕ → List ℕ → Move → List ℕ

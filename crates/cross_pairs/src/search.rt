@@ -1,26 +1,32 @@
-// The best move between two lists of different depots (the inner loops of `best_move` of local_search/cross_depot.rs).
+// The best move between two lists of different depots (the inner loops of `best_move` of local_search/cross_depot.rs). Moves are tried row by row: what the
+// lists of a row cost is worked out into lent tables, the first list's before the second's, and the first least delta of the row is taken.
+use crate::kind::Kind;
+use crate::kind::is_tested;
+use crate::kind::move_of;
+use crate::kind::row_of;
+use crate::kind::rows_of;
 use crate::price::fits;
 use crate::price::prefix_loads;
 use cross_moves::pair::Move;
 use cross_moves::pair::Pair;
-use cross_moves::price::Price;
-use cross_rows::price::replaced_price;
+use cross_rows::row::Stretch;
+use cross_rows::row::end_at;
+use cross_rows::row::row_costs;
+use cross_rows::row::start_at;
+use heads::fill_heads;
+use numbers::infinite;
 use tests::both;
+use tests::either;
 ghost use mathlib.Core.Path.{_≡_};
-ghost use mathlib.Core.Bool.{true, false, _&&_};
-ghost use mathlib.Core.List.{[]};
-ghost use Prim.Native.Nat.{_+_, _≤_, _<_};
-ghost use lib.ListN.{length};
-ghost use lib.Seq.{slice};
+ghost use Prim.Native.Nat.{_≤_, _<_};
+ghost use lib.ListN.{length, take, drop};
 ghost use Rattle.evaluation.specs.Columns.{columnsAt, Formed};
-ghost use Rattle.cross_moves.specs.declared.price.Price.the-variants.{Costs};
+ghost use Rattle.heads.specs.Kept.{Kept};
 ghost use Rattle.cross_moves.specs.Boxes.{Loaded, Prefixed};
-ghost use Rattle.cross_moves.specs.CrossDepot.{holds, pricedAs, allowed, replaced, relocation, stretchEnd, exchange, cuts, sameDepot, planOf};
-ghost use Rattle.cross_rows.specs.Row.{Two};
-ghost use Rattle.cross_pairs.specs.Scan.{Asked, Paired, Stretches, single, made1, made2};
-ghost use Rattle.cross_pairs.specs.Scan.{decided, price1, better, relocateRow, exchangeRow, bestRelocation};
-ghost use Rattle.cross_pairs.specs.Scan.{bestSwap, bestTails, bestExchange, bestBetween, Held, bestFrom, bestOf};
-ghost use Rattle.fleet.specs.Fleet.{fleetAt, Manned};
+ghost use Rattle.cross_rows.specs.Row.{Two, Rowed};
+ghost use Rattle.cross_pairs.specs.Kinds.{rowsIn};
+ghost use Rattle.cross_pairs.specs.Scan.{Asked, Paired, Ready, Roomy, bestBetween};
+ghost use Rattle.cross_pairs.specs.Rows.{markOf, Marked, Extended, lesserOf, leastOf, chosenBy, bestOfRow, bestOfKind};
 
 // The best move so far, with its delta and what its two lists cost; while none is found, the delta is minus the floor.
 pub struct Choice {
@@ -31,174 +37,26 @@ pub struct Choice {
     pub cost2: f64,
 }
 
-// Where a stretch of a swap or of a tail exchange ends: behind its one visit, or at the list's end.
-fn stretch_end(tails: bool, n: usize, k: usize) -> usize
-    requires { ⌜ k ≤ 65535 ⌝ }
-    ensures { λ r. ⌜ r ≡ stretchEnd tails n k ⌝ }
+// The first least delta of a row so far, and which move has it; at first what it has to be below, and the number of moves.
+pub struct Least {
+    pub at: usize,
+    pub delta: f64,
+}
+
+// ---- which moves of a row are open
+
+// 0 where both loads are within their vans' capacities, infinite where one is not.
+fn mark(tested: bool, first: bool, second: bool) -> f64
+    ensures { λ r. ⌜ r ≡ markOf tested first second ⌝ }
 {
-    if tails {
-        return n;
+    if both(either(!tested, first), second) {
+        return 0.0;
     }
-    k + 1
+    infinite()
 }
 
-// How many cuts of the second list go with the cut k of the first: nothing moves when both cut at the end.
-fn cuts_of(n1: usize, n2: usize, k: usize) -> usize
-    requires { ⌜ n2 ≤ 65535 ⌝ }
-    ensures { λ r. ⌜ r ≡ cuts n1 n2 k ⌝ }
-{
-    if k == n1 {
-        return n2;
-    }
-    n2 + 1
-}
-
-// The better of the best so far and a move between two lists that then cost `cost1` and `cost2`.
-fn better_of(pair: Pair, tried: Move, cost1: f64, cost2: f64, best: Choice) -> Choice
-    ensures { λ r. ⌜ r ≡ decided pair tried (Costs cost1) (Costs cost2) best ⌝ }
-{
-    let delta = cost1 + cost2 - pair.before;
-    if delta < best.delta {
-        return Choice {
-            found: true,
-            chosen: tried,
-            delta,
-            cost1,
-            cost2,
-        };
-    }
-    best
-}
-
-// ---- a move between two lists
-
-// The visit at `position` of the first list goes to `place` of the second.
-fn relocation_of(pair: Pair, position: usize, place: usize) -> Move
-    requires { ⌜ position ≤ 65535 ⌝ }
-    ensures { λ r. ⌜ r ≡ relocation (pair .one) (pair .other) position place ⌝ }
-{
-    Move {
-        one: pair.one,
-        from1: position,
-        to1: position + 1,
-        other: pair.other,
-        from2: place,
-        to2: place,
-        tested: false,
-    }
-}
-
-// The visit k1 of the first list of n1, or its tail from k1 on, goes in the place of that of the second.
-fn exchange_of(pair: Pair, tails: bool, n1: usize, n2: usize, k1: usize, k2: usize) -> Move
-    requires { ⌜ (k1 ≤ 65535) × (k2 ≤ 65535) ⌝ }
-    ensures { λ r. ⌜ r ≡ exchange tails (pair .one) (pair .other) n1 n2 k1 k2 ⌝ }
-{
-    let end1 = stretch_end(tails, n1, k1);
-    let end2 = stretch_end(tails, n2, k2);
-    Move {
-        one: pair.one,
-        from1: k1,
-        to1: end1,
-        other: pair.other,
-        from2: k2,
-        to2: end2,
-        tested: true,
-    }
-}
-
-// What the first list costs after a move, whatever its load.
-fn first_price(
-    l: usize,
-    flags: &[u8],
-    service: &[f64],
-    ready: &[f64],
-    due: &[f64],
-    penalty: &[f64],
-    distances: &[f64],
-    times: &[f64],
-    pair: Pair,
-    one: &[u16],
-    other: &[u16],
-    tried: Move,
-) -> Price
-    requires { ⌜ Formed (columnsAt l flags service ready due penalty distances times) × Paired l pair × Two l (now one) (now other) ⌝ }
-    requires { ⌜ Stretches (now one) (now other) tried ⌝ }
-    ensures { λ r.
-        ⌜ r ≡ pricedAs
-        (columnsAt l (flags .entry) (service .entry) (ready .entry) (due .entry) (penalty .entry) (distances .entry) (times .entry))
-        (pair .van1) (made1 (now (one .entry)) (now (other .entry)) tried) ⌝ }
-{
-    replaced_price(
-        l,
-        flags,
-        service,
-        ready,
-        due,
-        penalty,
-        distances,
-        times,
-        pair.van1,
-        one,
-        tried.from1,
-        tried.to1,
-        other,
-        tried.from2,
-        tried.to2,
-    )
-}
-
-// The better of the best so far and a move whose first list then costs `cost1`, and whose second list is within its van's capacity.
-fn try_move(
-    l: usize,
-    flags: &[u8],
-    demand: &[i32],
-    service: &[f64],
-    ready: &[f64],
-    due: &[f64],
-    penalty: &[f64],
-    distances: &[f64],
-    times: &[f64],
-    pair: Pair,
-    one: &[u16],
-    other: &[u16],
-    tried: Move,
-    cost1: f64,
-    best: Choice,
-) -> Choice
-    requires { ⌜ Asked (columnsAt l flags service ready due penalty distances times) (now demand) × Paired l pair × Two l (now one) (now other) ⌝ }
-    requires { ⌜ Stretches (now one) (now other) tried
-        × (Costs cost1 ≡ price1 (columnsAt l flags service ready due penalty distances times) (now demand) pair (now one) (now other) tried) ⌝ }
-    requires { ⌜ holds (now demand) (pair .van2) (made2 (now one) (now other) tried) ≡ true ⌝ }
-    ensures { λ r.
-        ⌜ r ≡ better
-        (columnsAt l (flags .entry) (service .entry) (ready .entry) (due .entry) (penalty .entry) (distances .entry) (times .entry))
-        (now (demand .entry)) pair (now (one .entry)) (now (other .entry)) tried best ⌝ }
-{
-    let second = replaced_price(
-        l,
-        flags,
-        service,
-        ready,
-        due,
-        penalty,
-        distances,
-        times,
-        pair.van2,
-        other,
-        tried.from2,
-        tried.to2,
-        one,
-        tried.from1,
-        tried.to1,
-    );
-    let Price::Costs(cost2) = second else {
-        return best;
-    };
-    better_of(pair, tried, cost1, cost2, best)
-}
-
-// Whether the second list is within its van's capacity after a move.
-fn second_fits(
+// Marks the first `count` moves of a row.
+fn mark_row(
     l: usize,
     demand: &[i32],
     pair: Pair,
@@ -206,186 +64,132 @@ fn second_fits(
     other: &[u16],
     loads1: &[usize],
     loads2: &[usize],
-    tried: Move,
-) -> bool
+    tested: bool,
+    own: Stretch,
+    others: Stretch,
+    count: usize,
+    marks: &mut [f64],
+)
     requires { ⌜ Loaded l (now demand) × Paired l pair × Two l (now one) (now other) ⌝ }
     requires { ⌜ Prefixed (now demand) (now one) (now loads1) × Prefixed (now demand) (now other) (now loads2) ⌝ }
-    requires { ⌜ Stretches (now one) (now other) tried ⌝ }
-    ensures { λ r. ⌜ r ≡ holds (now (demand .entry)) (pair .van2) (made2 (now (one .entry)) (now (other .entry)) tried) ⌝ }
+    requires { ⌜ Rowed (length (now one)) (length (now other)) own others count × (length (now marks) ≡ 64) ⌝ }
+    ensures { λ _.
+        ⌜ Marked (now (demand .entry)) (pair .van1) (pair .van2) (now (one .entry)) (now (other .entry)) tested own others count (now (marks .exit)) ⌝ }
 {
-    fits(
-        l,
-        demand,
-        pair.van2,
-        other,
-        loads2,
-        tried.from2,
-        tried.to2,
-        one,
-        loads1,
-        tried.from1,
-        tried.to1,
-    )
+    let van1 = pair.van1;
+    let van2 = pair.van2;
+    let mut j = 0;
+    while j < count {
+        let from1 = start_at(own, j);
+        let to1 = end_at(own, j);
+        let from2 = start_at(others, j);
+        let to2 = end_at(others, j);
+        let first = fits(
+            l,
+            demand,
+            van1,
+            one,
+            loads1,
+            from1,
+            to1,
+            other,
+            loads2,
+            from2,
+            to2,
+        );
+        let second = fits(
+            l,
+            demand,
+            van2,
+            other,
+            loads2,
+            from2,
+            to2,
+            one,
+            loads1,
+            from1,
+            to1,
+        );
+        marks[j] = mark(tested, first, second);
+        j += 1;
+    }
 }
 
-// Whether both lists are within their vans' capacities after a move.
-fn both_fit(
-    l: usize,
-    demand: &[i32],
-    pair: Pair,
-    one: &[u16],
-    other: &[u16],
-    loads1: &[usize],
-    loads2: &[usize],
-    tried: Move,
-) -> bool
-    requires { ⌜ Loaded l (now demand) × Paired l pair × Two l (now one) (now other) ⌝ }
-    requires { ⌜ Prefixed (now demand) (now one) (now loads1) × Prefixed (now demand) (now other) (now loads2) ⌝ }
-    requires { ⌜ Stretches (now one) (now other) tried ⌝ }
-    ensures { λ r. ⌜ r ≡ (holds (now (demand .entry)) (pair .van1) (made1 (now (one .entry)) (now (other .entry)) tried)
-        && holds (now (demand .entry)) (pair .van2) (made2 (now (one .entry)) (now (other .entry)) tried)) ⌝ }
+// ---- the least of a row
+
+// The first list's cost of the first move, for the moves from `from` on as well.
+fn extend(costs: &mut [f64], from: usize, count: usize)
+    requires { ⌜ (length (now costs) ≡ 64) × (count ≤ 64) ⌝ }
+    ensures { λ _. ⌜ Extended (now (costs .entry)) (now (costs .exit)) from count ⌝ }
 {
-    let first = fits(
-        l,
-        demand,
-        pair.van1,
-        one,
-        loads1,
-        tried.from1,
-        tried.to1,
-        other,
-        loads2,
-        tried.from2,
-        tried.to2,
-    );
-    let second = second_fits(l, demand, pair, one, other, loads1, loads2, tried);
-    both(first, second)
+    let mut j = from;
+    while j < count {
+        costs[j] = costs[0];
+        j += 1;
+    }
 }
 
-// The better of the best so far and a move that is tested for both loads.
-fn try_exchange(
-    l: usize,
-    flags: &[u8],
-    demand: &[i32],
-    service: &[f64],
-    ready: &[f64],
-    due: &[f64],
-    penalty: &[f64],
-    distances: &[f64],
-    times: &[f64],
+// The lesser of the least so far and the delta of move j.
+fn lesser(least: Least, j: usize, delta: f64) -> Least
+    ensures { λ r. ⌜ r ≡ lesserOf j delta least ⌝ }
+{
+    if delta < least.delta {
+        return Least { at: j, delta };
+    }
+    least
+}
+
+// The first least delta of a row that is below `most`.
+fn least_of(before: f64, count: usize, costs1: &[f64], costs2: &[f64], most: f64) -> Least
+    requires { ⌜ (length (now costs1) ≡ 64) × (length (now costs2) ≡ 64) × (count ≤ 64) ⌝ }
+    ensures { λ r. ⌜ r ≡ leastOf before count (now (costs1 .entry)) (now (costs2 .entry)) most ⌝ }
+{
+    let mut least = Least {
+        at: count,
+        delta: most,
+    };
+    let mut j = 0;
+    while j < count {
+        least = lesser(least, j, costs1[j] + costs2[j] - before);
+        j += 1;
+    }
+    least
+}
+
+// The move that has the least delta of its row, or the best so far where none is less.
+fn choose(
+    kind: Kind,
     pair: Pair,
-    one: &[u16],
-    other: &[u16],
-    loads1: &[usize],
-    loads2: &[usize],
-    tried: Move,
+    n1: usize,
+    n2: usize,
+    k: usize,
+    count: usize,
+    costs1: &[f64],
+    costs2: &[f64],
+    least: Least,
     best: Choice,
 ) -> Choice
-    requires { ⌜ Asked (columnsAt l flags service ready due penalty distances times) (now demand) × Paired l pair × Two l (now one) (now other) ⌝ }
-    requires { ⌜ Prefixed (now demand) (now one) (now loads1) × Prefixed (now demand) (now other) (now loads2) ⌝ }
-    requires { ⌜ Stretches (now one) (now other) tried × (tried .tested ≡ true) ⌝ }
-    ensures { λ r.
-        ⌜ r ≡ better
-        (columnsAt l (flags .entry) (service .entry) (ready .entry) (due .entry) (penalty .entry) (distances .entry) (times .entry))
-        (now (demand .entry)) pair (now (one .entry)) (now (other .entry)) tried best ⌝ }
+    requires { ⌜ (k ≤ 63) × (least .at ≤ count) × (count ≤ 64) × (length (now costs1) ≡ 64) × (length (now costs2) ≡ 64) ⌝ }
+    ensures { λ r. ⌜ r ≡ chosenBy kind pair n1 n2 k count (now (costs1 .entry)) (now (costs2 .entry)) least best ⌝ }
 {
-    if !both_fit(l, demand, pair, one, other, loads1, loads2, tried) {
+    let at = least.at;
+    if at == count {
         return best;
     }
-    let first = first_price(
-        l,
-        flags,
-        service,
-        ready,
-        due,
-        penalty,
-        distances,
-        times,
-        pair,
-        one,
-        other,
-        tried,
-    );
-    let Price::Costs(cost1) = first else {
-        return best;
-    };
-    try_move(
-        l,
-        flags,
-        demand,
-        service,
-        ready,
-        due,
-        penalty,
-        distances,
-        times,
-        pair,
-        one,
-        other,
-        tried,
-        cost1,
-        best,
-    )
+    let chosen = move_of(kind, pair, n1, n2, k, at);
+    Choice {
+        found: true,
+        chosen,
+        delta: least.delta,
+        cost1: costs1[at],
+        cost2: costs2[at],
+    }
 }
 
 // ---- two lists
 
-// The best after a visit of the first list, which then costs `cost1`, was tried at every place of the second, which has room for it.
-fn relocate_row(
-    l: usize,
-    flags: &[u8],
-    demand: &[i32],
-    service: &[f64],
-    ready: &[f64],
-    due: &[f64],
-    penalty: &[f64],
-    distances: &[f64],
-    times: &[f64],
-    pair: Pair,
-    one: &[u16],
-    other: &[u16],
-    position: usize,
-    cost1: f64,
-    best: Choice,
-) -> Choice
-    requires { ⌜ Asked (columnsAt l flags service ready due penalty distances times) (now demand) × Paired l pair × Two l (now one) (now other) ⌝ }
-    requires { ⌜ (position < length (now one))
-        × (Costs cost1 ≡ allowed (columnsAt l flags service ready due penalty distances times) (now demand) false (pair .van1)
-        (replaced (now one) position (position + 1) [])) ⌝ }
-    requires { ⌜ holds (now demand) (pair .van2) (replaced (now other) 0 0 (slice position (position + 1) (now one))) ≡ true ⌝ }
-    ensures { λ r.
-        ⌜ r ≡ relocateRow
-        (columnsAt l (flags .entry) (service .entry) (ready .entry) (due .entry) (penalty .entry) (distances .entry) (times .entry))
-        (now (demand .entry)) pair (now (one .entry)) (now (other .entry)) position best ⌝ }
-{
-    let mut found = best;
-    let mut place = 0;
-    while place <= other.len() {
-        let tried = relocation_of(pair, position, place);
-        found = try_move(
-            l,
-            flags,
-            demand,
-            service,
-            ready,
-            due,
-            penalty,
-            distances,
-            times,
-            pair,
-            one,
-            other,
-            tried,
-            cost1,
-            found,
-        );
-        place += 1;
-    }
-    found
-}
-
-// The best after every visit of the first list was tried in the second.
-fn relocations(
+// The best after the moves of a row.
+fn best_of_row(
     l: usize,
     flags: &[u8],
     demand: &[i32],
@@ -400,64 +204,101 @@ fn relocations(
     other: &[u16],
     loads1: &[usize],
     loads2: &[usize],
+    heads1: &[f64],
+    heads2: &[f64],
+    reached1: usize,
+    reached2: usize,
+    costs1: &mut [f64],
+    costs2: &mut [f64],
+    kind: Kind,
+    k: usize,
     best: Choice,
 ) -> Choice
-    requires { ⌜ Asked (columnsAt l flags service ready due penalty distances times) (now demand) × Paired l pair × Two l (now one) (now other) ⌝ }
-    requires { ⌜ Prefixed (now demand) (now one) (now loads1) × Prefixed (now demand) (now other) (now loads2) ⌝ }
+    requires { ⌜ Ready (columnsAt l flags service ready due penalty distances times) (now demand) pair (now one) (now other) (now loads1) (now loads2)
+        (now heads1) (now heads2) reached1 reached2 ⌝ }
+    requires { ⌜ Roomy (now costs1) (now costs2) × (k < rowsIn kind (length (now one))) ⌝ }
     ensures { λ r.
-        ⌜ r ≡ bestRelocation
+        ⌜ r ≡ bestOfRow
         (columnsAt l (flags .entry) (service .entry) (ready .entry) (due .entry) (penalty .entry) (distances .entry) (times .entry))
-        (now (demand .entry)) pair (now (one .entry)) (now (other .entry)) best ⌝ }
+        (now (demand .entry)) pair (now (one .entry)) (now (other .entry)) kind k best ⌝ }
 {
-    let mut found = best;
-    let mut next = 0;
-    while next < one.len() {
-        let position = next;
-        next += 1;
-        let tried = relocation_of(pair, position, 0);
-        if !second_fits(l, demand, pair, one, other, loads1, loads2, tried) {
-            continue;
-        }
-        let first = first_price(
-            l,
-            flags,
-            service,
-            ready,
-            due,
-            penalty,
-            distances,
-            times,
-            pair,
-            one,
-            other,
-            tried,
-        );
-        let Price::Costs(cost1) = first else {
-            continue;
-        };
-        found = relocate_row(
-            l,
-            flags,
-            demand,
-            service,
-            ready,
-            due,
-            penalty,
-            distances,
-            times,
-            pair,
-            one,
-            other,
-            position,
-            cost1,
-            found,
-        );
-    }
-    found
+    let row = row_of(kind, one.len(), other.len(), k);
+    let own = row.own;
+    let others = row.others;
+    let count = row.count;
+    let distinct = row.distinct;
+    mark_row(
+        l,
+        demand,
+        pair,
+        one,
+        other,
+        loads1,
+        loads2,
+        is_tested(kind),
+        own,
+        others,
+        distinct,
+        costs2,
+    );
+    row_costs(
+        l,
+        flags,
+        service,
+        ready,
+        due,
+        penalty,
+        distances,
+        times,
+        pair.van1,
+        heads1,
+        reached1,
+        one,
+        own,
+        other,
+        others,
+        costs2,
+        distinct,
+        costs1,
+    );
+    extend(costs1, distinct, count);
+    row_costs(
+        l,
+        flags,
+        service,
+        ready,
+        due,
+        penalty,
+        distances,
+        times,
+        pair.van2,
+        heads2,
+        reached2,
+        other,
+        others,
+        one,
+        own,
+        costs1,
+        count,
+        costs2,
+    );
+    let least = least_of(pair.before, count, costs1, costs2, best.delta);
+    choose(
+        kind,
+        pair,
+        one.len(),
+        other.len(),
+        k,
+        count,
+        costs1,
+        costs2,
+        least,
+        best,
+    )
 }
 
-// The best after the visit k1 of the first list, or its tail from k1 on, was tried with the first `count` of the second.
-fn exchange_row(
+// The best after all moves of a kind.
+fn best_of_kind(
     l: usize,
     flags: &[u8],
     demand: &[i32],
@@ -472,25 +313,28 @@ fn exchange_row(
     other: &[u16],
     loads1: &[usize],
     loads2: &[usize],
-    tails: bool,
-    k1: usize,
-    count: usize,
+    heads1: &[f64],
+    heads2: &[f64],
+    reached1: usize,
+    reached2: usize,
+    costs1: &mut [f64],
+    costs2: &mut [f64],
+    kind: Kind,
     best: Choice,
 ) -> Choice
-    requires { ⌜ Asked (columnsAt l flags service ready due penalty distances times) (now demand) × Paired l pair × Two l (now one) (now other) ⌝ }
-    requires { ⌜ Prefixed (now demand) (now one) (now loads1) × Prefixed (now demand) (now other) (now loads2) ⌝ }
-    requires { ⌜ (k1 + single tails ≤ length (now one)) × (count + single tails ≤ length (now other) + 1) ⌝ }
+    requires { ⌜ Ready (columnsAt l flags service ready due penalty distances times) (now demand) pair (now one) (now other) (now loads1) (now loads2)
+        (now heads1) (now heads2) reached1 reached2 ⌝ }
+    requires { ⌜ Roomy (now costs1) (now costs2) ⌝ }
     ensures { λ r.
-        ⌜ r ≡ exchangeRow
+        ⌜ r ≡ bestOfKind
         (columnsAt l (flags .entry) (service .entry) (ready .entry) (due .entry) (penalty .entry) (distances .entry) (times .entry))
-        (now (demand .entry)) pair (now (one .entry)) (now (other .entry)) tails k1 count best ⌝ }
+        (now (demand .entry)) pair (now (one .entry)) (now (other .entry)) kind best ⌝ }
 {
+    let rows = rows_of(kind, one.len());
     let mut found = best;
-    let mut next = 0;
-    while next < count {
-        let tried = exchange_of(pair, tails, one.len(), other.len(), k1, next);
-        next += 1;
-        found = try_exchange(
+    let mut k = 0;
+    while k < rows {
+        found = best_of_row(
             l,
             flags,
             demand,
@@ -505,15 +349,23 @@ fn exchange_row(
             other,
             loads1,
             loads2,
-            tried,
+            heads1,
+            heads2,
+            reached1,
+            reached2,
+            costs1,
+            costs2,
+            kind,
+            k,
             found,
         );
+        k += 1;
     }
     found
 }
 
-// The best after every swap of a visit of the first list and one of the second.
-fn swaps(
+// The best after all moves between two lists whose loads and heads are known; swaps and tail exchanges are tried once a pair.
+fn best_of_kinds(
     l: usize,
     flags: &[u8],
     demand: &[i32],
@@ -528,126 +380,23 @@ fn swaps(
     other: &[u16],
     loads1: &[usize],
     loads2: &[usize],
+    heads1: &[f64],
+    heads2: &[f64],
+    reached1: usize,
+    reached2: usize,
+    costs1: &mut [f64],
+    costs2: &mut [f64],
     best: Choice,
 ) -> Choice
-    requires { ⌜ Asked (columnsAt l flags service ready due penalty distances times) (now demand) × Paired l pair × Two l (now one) (now other) ⌝ }
-    requires { ⌜ Prefixed (now demand) (now one) (now loads1) × Prefixed (now demand) (now other) (now loads2) ⌝ }
+    requires { ⌜ Ready (columnsAt l flags service ready due penalty distances times) (now demand) pair (now one) (now other) (now loads1) (now loads2)
+        (now heads1) (now heads2) reached1 reached2 ⌝ }
+    requires { ⌜ Roomy (now costs1) (now costs2) ⌝ }
     ensures { λ r.
-        ⌜ r ≡ bestSwap
+        ⌜ r ≡ bestBetween
         (columnsAt l (flags .entry) (service .entry) (ready .entry) (due .entry) (penalty .entry) (distances .entry) (times .entry))
         (now (demand .entry)) pair (now (one .entry)) (now (other .entry)) best ⌝ }
 {
-    let mut found = best;
-    let mut k1 = 0;
-    while k1 < one.len() {
-        found = exchange_row(
-            l,
-            flags,
-            demand,
-            service,
-            ready,
-            due,
-            penalty,
-            distances,
-            times,
-            pair,
-            one,
-            other,
-            loads1,
-            loads2,
-            false,
-            k1,
-            other.len(),
-            found,
-        );
-        k1 += 1;
-    }
-    found
-}
-
-// The best after every exchange of a tail of the first list and one of the second.
-fn tail_exchanges(
-    l: usize,
-    flags: &[u8],
-    demand: &[i32],
-    service: &[f64],
-    ready: &[f64],
-    due: &[f64],
-    penalty: &[f64],
-    distances: &[f64],
-    times: &[f64],
-    pair: Pair,
-    one: &[u16],
-    other: &[u16],
-    loads1: &[usize],
-    loads2: &[usize],
-    best: Choice,
-) -> Choice
-    requires { ⌜ Asked (columnsAt l flags service ready due penalty distances times) (now demand) × Paired l pair × Two l (now one) (now other) ⌝ }
-    requires { ⌜ Prefixed (now demand) (now one) (now loads1) × Prefixed (now demand) (now other) (now loads2) ⌝ }
-    ensures { λ r.
-        ⌜ r ≡ bestTails
-        (columnsAt l (flags .entry) (service .entry) (ready .entry) (due .entry) (penalty .entry) (distances .entry) (times .entry))
-        (now (demand .entry)) pair (now (one .entry)) (now (other .entry)) best ⌝ }
-{
-    let mut found = best;
-    let mut k1 = 0;
-    while k1 <= one.len() {
-        let count = cuts_of(one.len(), other.len(), k1);
-        found = exchange_row(
-            l,
-            flags,
-            demand,
-            service,
-            ready,
-            due,
-            penalty,
-            distances,
-            times,
-            pair,
-            one,
-            other,
-            loads1,
-            loads2,
-            true,
-            k1,
-            count,
-            found,
-        );
-        k1 += 1;
-    }
-    found
-}
-
-// The best after every swap and every tail exchange of two lists, which are tried once a pair.
-fn exchanges(
-    l: usize,
-    flags: &[u8],
-    demand: &[i32],
-    service: &[f64],
-    ready: &[f64],
-    due: &[f64],
-    penalty: &[f64],
-    distances: &[f64],
-    times: &[f64],
-    pair: Pair,
-    one: &[u16],
-    other: &[u16],
-    loads1: &[usize],
-    loads2: &[usize],
-    best: Choice,
-) -> Choice
-    requires { ⌜ Asked (columnsAt l flags service ready due penalty distances times) (now demand) × Paired l pair × Two l (now one) (now other) ⌝ }
-    requires { ⌜ Prefixed (now demand) (now one) (now loads1) × Prefixed (now demand) (now other) (now loads2) ⌝ }
-    ensures { λ r.
-        ⌜ r ≡ bestExchange
-        (columnsAt l (flags .entry) (service .entry) (ready .entry) (due .entry) (penalty .entry) (distances .entry) (times .entry))
-        (now (demand .entry)) pair (now (one .entry)) (now (other .entry)) best ⌝ }
-{
-    if pair.one >= pair.other {
-        return best;
-    }
-    let swapped = swaps(
+    let relocated = best_of_kind(
         l,
         flags,
         demand,
@@ -662,9 +411,19 @@ fn exchanges(
         other,
         loads1,
         loads2,
+        heads1,
+        heads2,
+        reached1,
+        reached2,
+        costs1,
+        costs2,
+        Kind::Relocation,
         best,
     );
-    tail_exchanges(
+    if pair.one >= pair.other {
+        return relocated;
+    }
+    let swapped = best_of_kind(
         l,
         flags,
         demand,
@@ -679,11 +438,115 @@ fn exchanges(
         other,
         loads1,
         loads2,
+        heads1,
+        heads2,
+        reached1,
+        reached2,
+        costs1,
+        costs2,
+        Kind::Swap,
+        relocated,
+    );
+    best_of_kind(
+        l,
+        flags,
+        demand,
+        service,
+        ready,
+        due,
+        penalty,
+        distances,
+        times,
+        pair,
+        one,
+        other,
+        loads1,
+        loads2,
+        heads1,
+        heads2,
+        reached1,
+        reached2,
+        costs1,
+        costs2,
+        Kind::Tails,
         swapped,
     )
 }
 
-// The best after every move between two lists.
+// The prefix loads of two lists, in the first and the second 64 entries of the table.
+fn prefix_both(l: usize, demand: &[i32], one: &[u16], other: &[u16], sums: &mut [usize])
+    requires { ⌜ Loaded l (now demand) × Two l (now one) (now other) × (length (now sums) ≡ 256) ⌝ }
+    ensures { λ _.
+        ⌜ Prefixed (now (demand .entry)) (now (one .entry)) (take 64 (now (sums .exit)))
+        × Prefixed (now (demand .entry)) (now (other .entry)) (take 64 (drop 64 (now (sums .exit)))) ⌝ }
+{
+    prefix_loads(l, demand, one, &mut sums[0..64]);
+    prefix_loads(l, demand, other, &mut sums[64..128]);
+}
+
+// How far the heads of two lists go.
+pub struct Reach {
+    pub one: usize,
+    pub other: usize,
+}
+
+// The heads of two lists, in the first and the second 256 entries of the table.
+fn heads_of_both(
+    l: usize,
+    flags: &[u8],
+    service: &[f64],
+    ready: &[f64],
+    due: &[f64],
+    penalty: &[f64],
+    distances: &[f64],
+    times: &[f64],
+    pair: Pair,
+    one: &[u16],
+    other: &[u16],
+    heads: &mut [f64],
+) -> Reach
+    requires { ⌜ Formed (columnsAt l flags service ready due penalty distances times) × Paired l pair × Two l (now one) (now other) ⌝ }
+    requires { ⌜ length (now heads) ≡ 1024 ⌝ }
+    ensures { λ r.
+        ⌜ (let c = columnsAt l (flags .entry) (service .entry) (ready .entry) (due .entry) (penalty .entry) (distances .entry) (times .entry) in
+        Kept c (pair .van1 .depot) (now (one .entry)) (take 256 (now (heads .exit))) (r .one)
+        × Kept c (pair .van2 .depot) (now (other .entry)) (take 256 (drop 256 (now (heads .exit)))) (r .other)) ⌝ }
+{
+    let depot1 = pair.van1.depot;
+    let depot2 = pair.van2.depot;
+    let reached1 = fill_heads(
+        l,
+        flags,
+        service,
+        ready,
+        due,
+        penalty,
+        distances,
+        times,
+        depot1,
+        one,
+        &mut heads[0..256],
+    );
+    let reached2 = fill_heads(
+        l,
+        flags,
+        service,
+        ready,
+        due,
+        penalty,
+        distances,
+        times,
+        depot2,
+        other,
+        &mut heads[256..512],
+    );
+    Reach {
+        one: reached1,
+        other: reached2,
+    }
+}
+
+// The best after every move between two lists. The tables are room for the prefix loads and the heads of both, and for what the lists of a row cost.
 pub fn between_lists(
     l: usize,
     flags: &[u8],
@@ -697,22 +560,22 @@ pub fn between_lists(
     pair: Pair,
     one: &[u16],
     other: &[u16],
+    sums: &mut [usize],
+    heads: &mut [f64],
+    costs: &mut [f64],
     best: Choice,
 ) -> Choice
     requires { ⌜ Asked (columnsAt l flags service ready due penalty distances times) (now demand) × Paired l pair × Two l (now one) (now other) ⌝ }
+    requires { ⌜ (length (now sums) ≡ 256) × (length (now heads) ≡ 1024) × (length (now costs) ≡ 192) ⌝ }
     ensures { λ r.
         ⌜ r ≡ bestBetween
         (columnsAt l (flags .entry) (service .entry) (ready .entry) (due .entry) (penalty .entry) (distances .entry) (times .entry))
         (now (demand .entry)) pair (now (one .entry)) (now (other .entry)) best ⌝ }
 {
-    let mut loads1 = [0usize; 64];
-    prefix_loads(l, demand, one, &mut loads1);
-    let mut loads2 = [0usize; 64];
-    prefix_loads(l, demand, other, &mut loads2);
-    let relocated = relocations(
+    prefix_both(l, demand, one, other, sums);
+    let reach = heads_of_both(
         l,
         flags,
-        demand,
         service,
         ready,
         due,
@@ -722,11 +585,10 @@ pub fn between_lists(
         pair,
         one,
         other,
-        &loads1,
-        &loads2,
-        best,
+        heads,
     );
-    exchanges(
+    let mut costs1 = [0.0; 64];
+    best_of_kinds(
         l,
         flags,
         demand,
@@ -739,8 +601,14 @@ pub fn between_lists(
         pair,
         one,
         other,
-        &loads1,
-        &loads2,
-        relocated,
+        &sums[0..64],
+        &sums[64..128],
+        &heads[0..256],
+        &heads[256..512],
+        reach.one,
+        reach.other,
+        &mut costs1,
+        &mut costs[0..64],
+        best,
     )
 }

@@ -31,7 +31,7 @@ pub struct Stretch {
 }
 
 // Where the stretch of candidate j begins.
-fn start_at(stretch: Stretch, j: usize) -> usize
+pub fn start_at(stretch: Stretch, j: usize) -> usize
     requires { ⌜ fromAt stretch j ≤ 63 ⌝ }
     ensures { λ r. ⌜ r ≡ fromAt stretch j ⌝ }
 {
@@ -39,7 +39,7 @@ fn start_at(stretch: Stretch, j: usize) -> usize
 }
 
 // Where the stretch of candidate j ends.
-fn end_at(stretch: Stretch, j: usize) -> usize
+pub fn end_at(stretch: Stretch, j: usize) -> usize
     requires { ⌜ toAt stretch j ≤ 63 ⌝ }
     ensures { λ r. ⌜ r ≡ toAt stretch j ⌝ }
 {

@@ -1,72 +1,115 @@
--- `between_lists`: the prefix loads of both lists, relocations, and then the exchanges.
+-- `between_lists`: the loads and the heads of both lists are worked out, and then all moves are tried.
 use borrow.Author.Needs.{needs}
-use mathlib.Core.Path.{refl}
-use Rattle.cross_pairs.proofs.Fitting.{visits-first, visits-second}
-use Rattle.cross_pairs.proofs.Scanning.{between-is}
+use mathlib.Core.Path.{refl, _∙_}
+use native.Mathlib.Omega.{arith}
+use lib.Seq.{length-take-le}
 use Rattle.cross_pairs.proofs.search.between_lists.Statement.{statement}
 use Rattle.cross_pairs.proofs.search.between_lists.Tie as tie
 
-slice-aggregate-prefix-loads : tie.Need-slice-aggregate-prefix-loads
-slice-aggregate-prefix-loads c = search needs
+prefix-both-requires : tie.Need-prefix-both-requires
+prefix-both-requires c κs = (c .before .before .before .before .before .before .before .before .before .before .before .before .before .pre .0 .0 .loaded, c .before .before .before .before .before .before .before .before .before .before .before .before .before .pre .0 .2, c .before .before .before .before .before .before .before .before .before .before .before .before .before .pre .1 .0)
 
-prefix-loads-requires : tie.Need-prefix-loads-requires
-prefix-loads-requires c κs =
-    let start = c .before .before .before .before .before .before .before .before .before .before in
-    (start .pre .0 .loaded, visits-first _ _ _ (start .pre .2), refl)
+heads-of-both-requires : tie.Need-heads-of-both-requires
+heads-of-both-requires c κs = ((c .before .before .before .before .before .before .before .before .before .before .before .before .before .before .before .before .before .pre .0 .0 .formed, c .before .before .before .before .before .before .before .before .before .before .before .before .before .before .before .before .before .pre .0 .1, c .before .before .before .before .before .before .before .before .before .before .before .before .before .before .before .before .before .pre .0 .2), c .before .before .before .before .before .before .before .before .before .before .before .before .before .before .before .before .before .pre .1 .1)
 
-slice-aggregate-prefix-loads-2 : tie.Need-slice-aggregate-prefix-loads-2
-slice-aggregate-prefix-loads-2 c = search needs
+sub-best-of-kinds : tie.Need-sub-best-of-kinds
+sub-best-of-kinds c = search needs
 
-prefix-loads-requires-2 : tie.Need-prefix-loads-requires-2
-prefix-loads-requires-2 c κs =
-    let start = c .before .before .before .before .before .before .before .before .before .before .before .before .before in
-    (start .pre .0 .loaded, visits-second _ _ _ (start .pre .2), refl)
+part-best-of-kinds-start : tie.Need-part-best-of-kinds-start
+part-best-of-kinds-start c = search needs
 
-slice-aggregate-relocations : tie.Need-slice-aggregate-relocations
-slice-aggregate-relocations c = search needs
+part-best-of-kinds-end : tie.Need-part-best-of-kinds-end
+part-best-of-kinds-end c = omega (arith, c .before .before .before .before .before .before .before .prefix-both .kept .1 .1 .1 .1 .0 ∙ c .before .before .before .before .before .before .before .before .before .before .before .before .before .before .before .before .before .before .before .before .before .pre .1 .0)
 
-slice-aggregate-relocations-2 : tie.Need-slice-aggregate-relocations-2
-slice-aggregate-relocations-2 c = search needs
+sub-best-of-kinds-2 : tie.Need-sub-best-of-kinds-2
+sub-best-of-kinds-2 c = search needs
 
-relocations-requires : tie.Need-relocations-requires
-relocations-requires c κs =
-    let at-prefix-loads2 = c .before .before .before in
-    let at-prefix-loads = at-prefix-loads2 .before .before .before in
-    let start = at-prefix-loads .before .before .before .before .before .before .before .before .before .before .before in
-    (start .pre, (at-prefix-loads .prefix-loads .ensures, at-prefix-loads2 .prefix-loads2 .ensures))
+part-best-of-kinds-start-2 : tie.Need-part-best-of-kinds-start-2
+part-best-of-kinds-start-2 c = search needs
 
-slice-aggregate-exchanges : tie.Need-slice-aggregate-exchanges
-slice-aggregate-exchanges c = search needs
+part-best-of-kinds-end-2 : tie.Need-part-best-of-kinds-end-2
+part-best-of-kinds-end-2 c = omega (arith, c .before .before .before .before .before .before .before .before .prefix-both .kept .1 .1 .1 .1 .0 ∙ c .before .before .before .before .before .before .before .before .before .before .before .before .before .before .before .before .before .before .before .before .before .before .pre .1 .0)
 
-slice-aggregate-exchanges-2 : tie.Need-slice-aggregate-exchanges-2
-slice-aggregate-exchanges-2 c = search needs
+sub-best-of-kinds-3 : tie.Need-sub-best-of-kinds-3
+sub-best-of-kinds-3 c = search needs
 
-exchanges-requires : tie.Need-exchanges-requires
-exchanges-requires c κs =
-    let at-prefix-loads2 = c .before .before .before .before .before .before in
-    let at-prefix-loads = at-prefix-loads2 .before .before .before in
-    let start = at-prefix-loads .before .before .before .before .before .before .before .before .before .before .before in
-    (start .pre, (at-prefix-loads .prefix-loads .ensures, at-prefix-loads2 .prefix-loads2 .ensures))
+part-best-of-kinds-start-3 : tie.Need-part-best-of-kinds-start-3
+part-best-of-kinds-start-3 c = search needs
+
+part-best-of-kinds-end-3 : tie.Need-part-best-of-kinds-end-3
+part-best-of-kinds-end-3 c = omega (arith, c .before .before .before .before .before .before .heads-of-both .kept .1 .1 .1 .1 .1 .1 .1 .1 .1 .1 .1 .0 ∙ c .before .before .before .before .before .before .before .before .before .before .before .before .before .before .before .before .before .before .before .before .before .before .before .before .pre .1 .1)
+
+sub-best-of-kinds-4 : tie.Need-sub-best-of-kinds-4
+sub-best-of-kinds-4 c = search needs
+
+part-best-of-kinds-start-4 : tie.Need-part-best-of-kinds-start-4
+part-best-of-kinds-start-4 c = search needs
+
+part-best-of-kinds-end-4 : tie.Need-part-best-of-kinds-end-4
+part-best-of-kinds-end-4 c = omega (arith, c .before .before .before .before .before .before .before .heads-of-both .kept .1 .1 .1 .1 .1 .1 .1 .1 .1 .1 .1 .0 ∙ c .before .before .before .before .before .before .before .before .before .before .before .before .before .before .before .before .before .before .before .before .before .before .before .before .before .pre .1 .1)
+
+slice-aggregate-best-of-kinds : tie.Need-slice-aggregate-best-of-kinds
+slice-aggregate-best-of-kinds c = search needs
+
+sub-best-of-kinds-5 : tie.Need-sub-best-of-kinds-5
+sub-best-of-kinds-5 c = search needs
+
+part-best-of-kinds-start-5 : tie.Need-part-best-of-kinds-start-5
+part-best-of-kinds-start-5 c = search needs
+
+part-best-of-kinds-end-5 : tie.Need-part-best-of-kinds-end-5
+part-best-of-kinds-end-5 c = omega (arith, c .before .before .before .before .before .before .before .before .before .before .before .before .before .before .before .before .before .before .before .before .before .before .before .before .before .before .before .pre .1 .2)
+
+best-of-kinds-requires : tie.Need-best-of-kinds-requires
+best-of-kinds-requires c κs = (
+  record {
+    asked = c .before .before .before .before .before .before .before .before .before .before .before .before .before .before .before .before .before .before .before .before .before .before .before .before .before .before .before .before .pre .0 .0;
+    paired = c .before .before .before .before .before .before .before .before .before .before .before .before .before .before .before .before .before .before .before .before .before .before .before .before .before .before .before .before .pre .0 .1;
+    two = c .before .before .before .before .before .before .before .before .before .before .before .before .before .before .before .before .before .before .before .before .before .before .before .before .before .before .before .before .pre .0 .2;
+    prefixed1 = c .before .before .before .before .before .before .before .before .before .before .before .before .before .before .prefix-both .ensures .0;
+    prefixed2 = c .before .before .before .before .before .before .before .before .before .before .before .before .before .before .prefix-both .ensures .1;
+    kept1 = c .before .before .before .before .before .before .before .before .before .before .heads-of-both .ensures .0;
+    kept2 = c .before .before .before .before .before .before .before .before .before .before .heads-of-both .ensures .1;
+  },
+  record { costs1-long = refl; costs2-long = length-take-le 64 (c .before .before .before .before .before .before .before .before .before .before .before .before .before .before .before .before .before .before .before .before .before .before .before .before .before .before .before .before .args .costs .now) (omega (arith, c .before .before .before .before .before .before .before .before .before .before .before .before .before .before .before .before .before .before .before .before .before .before .before .before .before .before .before .before .pre .1 .2)) },
+)
+
+same-length : tie.Need-same-length
+same-length c = c .before .before .before .before .before .before .before .before .before .before .before .before .before .before .before .before .before .before .prefix-both .kept .1 .1 .1 .1 .0
+
+same-length-2 : tie.Need-same-length-2
+same-length-2 c = c .before .before .before .before .before .before .before .before .before .before .before .before .before .before .heads-of-both .kept .1 .1 .1 .1 .1 .1 .1 .1 .1 .1 .1 .0
+
+same-length-3 : tie.Need-same-length-3
+same-length-3 c = search needs
 
 returns : tie.Need-returns
-returns c =
-    let at-relocations = c .before .before .before in
-    let further = at-relocations .before .before .before .before .before .before .before .before .before in
-    let start = further .before .before .before .before .before .before .before .before .before in
-    between-is _ _ (start .args .pair) _ _ _ _ _ (at-relocations .relocations .ensures) (c .exchanges .ensures)
+returns c = c .before .before .before .best-of-kinds .ensures
 
 pub between-lists-spec : {M : Type 1} → statement M
 between-lists-spec =
     tie.close
     (tie.spec
-    slice-aggregate-prefix-loads
-    prefix-loads-requires
-    slice-aggregate-prefix-loads-2
-    prefix-loads-requires-2
-    slice-aggregate-relocations
-    slice-aggregate-relocations-2
-    relocations-requires
-    slice-aggregate-exchanges
-    slice-aggregate-exchanges-2
-    exchanges-requires
+    prefix-both-requires
+    heads-of-both-requires
+    sub-best-of-kinds
+    part-best-of-kinds-start
+    part-best-of-kinds-end
+    sub-best-of-kinds-2
+    part-best-of-kinds-start-2
+    part-best-of-kinds-end-2
+    sub-best-of-kinds-3
+    part-best-of-kinds-start-3
+    part-best-of-kinds-end-3
+    sub-best-of-kinds-4
+    part-best-of-kinds-start-4
+    part-best-of-kinds-end-4
+    slice-aggregate-best-of-kinds
+    sub-best-of-kinds-5
+    part-best-of-kinds-start-5
+    part-best-of-kinds-end-5
+    best-of-kinds-requires
+    same-length
+    same-length-2
+    same-length-3
     returns)
