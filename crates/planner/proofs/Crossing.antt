@@ -12,10 +12,11 @@ use lib.Seq.{getD-take}
 use Rattle.day.specs.Day.{Day}
 use Rattle.day.specs.Customer.{numDepots}
 use Rattle.fleet.specs.Fleet.{Fleet, Crewed}
+use Rattle.edits.specs.Total.{SameVisits}
 use Rattle.lists.specs.Table.{lists}
 use Rattle.evaluation.specs.Columns.{columnsOf, formed}
 use Rattle.loads.proofs.Boxes.{loaded-of}
-use Rattle.cross_depot.specs.CrossDepot.{Carried}
+use Rattle.cross_depot.specs.CrossDepot.{Carried, crossRan}
 use Rattle.cross_depot.specs.Scan.{Asked, Held}
 use Rattle.cross_depot.specs.Tables.{Handed, crossedOf}
 use Rattle.cross_depot.specs.declared.run.Crossed.{Crossed}
@@ -127,3 +128,18 @@ module _ (d : Day) (fleet : Fleet) (visits lengths ids : List ℕ) (prices : Lis
         let told = reports-over (ran .word) (ran .moves) (length (ran .lists)) in
         rw (reported, told .1, handed .visits-are, handed .lengths-are, handed .ids-are, lists-back (length lengths) (ran .lists))
         (carried-by (d .demand) fleet (lists visits lengths) ids (ran .lists) (ran .ids) (length lengths - length (ran .lists)) holds)
+
+  -- all that a call that isn't refused shows, of what the run ensures
+  pub ended-cross : (n : ℕ) → n ≡ 0 → n ≡ refusalOfFleet d fleet visits lengths ids prices → (visits′ lengths′ ids′ : List ℕ) (end : Crossed) (r : Rearranged)
+      → (let ran = crossRan (columnsOf d) (d .demand) fleet limit (lists visits lengths) ids prices in
+      (end ≡ crossedOf ran) × Handed (ran .lists) (ran .ids) (length lengths) visits′ lengths′ ids′ × SameVisits visits visits′
+      × Carried (d .demand) fleet (lists visits lengths) ids (ran .lists) (ran .ids))
+      → r ≡ rearrangedOf (end .ended) (end .lists)
+      → (r ≡ crossAnswer d fleet visits lengths ids prices limit) × (visits′ ≡ crossVisits d fleet visits lengths ids prices limit)
+      × (lengths′ ≡ crossLengths d fleet visits lengths ids prices limit) × (ids′ ≡ crossIds d fleet visits lengths ids prices limit)
+      × SameVisits visits visits′
+      × Carried (d .demand) fleet (lists visits lengths) ids (take (remainingIn r) (lists visits′ lengths′)) (take (remainingIn r) ids′)
+  unfolding crossOn
+  ended-cross n none e visits′ lengths′ ids′ end r ran answer =
+      let is = answered-cross n none e visits′ lengths′ ids′ end r (ran .0) (ran .1) answer in
+      (is .0, is .1, is .2, is .3, ran .2, carried-off n none e visits′ lengths′ ids′ end r (ran .0) (ran .1) answer (ran .3))

@@ -3,8 +3,7 @@ use borrow.Author.Needs.{needs}
 use native.Mathlib.Nat.{not-suc-le-zero}
 use mathlib.Core.Path.{refl, sym, _∙_}
 use Rattle.planner.specs.Refusal.{fine-fleet}
-use Rattle.planner.specs.CrossDepot.{crossOn}
-use Rattle.planner.proofs.Crossing.{asked, crewed, held, refused-cross, answered-cross, carried-off}
+use Rattle.planner.proofs.Crossing.{asked, crewed, held, refused-cross, ended-cross}
 use Rattle.planner.proofs.depots.cross_depot_improve.Statement.{statement}
 use Rattle.planner.proofs.depots.cross_depot_improve.Tie as tie
 
@@ -43,14 +42,11 @@ same-length-6 : tie.Need-same-length-6
 same-length-6 c = search needs
 
 returns-2 : tie.Need-returns-2
-unfolding crossOn
 returns-2 c =
-    let e = c .before .before .before .before .before .before .before .improve .ensures in
+    let ran = c .before .before .before .before .before .before .before .improve .ensures in
     let refused = c .before .before .before .before .before .before .before .before .before .before .before .before .refusal-of-fleet in
     let left = c .before .before .before .before .before .before .before .before .before .before .before .if1 .left in
-    let is = answered-cross _ _ _ _ _ _ _ (refused .result) left (refused .ensures) _ _ _ _ _ (e .0) (e .1) (c .rearranged-of .ensures) in
-    let loads = carried-off _ _ _ _ _ _ _ (refused .result) left (refused .ensures) _ _ _ _ _ (e .0) (e .1) (c .rearranged-of .ensures) (e .3) in
-    (is .0, is .1, is .2, is .3, e .2, loads)
+    ended-cross _ _ _ _ _ _ _ (refused .result) left (refused .ensures) _ _ _ _ _ ran (c .rearranged-of .ensures)
 
 pub cross-depot-improve-spec : {M : Type 1} → statement M
 cross-depot-improve-spec =
