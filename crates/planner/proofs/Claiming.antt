@@ -21,7 +21,7 @@ use Rattle.soft.specs.declared.neighbours.Neighbourhood.{Neighbourhood}
 use Rattle.soft.specs.declared.neighbours.Neighbourhood.the-variants.{Reverse, Relocate, Reconnect}
 use Rattle.within.specs.Within.{Ran, hardRan}
 use Rattle.within.proofs.Kept.{ran-hard}
-use Rattle.planner.specs.Refusal.{refusal, Fine, fine, visits-fine}
+use Rattle.refusals.specs.Refusal.{refusal, Fine, fine, visits-fine}
 use Rattle.planner.specs.Improve.{runOn, improvedAs, answerOf, improveAnswer, improveVisits}
 use Rattle.planner.specs.Demand3.{WholeDay, mapFor, checksFor, Report, Claimed, reported}
 use Rattle.planner.proofs.Improving.{refused-call, answered-call, list-back}

@@ -20,8 +20,8 @@ use Rattle.cross_depot.specs.CrossDepot.{Carried, crossRan}
 use Rattle.cross_depot.specs.Scan.{Asked, Held}
 use Rattle.cross_depot.specs.Tables.{Handed, crossedOf}
 use Rattle.cross_depot.specs.declared.run.Crossed.{Crossed}
-use Rattle.planner.specs.Refusal.{refusalOfFleet, FineFleet}
-use Rattle.planner.specs.Answer.{refused-by, answered}
+use Rattle.refusals.specs.Refusal.{refusalOfFleet, FineFleet}
+use Rattle.refusals.specs.Answered.{refused-by, answered}
 use Rattle.planner.specs.Rearrange.{rearrangedOf, padded}
 use Rattle.planner.specs.Demand3.{remainingIn}
 use Rattle.planner.specs.CrossDepot.{crossOn, crossReport, paddedIds, crossAnswer, crossVisits, crossLengths, crossIds}

@@ -23,8 +23,8 @@ use Rattle.engine.specs.Engine.{endedAs}
 use Rattle.soft.specs.declared.neighbours.Neighbourhood.{Neighbourhood}
 use Rattle.within.specs.Within.{Ran, ranBy}
 use Rattle.within.proofs.Kept.{ran-same}
-use Rattle.planner.specs.Refusal.{refusal, Fine, fine, visits-fine}
-use Rattle.planner.specs.Answer.{refused-by, answered}
+use Rattle.refusals.specs.Refusal.{refusal, Fine, fine, visits-fine}
+use Rattle.refusals.specs.Answered.{refused-by, answered}
 use Rattle.planner.specs.Improve.{runOn, improvedAs, improvedOf, answerOf, improveAnswer, improveVisits}
 use Rattle.planner.specs.declared.improve.Improved.{Improved}
 use Rattle.planner.specs.declared.improve.Improved.the-variants as improved

@@ -33,8 +33,8 @@ use Rattle.loads.proofs.Tables.{held-of}
 use Rattle.exchange.proofs.Tables.{lent-of}
 use Rattle.across.specs.Across.{Ran, hardExchange, exchangeRan, hardRelocate, relocateRan}
 use Rattle.across.proofs.Hard.{exchange-hard, relocate-hard}
-use Rattle.planner.specs.Refusal.{refusalOfLists, FineLists, fine-lists}
-use Rattle.planner.specs.Answer.{refused-by, answered}
+use Rattle.refusals.specs.Refusal.{refusalOfLists, FineLists, fine-lists}
+use Rattle.refusals.specs.Answered.{refused-by, answered}
 use Rattle.planner.specs.Rearrange.{Over, settingOf, runOver, rearrangedAs, rearrangedOf, overAnswer, padded}
 use Rattle.planner.specs.Rearrange.{rearrangeAnswer, rearrangeVisits, rearrangeLengths, lengthsLeft, numberLeft}
 use Rattle.planner.specs.Demand3.{WholeDay, mapFor, checksFor, Report, Claimed, reportedOver, remainingIn}

@@ -8,8 +8,8 @@ use Rattle.fleet.specs.Fleet.{Fleet}
 use Rattle.lists.specs.Table.{lists, flat}
 use Rattle.evaluation.specs.Columns.{columnsOf}
 use Rattle.cross_depot.specs.CrossDepot.{Ran, crossRan}
-use Rattle.planner.specs.Refusal.{refusalOfFleet}
-use Rattle.planner.specs.Answer.{unlessRefused}
+use Rattle.refusals.specs.Refusal.{refusalOfFleet}
+use Rattle.refusals.specs.Answered.{unlessRefused}
 use Rattle.planner.specs.Rearrange.{rearrangedAs, padded}
 use Rattle.planner.specs.declared.rearrange.Rearranged.{Rearranged}
 use Rattle.planner.specs.declared.rearrange.Rearranged.the-variants as rearranged

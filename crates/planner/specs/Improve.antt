@@ -13,8 +13,8 @@ use Rattle.engine.specs.declared.Ended.{Ended}
 use Rattle.engine.specs.declared.Ended.the-variants as ended
 use Rattle.soft.specs.declared.neighbours.Neighbourhood.{Neighbourhood}
 use Rattle.within.specs.Within.{Ran, ranBy}
-use Rattle.planner.specs.Refusal.{refusal}
-use Rattle.planner.specs.Answer.{unlessRefused}
+use Rattle.refusals.specs.Refusal.{refusal}
+use Rattle.refusals.specs.Answered.{unlessRefused}
 use Rattle.planner.specs.declared.improve.Improved.{Improved}
 use Rattle.planner.specs.declared.improve.Improved.the-variants as improved
 

@@ -1,5 +1,3 @@
-pub mod Refusal
-pub mod Answer
 pub mod Improve
 pub mod Rearrange
 pub mod CrossDepot

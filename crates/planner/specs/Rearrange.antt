@@ -15,8 +15,8 @@ use Rattle.descent.specs.Claim.{dropped}
 use Rattle.engine.specs.declared.Ended.{Ended}
 use Rattle.engine.specs.declared.Ended.the-variants as ended
 use Rattle.across.specs.Across.{Ran, Setting, settingAt}
-use Rattle.planner.specs.Refusal.{refusalOfLists}
-use Rattle.planner.specs.Answer.{unlessRefused}
+use Rattle.refusals.specs.Refusal.{refusalOfLists}
+use Rattle.refusals.specs.Answered.{unlessRefused}
 use Rattle.planner.specs.declared.rearrange.Rearranged.{Rearranged}
 use Rattle.planner.specs.declared.rearrange.Rearranged.the-variants as rearranged
 

@@ -2,7 +2,7 @@
 // tables hold then; that they hold the same visits as before, whatever the numbers; and what the lists handed back carry.
 use crate::rearrange::Rearranged;
 use crate::rearrange::rearranged_of;
-use crate::refusal::refusal_of_fleet;
+use refusals::refusal_of_fleet;
 ghost use mathlib.Core.Path.{_≡_};
 ghost use lib.ListN.{take};
 ghost use Rattle.day.specs.Day.{dayAt};

@@ -1,12 +1,12 @@
 // The entries that change one list in place: 2-opt, Or-opt and 3-opt. Each contract says, in this order: what is answered; what the table of visits holds
 // then; that it holds the same visits as before, whatever the numbers; and, where demand 3's premises hold, its claim about this run.
-use crate::refusal::refusal_of;
 use day::vehicle::RouteLimits;
 use day::vehicle::Van;
 use engine::Ended;
 use evaluation::distance::route_distance;
 use lists::end_of;
 use lists::start_of;
+use refusals::refusal_of;
 use soft::neighbours::Neighbourhood;
 ghost use mathlib.Core.Path.{_≡_};
 ghost use mathlib.Core.Bool.{true};

@@ -1,10 +1,10 @@
 // The entries across lists, which change all lists in place: relocate and tail exchange. Each contract says, in this order: what is answered; what the
 // two tables hold then; that they hold the same visits as before, whatever the numbers; and, where demand 3's premises hold, its claim about this run.
-use crate::refusal::refusal_of_lists;
 use day::vehicle::RouteLimits;
 use day::vehicle::Van;
 use engine::Ended;
 use lists::drop_empty;
+use refusals::refusal_of_lists;
 ghost use mathlib.Core.Path.{_≡_};
 ghost use mathlib.Core.Bool.{false};
 ghost use lib.ListN.{take};

@@ -2,7 +2,7 @@
 use borrow.Author.Needs.{needs}
 use native.Mathlib.Nat.{not-suc-le-zero}
 use mathlib.Core.Path.{refl, sym, _∙_}
-use Rattle.planner.specs.Refusal.{fine-fleet}
+use Rattle.refusals.specs.Refusal.{fine-fleet}
 use Rattle.planner.proofs.Crossing.{asked, crewed, held, refused-cross, ended-cross}
 use Rattle.planner.proofs.depots.cross_depot_improve.Statement.{statement}
 use Rattle.planner.proofs.depots.cross_depot_improve.Tie as tie

@@ -2,7 +2,7 @@
 use borrow.Author.Needs.{needs}
 use Rattle.planner.specs.Improve.{answerOf}
 use Rattle.planner.proofs.Improving.{refused-call, improved-call, improvable}
-use Rattle.planner.specs.Refusal.{listed}
+use Rattle.refusals.specs.Refusal.{listed}
 use Rattle.lists.proofs.Tables.{list-within, part-is}
 use mathlib.Core.Path.{refl, sym, _∙_}
 use native.Mathlib.Omega.{arith}

@@ -2,7 +2,7 @@
 use borrow.Author.Needs.{needs}
 use Rattle.planner.proofs.Rearranging.{refused-over, rearranged-over, loaded, held, capacity-there, exchange-claimed}
 use Rattle.planner.specs.Rearrange.{runOver}
-use Rattle.planner.specs.Refusal.{fine-lists}
+use Rattle.refusals.specs.Refusal.{fine-lists}
 use Rattle.across.specs.Across.{exchangeRan}
 use Rattle.evaluation.specs.Columns.{formed}
 use mir.ValLaws.{toZ-ofZ}
