@@ -16,8 +16,8 @@ use Rattle.edits.specs.Total.{SameVisits}
 use Rattle.lists.specs.Table.{lists}
 use Rattle.evaluation.specs.Columns.{columnsOf, formed}
 use Rattle.loads.proofs.Boxes.{loaded-of}
-use Rattle.cross_depot.specs.CrossDepot.{Carried, crossRan}
-use Rattle.cross_depot.specs.Scan.{Asked, Held}
+use Rattle.cross_moves.specs.CrossDepot.{Carried, crossRan}
+use Rattle.cross_pairs.specs.Scan.{Asked, Held}
 use Rattle.cross_depot.specs.Tables.{Handed, crossedOf}
 use Rattle.cross_depot.specs.declared.run.Crossed.{Crossed}
 use Rattle.refusals.specs.Refusal.{refusalOfFleet, FineFleet}
