@@ -4,10 +4,10 @@ use mathlib.Core.Bool.{Bool, true, false}
 use lib.Ieee.{Float}
 use Rattle.checks.specs.declared.table.Table.{Table}
 use Rattle.checks.specs.declared.table.Table.the-variants as table
-use Rattle.planner.specs.declared.improve.Improved.{Improved}
-use Rattle.planner.specs.declared.improve.Improved.the-variants as improved
-use Rattle.planner.specs.declared.rearrange.Rearranged.{Rearranged}
-use Rattle.planner.specs.declared.rearrange.Rearranged.the-variants as rearranged
+use Rattle.improvements.specs.declared.Improved.{Improved}
+use Rattle.improvements.specs.declared.Improved.the-variants as improved
+use Rattle.rearrangements.specs.declared.Rearranged.{Rearranged}
+use Rattle.rearrangements.specs.declared.Rearranged.the-variants as rearranged
 use Rattle.checks.specs.declared.check.Distance.{Distance}
 use Rattle.checks.specs.declared.check.Distance.the-variants as distance
 use Rattle.checks.specs.declared.check.Feasibility.{Feasibility}

@@ -89,7 +89,7 @@ fn rearrange(
     limit: u32,
 ) -> Rearranged {
     match tag {
-        RELOCATE => planner::rearrange::relocate_improve(
+        RELOCATE | RELOCATE_WITHOUT_PRUNING => planner::rearrange::relocate_improve(
             l,
             flags,
             demand,
@@ -103,23 +103,7 @@ fn rearrange(
             visits,
             lengths,
             limit,
-            true,
-        ),
-        RELOCATE_WITHOUT_PRUNING => planner::rearrange::relocate_improve(
-            l,
-            flags,
-            demand,
-            service,
-            ready,
-            due,
-            penalty,
-            distances,
-            times,
-            van,
-            visits,
-            lengths,
-            limit,
-            false,
+            tag == RELOCATE,
         ),
         EXCHANGE => planner::rearrange::exchange_improve(
             l,

@@ -1,4 +1,0 @@
-pub mod Improve
-pub mod Rearrange
-pub mod CrossDepot
-pub mod Demand3
