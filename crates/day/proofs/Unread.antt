@@ -1,4 +1,4 @@
--- 'A value whose flag is off is never read': days and vans that differ only in such values have the same refusal, the same windows and the same limits,
+-- 'A value whose flag is off is never read': days and vans that differ only in such values meet the same tests and have the same windows and limits,
 -- because each definition asks the flag before the value.
 use Prim.Native.Nat.{ℕ, zero, suc}
 use mathlib.Core.Path.{_≡_, refl, sym, ap, _∙_}
@@ -9,12 +9,11 @@ use lib.Dec.{leb}
 use lib.ListN.{length, getD}
 use lib.Ieee.{Float, nan}
 use Rattle.numbers.specs.Plain.{plain}
-use Rattle.tests.specs.All.{allBelow, unless}
+use Rattle.tests.specs.All.{allBelow}
 use Rattle.day.specs.Day.{Day, dayOf, bit0, bit1, bit2}
 use Rattle.day.specs.Customer.{windowAt}
 use Rattle.day.specs.Vehicle.{breakOf, limitsOf}
-use Rattle.day.specs.Refusal.{lengthsOk, presentOk, penaltyOk, locationOk, locationsOk, spanOk, windowOk, windowsOk, breakOk, limitsOk, vanOk}
-use Rattle.day.specs.Refusal.{contentsRefusal, dayRefusal, vanRefusal}
+use Rattle.day.specs.Refusal.{lengthsOk, presentOk, penaltyOk, locationOk, locationsOk, spanOk, windowOk, windowsOk, breakOk, limitsOk}
 use Rattle.day.specs.Unread.{Agree, SameColumns, SameVan}
 use Rattle.day.specs.declared.vehicle.Van.{Van}
 use Rattle.day.specs.declared.vehicle.Limit.the-variants.{Unlimited, AtMost}
@@ -44,26 +43,23 @@ module _ (flags : List ℕ) (ready due penalty ready′ due′ penalty′ : List
   unfolding windowOk
   window-same k = present (bit1 (getD flags k 0)) _ _ (λ on. rw (same .ready-agrees .entries k on, same .due-agrees .entries k on))
 
-  locations-same : (l : ℕ) (demand : List ℤ) (service : List Float)
+  -- the same test of the locations
+  pub locations-same : (l : ℕ) (demand : List ℤ) (service : List Float)
       → locationsOk l flags demand service penalty ≡ locationsOk l flags demand service penalty′
   unfolding locationsOk locationOk
   locations-same l demand service = all-same _ _ (λ k. rw (penalty-same k)) l
 
-  windows-same : (l : ℕ) → windowsOk l flags ready due ≡ windowsOk l flags ready′ due′
+  -- the same test of the windows
+  pub windows-same : (l : ℕ) → windowsOk l flags ready due ≡ windowsOk l flags ready′ due′
   unfolding windowsOk
   windows-same l = all-same _ _ window-same l
 
   module _ (l : ℕ) (demand : List ℤ) (service distances times : List Float) where
-    lengths-same : lengthsOk (dayOf l flags demand service ready due penalty distances times)
+    -- the same test of the lengths
+    pub lengths-same : lengthsOk (dayOf l flags demand service ready due penalty distances times)
         ≡ lengthsOk (dayOf l flags demand service ready′ due′ penalty′ distances times)
     unfolding lengthsOk
     lengths-same = rw (same .ready-agrees .lengths, same .due-agrees .lengths, same .penalty-agrees .lengths)
-
-    -- the same refusal of the day
-    pub same-refusal : dayRefusal (dayOf l flags demand service ready due penalty distances times)
-        ≡ dayRefusal (dayOf l flags demand service ready′ due′ penalty′ distances times)
-    unfolding dayRefusal contentsRefusal
-    same-refusal = rw (lengths-same, locations-same l demand service, windows-same l)
 
   -- the same window of every location
   pub same-window : (k : ℕ) → windowAt flags ready due penalty k ≡ windowAt flags ready′ due′ penalty′ k
@@ -76,7 +72,8 @@ module _ (flags : List ℕ) (ready due penalty ready′ due′ penalty′ : List
       go false b p q = rw p
 
 module _ (v w : Van) (same : SameVan v w) where
-  limits-same : limitsOk v ≡ limitsOk w
+  -- the same test of the limits and the break
+  pub limits-same : limitsOk v ≡ limitsOk w
   unfolding limitsOk presentOk breakOk
   limits-same =
       rw (
@@ -86,11 +83,6 @@ module _ (v w : Van) (same : SameVan v w) where
             (λ on. rw (same .earliest on, same .latest on, same .duration on)),
         same .flags,
       )
-
-  -- the same refusal of the van
-  pub same-van-refusal : (flags : List ℕ) → vanRefusal flags v ≡ vanRefusal flags w
-  unfolding vanRefusal vanOk
-  same-van-refusal flags = rw (limits-same, same .depot, same .capacity, same .cost-per-distance, same .fixed-cost)
 
   break-same : bit2 (v .flags) ≡ true → breakOf v ≡ breakOf w
   break-same on = rw (same .earliest on, same .latest on, same .duration on)

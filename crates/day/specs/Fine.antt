@@ -1,4 +1,4 @@
--- What a day and a van that are not refused tell their callers. Assumes nothing.
+-- What a day whose tables have the right lengths tells its callers. Assumes nothing.
 use Prim.Native.Nat.{ℕ, zero, suc, _*_, _<_, _≤_, max, zero-le, suc-le-suc}
 use native.Mathlib.Omega.{arith}
 use mathlib.Core.Path.{_≡_, refl, sym, subst, _∙_}
@@ -8,13 +8,11 @@ use borrow.Author.Tests.{eqb-true, leb-true, ltb-true, ne-eqb}
 use lib.Dec.{eqb, leb, ltb}
 use lib.ListN.{length}
 use lib.Ieee.{Float}
-use Rattle.tests.specs.All.{passed, and-first, and-second}
+use Rattle.tests.specs.All.{and-first, and-second}
 use Rattle.day.specs.Day.{Day, bit0}
 use Rattle.day.specs.Matrix.{Square, Tables}
 use Rattle.day.specs.Customer.{leading, numDepots}
-use Rattle.day.specs.Refusal.{sizeOk, columnOk, tablesOk, lengthsOk, allPlain, locationsOk, depotsLead, windowsOk, isDepot, vanOk}
-use Rattle.day.specs.Refusal.{contentsRefusal, dayRefusal, vanRefusal}
-use Rattle.day.specs.declared.vehicle.Van.{Van}
+use Rattle.day.specs.Refusal.{sizeOk, columnOk, tablesOk, lengthsOk}
 
 -- each table has the length that L asks, and L is 1 to 64
 pub record Shaped (d : Day) : Type 0 where
@@ -27,21 +25,6 @@ pub record Shaped (d : Day) : Type 0 where
   pub due : length (d .due) ≡ d .l
   pub penalty : length (d .penalty) ≡ d .l
   pub tables : Tables (d .l) (d .distances) (d .times)
-
--- what a day that is not refused tells
-pub record DayFine (d : Day) : Type 0 where
-  pub shaped : Shaped d
-  pub distances : allPlain (d .distances) ≡ true
-  pub times : allPlain (d .times) ≡ true
-  pub locations : locationsOk (d .l) (d .flags) (d .demand) (d .service) (d .penalty) ≡ true
-  pub lead : depotsLead (d .flags) ≡ true
-  pub windows : windowsOk (d .l) (d .flags) (d .ready) (d .due) ≡ true
-  pub depots : numDepots (d .flags) ≤ d .l
-
--- what a van that is not refused tells
-pub record VanFine (flags : List ℕ) (v : Van) : Type 0 where
-  pub depot : v .depot < numDepots flags
-  pub van : vanOk v ≡ true
 
 -- ---- laws
 
@@ -109,32 +92,3 @@ leading-within (f ∷ fs) = go (bit0 f) (leading-within fs)
 pub depots-within : (flags : List ℕ) → 0 < length flags → numDepots flags ≤ length flags
 unfolding numDepots
 depots-within flags h = omega (arith, leading-within flags)
-
--- a day that is not refused is fine
-pub day-fine : (d : Day) → dayRefusal d ≡ 0 → DayFine d
-unfolding dayRefusal contentsRefusal
-day-fine d h =
-    let one = passed _ _ _ h tt in
-    let two = passed _ _ _ (one .1) tt in
-    let three = passed _ _ _ (two .1) tt in
-    let four = passed _ _ _ (three .1) tt in
-    let five = passed _ _ _ (four .1) tt in
-    let s = shaped d (one .0) (two .0) in
-    let locations = locationsOk (d .l) (d .flags) (d .demand) (d .service) (d .penalty) in
-    record {
-      shaped = s;
-      distances = and-first (allPlain (d .distances)) (allPlain (d .times)) (three .0);
-      times = and-second (allPlain (d .distances)) (allPlain (d .times)) (three .0);
-      locations = and-first locations (depotsLead (d .flags)) (four .0);
-      lead = and-second locations (depotsLead (d .flags)) (four .0);
-      windows = five .0;
-      depots = rw (← s .flags) (depots-within (d .flags) (rw (s .flags) (s .some)));
-    }
-
--- a van that is not refused is fine
-pub van-fine : (flags : List ℕ) (v : Van) → vanRefusal flags v ≡ 0 → VanFine flags v
-unfolding vanRefusal isDepot
-van-fine flags v h =
-    let six = passed _ _ _ h tt in
-    let seven = passed _ _ _ (six .1) tt in
-    record { depot = ltb-true _ _ (six .0); van = seven .0 }

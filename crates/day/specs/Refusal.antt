@@ -1,4 +1,4 @@
--- Refusals 1 to 7, line by line as document 01's table has them: each test says what is right, and its number is the answer where it fails. Assumes nothing.
+-- The tests of refusals 1 to 7, line by line as document 01's table has them: each says what is right. Their order is in day_refusals. Assumes nothing.
 use Prim.Native.Nat.{ℕ, zero, suc, _+_, _-_, _*_}
 use mathlib.Core.List.{List}
 use mathlib.Core.Bool.{Bool, true, false, not, _&&_, _||_}
@@ -9,7 +9,7 @@ use lib.ListN.{length, getD}
 use lib.Ieee.{Float, nan, fin, lt, le, eq}
 use Rattle.numbers.specs.Operations.{zero64}
 use Rattle.numbers.specs.Plain.{plain}
-use Rattle.tests.specs.All.{allBelow, unless}
+use Rattle.tests.specs.All.{allBelow}
 use Rattle.day.specs.Day.{Day, bit0, bit1, bit2}
 use Rattle.day.specs.Customer.{numDepots}
 use Rattle.day.specs.declared.vehicle.Van.{Van}
@@ -126,20 +126,3 @@ limitsOk v =
 -- the van's numbers
 unfoldable pub vanOk : Van → Bool
 vanOk v = capacityOk (v .capacity) && (costOk (v .«cost_per_distance») && (plain (v .«fixed_cost») && limitsOk v))
-
--- ---- 'The order is by number'
-
--- the first of 3 to 5 that the day meets, and 0 where it meets none
-unfoldable pub contentsRefusal : Day → ℕ
-contentsRefusal d =
-    unless (allPlain (d .distances) && allPlain (d .times)) 3
-    (unless (locationsOk (d .l) (d .flags) (d .demand) (d .service) (d .penalty) && depotsLead (d .flags)) 4
-    (unless (windowsOk (d .l) (d .flags) (d .ready) (d .due)) 5 0))
-
--- the first of 1 to 5 that the day meets, and 0 where it meets none
-unfoldable pub dayRefusal : Day → ℕ
-dayRefusal d = unless (sizeOk (d .l)) 1 (unless (lengthsOk d) 2 (contentsRefusal d))
-
--- the first of 6 and 7 that the van meets, and 0 where it meets none
-unfoldable pub vanRefusal : List ℕ → Van → ℕ
-vanRefusal flags v = unless (isDepot flags (v .depot)) 6 (unless (vanOk v) 7 0)

@@ -1,8 +1,8 @@
 // Refusals 11 and 12 of document 01, and 6 and 7 of every van of a fleet: 11 first, then every van for 6, then every van for 7.
 use crate::vehicle::van_at;
 use day::customer::num_depots;
-use day::refusal::all_plain;
-use day::refusal::van_refusal;
+use day_refusals::all_plain;
+use day_refusals::van_refusal;
 use tests::both;
 use tests::refuse_unless;
 ghost use mathlib.Core.Path.{_≡_};

@@ -2,20 +2,20 @@
 use Prim.Native.Nat.{ℕ}
 use mathlib.Core.Bool.{Bool, true, false}
 use lib.Ieee.{Float}
-use Rattle.planner.specs.declared.table.Table.{Table}
-use Rattle.planner.specs.declared.table.Table.the-variants as table
-use Rattle.planner.specs.declared.improve.Improved.{Improved}
-use Rattle.planner.specs.declared.improve.Improved.the-variants as improved
-use Rattle.planner.specs.declared.rearrange.Rearranged.{Rearranged}
-use Rattle.planner.specs.declared.rearrange.Rearranged.the-variants as rearranged
-use Rattle.planner.specs.declared.check.Distance.{Distance}
-use Rattle.planner.specs.declared.check.Distance.the-variants as distance
-use Rattle.planner.specs.declared.check.Feasibility.{Feasibility}
-use Rattle.planner.specs.declared.check.Feasibility.the-variants as feasibility
-use Rattle.planner.specs.declared.check.Evaluated.{Evaluated}
-use Rattle.planner.specs.declared.check.Evaluated.the-variants as evaluated
-use Rattle.planner.specs.declared.check.Timetable.{Timetable}
-use Rattle.planner.specs.declared.check.Timetable.the-variants as timetable
+use Rattle.checks.specs.declared.table.Table.{Table}
+use Rattle.checks.specs.declared.table.Table.the-variants as table
+use Rattle.improvements.specs.declared.Improved.{Improved}
+use Rattle.improvements.specs.declared.Improved.the-variants as improved
+use Rattle.rearrangements.specs.declared.Rearranged.{Rearranged}
+use Rattle.rearrangements.specs.declared.Rearranged.the-variants as rearranged
+use Rattle.checks.specs.declared.check.Distance.{Distance}
+use Rattle.checks.specs.declared.check.Distance.the-variants as distance
+use Rattle.checks.specs.declared.check.Feasibility.{Feasibility}
+use Rattle.checks.specs.declared.check.Feasibility.the-variants as feasibility
+use Rattle.checks.specs.declared.check.Evaluated.{Evaluated}
+use Rattle.checks.specs.declared.check.Evaluated.the-variants as evaluated
+use Rattle.checks.specs.declared.check.Timetable.{Timetable}
+use Rattle.checks.specs.declared.check.Timetable.the-variants as timetable
 use Rattle.evaluation.specs.declared.label.Taken.{Taken}
 use Rattle.evaluation.specs.declared.label.Taken.the-variants.{Untaken, At}
 

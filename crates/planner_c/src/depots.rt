@@ -8,8 +8,8 @@ ghost use Rattle.edits.specs.Total.{SameVisits};
 ghost use Rattle.lists.specs.Table.{lists};
 ghost use Rattle.fleet.specs.Fleet.{fleetAt};
 ghost use Rattle.cross_moves.specs.CrossDepot.{Carried};
-ghost use Rattle.planner.specs.CrossDepot.{crossAnswer, crossVisits, crossLengths, crossIds};
-ghost use Rattle.planner.specs.Demand3.{remainingIn};
+ghost use Rattle.crossings.specs.CrossDepot.{crossAnswer, crossVisits, crossLengths, crossIds};
+ghost use Rattle.rearrangements.specs.Rearrange.{remainingIn};
 ghost use Rattle.planner_c.specs.Written.{rearrangeCode, overSettledIn, overMovesIn, remainingWritten};
 
 // Relocation, swap and tail exchange between lists, each under the van of its id.

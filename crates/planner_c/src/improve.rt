@@ -7,8 +7,8 @@ ghost use Rattle.edits.specs.Total.{SameVisits};
 ghost use Rattle.lists.specs.Table.{listOf};
 ghost use Rattle.descent.specs.Permitted.{two-opt, or-opt, three-opt, n-minus-length};
 ghost use Rattle.soft.specs.declared.neighbours.Neighbourhood.the-variants.{Reverse, Relocate, Reconnect};
-ghost use Rattle.planner.specs.Improve.{improveAnswer, improveVisits};
-ghost use Rattle.planner.specs.Demand3.{Claimed, reported};
+ghost use Rattle.improvements.specs.Improve.{improveAnswer, improveVisits, reported};
+ghost use Rattle.claims.specs.Demand3.{Claimed};
 ghost use Rattle.planner_c.specs.Written.{improveCode, settledIn, movesIn, endDistanceIn};
 
 // Writes how a run ended, if it was not refused.

@@ -10,8 +10,8 @@ ghost use Rattle.edits.specs.Total.{SameVisits};
 ghost use Rattle.lists.specs.Table.{lists};
 ghost use Rattle.descent.specs.Permitted.{relocate, tail-exchange};
 ghost use Rattle.across.specs.Across.{relocateRan, exchangeRan};
-ghost use Rattle.planner.specs.Rearrange.{rearrangeAnswer, rearrangeVisits, rearrangeLengths};
-ghost use Rattle.planner.specs.Demand3.{Claimed, reportedOver, remainingIn};
+ghost use Rattle.rearrangements.specs.Rearrange.{rearrangeAnswer, rearrangeVisits, rearrangeLengths, reportedOver, remainingIn};
+ghost use Rattle.claims.specs.Demand3.{Claimed};
 ghost use Rattle.planner_c.specs.Written.{rearrangeCode, overSettledIn, overMovesIn, remainingWritten};
 
 // Writes how a run ended, if it was not refused.

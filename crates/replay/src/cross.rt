@@ -1,16 +1,17 @@
 // Cross-depot's runs. The fleet, and the van id and price of each list, stand in the run itself. It is made on copies of visits, lengths and van ids, and
 // agrees if the end word, the moves, the lists that remain and every entry of the three tables are the stored ones.
-use crate::bytes::behind;
-use crate::bytes::byte_at;
-use crate::bytes::count_at;
-use crate::bytes::part;
-use crate::bytes::value;
-use crate::columns;
-use crate::layout::gap;
 use crate::rearrange::BEFORE;
 use crate::rearrange::are_handed_back;
 use crate::rearrange::ends_as_stored;
-use crate::whole::are_known;
+use sample::bytes::behind;
+use sample::bytes::byte_at;
+use sample::bytes::count_at;
+use sample::bytes::part;
+use sample::bytes::value;
+use sample::columns;
+use sample::columns::room_for;
+use sample::layout::gap;
+use sample::whole::are_known;
 
 pub const CROSS: u8 = 22;
 
@@ -190,14 +191,8 @@ fn agrees_with(
     visits: &[u16],
     lengths: &[u16],
 ) -> bool {
-    let n = visits.len();
-    let m = lengths.len();
-    if n > 64 {
-        return false;
-    }
-    if m > 64 {
-        return false;
-    }
+    let n = room_for(visits.len());
+    let m = room_for(lengths.len());
     let prices_at = behind(run, ids_at, m);
     let end_at = behind(run, prices_at, m);
     let prices = columns::numbers(table, run, prices_at, m);

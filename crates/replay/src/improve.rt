@@ -1,18 +1,19 @@
 // The kinds of run that change one list: 2-opt, Or-opt and 3-opt. Each is made on a copy of the day's visits, and agrees if the end word, the moves, the
 // distance and every visit of the whole table are the stored ones: the visits of the list asked for as the run has them, all others as the day has them.
-use crate::bytes::byte_at;
-use crate::bytes::count_at;
-use crate::bytes::is_known;
-use crate::bytes::part;
-use crate::bytes::value;
-use crate::columns;
-use crate::stored;
-use crate::stored::is_count;
-use crate::stored::is_number;
 use day::vehicle::Van;
 use lists::length_of;
 use lists::start_of;
 use planner::improve::Improved;
+use sample::bytes::byte_at;
+use sample::bytes::count_at;
+use sample::bytes::is_known;
+use sample::bytes::part;
+use sample::bytes::value;
+use sample::columns;
+use sample::columns::room_for;
+use sample::stored;
+use sample::stored::is_count;
+use sample::stored::is_number;
 
 pub const TWO_OPT: u8 = 16;
 
@@ -214,10 +215,7 @@ pub fn agrees(
     visits: &[u16],
     lengths: &[u16],
 ) -> bool {
-    let n = visits.len();
-    if n > 64 {
-        return false;
-    }
+    let n = room_for(visits.len());
     if !is_known(table, byte_at(run, 1)) {
         return false;
     }

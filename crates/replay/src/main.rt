@@ -1,17 +1,13 @@
 // The stored sample of the published Rust's answers (oracle/README.md, 'The stored sample'), replayed through the planner's entries and compared bit for bit.
 // It prints how many runs of each kind agree and how many differ, or only `malformed` where the file isn't of that form. Each kind has its own pass over
-// the file, so that a pass carries two counts and nothing else. Every read is tested: no file, whatever its bytes, can be read outside of.
-mod bytes; // bytes by position, words and numbers
-mod layout; // where the parts of a day lie
-mod columns; // the parts of a day as tables to lend
-mod whole; // whether the file has the stored form
-mod stored; // whether an answer is the one stored
+// the file, so that a pass carries two counts and nothing else.
 mod improve; // the kinds of run that change one list
 mod rearrange; // the kinds of run that change all lists
 mod cross; // the kind of run that has a fleet
 mod runs; // one function for each kind of run
 mod score; // how many runs of a kind agree
 
+use sample::whole::file_is_whole;
 ghost use mathlib.Core.Path.{_≡_};
 ghost use lib.ListN.{length};
 
@@ -25,7 +21,7 @@ fn line(kind: &[u8], data: &[u8], tag: u8) {
 }
 
 fn replay(data: &[u8]) {
-    if !whole::file_is_whole(data) {
+    if !file_is_whole(data) {
         io::write_all(1, b"malformed\n");
         return;
     }

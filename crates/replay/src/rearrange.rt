@@ -1,15 +1,16 @@
 // The kinds of run that change all lists: relocate, with pruning and without, and tail exchange. Each is made on copies of the day's visits and lengths, and
 // agrees if the end word, the moves, the lists that remain and every entry of both tables are the stored ones.
-use crate::bytes::byte_at;
-use crate::bytes::count_at;
-use crate::bytes::is_known;
-use crate::bytes::part;
-use crate::bytes::value;
-use crate::columns;
-use crate::stored;
-use crate::stored::is_count;
 use day::vehicle::Van;
 use planner::rearrange::Rearranged;
+use sample::bytes::byte_at;
+use sample::bytes::count_at;
+use sample::bytes::is_known;
+use sample::bytes::part;
+use sample::bytes::value;
+use sample::columns;
+use sample::columns::room_for;
+use sample::stored;
+use sample::stored::is_count;
 
 pub const RELOCATE: u8 = 19;
 
@@ -88,7 +89,7 @@ fn rearrange(
     limit: u32,
 ) -> Rearranged {
     match tag {
-        RELOCATE => planner::rearrange::relocate_improve(
+        RELOCATE | RELOCATE_WITHOUT_PRUNING => planner::rearrange::relocate_improve(
             l,
             flags,
             demand,
@@ -102,23 +103,7 @@ fn rearrange(
             visits,
             lengths,
             limit,
-            true,
-        ),
-        RELOCATE_WITHOUT_PRUNING => planner::rearrange::relocate_improve(
-            l,
-            flags,
-            demand,
-            service,
-            ready,
-            due,
-            penalty,
-            distances,
-            times,
-            van,
-            visits,
-            lengths,
-            limit,
-            false,
+            tag == RELOCATE,
         ),
         EXCHANGE => planner::rearrange::exchange_improve(
             l,
@@ -195,14 +180,8 @@ pub fn agrees(
     visits: &[u16],
     lengths: &[u16],
 ) -> bool {
-    let n = visits.len();
-    let m = lengths.len();
-    if n > 64 {
-        return false;
-    }
-    if m > 64 {
-        return false;
-    }
+    let n = room_for(visits.len());
+    let m = room_for(lengths.len());
     if !is_known(table, byte_at(run, 0)) {
         return false;
     }

@@ -1,17 +1,17 @@
 // The kinds of run that change nothing, and with them all kinds: each asks the planner's entry for the stored list, and says whether the answer is the
 // stored one to the last bit. A refused run differs, and so does one that hasn't the form of its kind. A new kind is a tag, a function and an arm.
-use crate::bytes::byte_at;
-use crate::bytes::count_at;
 use crate::cross;
 use crate::improve;
 use crate::rearrange;
-use crate::stored::is_number;
 use day::vehicle::Van;
 use evaluation::label::Taken;
 use planner::check::Distance;
 use planner::check::Evaluated;
 use planner::check::Feasibility;
 use planner::check::Timetable;
+use sample::bytes::byte_at;
+use sample::bytes::count_at;
+use sample::stored::is_number;
 
 pub const FEASIBLE: u8 = 1;
 

@@ -1,16 +1,16 @@
 // How many runs of one kind agree with the stored answers.
-use crate::bytes::behind;
-use crate::bytes::byte_at;
-use crate::bytes::count_at;
-use crate::bytes::pair;
-use crate::bytes::part;
-use crate::columns;
-use crate::layout::Head;
-use crate::layout::Tail;
-use crate::layout::head_of;
-use crate::layout::tail_of;
 use crate::runs::agrees;
 use day::vehicle::Van;
+use sample::bytes::behind;
+use sample::bytes::byte_at;
+use sample::bytes::count_at;
+use sample::bytes::pair;
+use sample::bytes::part;
+use sample::columns;
+use sample::layout::Head;
+use sample::layout::Tail;
+use sample::layout::head_of;
+use sample::layout::tail_of;
 
 pub struct Score {
     pub agree: u64,

@@ -12,7 +12,8 @@ either-requires c κs = search needs
 
 returns : tie.Need-returns
 unfolding isEarlier
-returns c = cc
+returns c =
+    rw (c .either .ensures, c .before .both .ensures)
 
 pub is-earlier-spec : {M : Type 1} → statement M
 is-earlier-spec = tie.close (tie.spec both-requires either-requires returns)

@@ -15,7 +15,8 @@ either-requires c κs = search needs
 
 returns : tie.Need-returns
 unfolding checksNeeded
-returns c = cc
+returns c =
+    rw (c .either .ensures, c .before .is-unlimited .ensures, c .before .before .has-time-windows .ensures)
 
 pub route-checks-needed-spec : {M : Type 1} → statement M
 route-checks-needed-spec =

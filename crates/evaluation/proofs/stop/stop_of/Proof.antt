@@ -15,7 +15,8 @@ time-window-requires c κs = search needs
 
 returns : tie.Need-returns
 unfolding stopOf
-returns c = cc
+returns c =
+    rw (c .time-window .ensures)
 
 pub stop-of-spec : {M : Type 1} → statement M
 stop-of-spec = tie.close (tie.spec mul-t7 shared-slice-read-t9 time-window-requires returns)

@@ -9,7 +9,8 @@ both-requires c κs = search needs
 
 returns : tie.Need-returns
 unfolding listColumnsOk
-returns c = cc
+returns c =
+    rw (c .both .ensures)
 
 pub list-columns-ok-spec : {M : Type 1} → statement M
 list-columns-ok-spec = tie.close (tie.spec both-requires returns)

@@ -12,7 +12,8 @@ refuse-unless-requires c κs = search needs
 
 returns : tie.Need-returns
 unfolding pricesRefusal
-returns c = cc
+returns c =
+    rw (c .refuse-unless .ensures, c .before .all-plain .ensures)
 
 pub prices-refusal-spec : {M : Type 1} → statement M
 prices-refusal-spec = tie.close (tie.spec all-plain-requires refuse-unless-requires returns)

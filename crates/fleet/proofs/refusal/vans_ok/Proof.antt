@@ -7,7 +7,7 @@ use native.Mathlib.Omega.{arith}
 use lib.ListN.{length}
 use Rattle.tests.specs.All.{allBelow, all-none, all-more, all-fails, all-end, all-at}
 use Rattle.day.specs.Refusal.{vanOk}
-use Rattle.day.specs.Fine.{van-fine}
+use Rattle.day_refusals.specs.Order.{van-fine}
 use Rattle.fleet.specs.Fleet.{fleetOf, vanAt}
 use Rattle.fleet.specs.Refusal.{depotsOk, vansOk}
 use Rattle.fleet.proofs.Refused.{van-refused}

@@ -15,7 +15,8 @@ both-requires c κs = search needs
 
 returns : tie.Need-returns
 unfolding allows
-returns c = cc
+returns c =
+    rw (c .both .ensures, c .before .keeps-limit2 .ensures, c .before .before .keeps-limit .ensures)
 
 pub allow-spec : {M : Type 1} → statement M
 allow-spec = tie.close (tie.spec keeps-limit-requires keeps-limit-requires-2 both-requires returns)

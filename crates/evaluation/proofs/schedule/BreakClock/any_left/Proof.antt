@@ -15,7 +15,8 @@ either-requires c κs = search needs
 
 returns : tie.Need-returns
 unfolding anyLeft
-returns c = cc
+returns c =
+    rw (c .either .ensures, c .before .is-served2 .ensures, c .before .before .is-served .ensures)
 
 pub any-left-spec : {M : Type 1} → statement M
 any-left-spec =

@@ -1,4 +1,0 @@
-pub mod Improving
-pub mod Claiming
-pub mod Rearranging
-pub mod Crossing

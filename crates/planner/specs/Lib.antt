@@ -1,6 +1,0 @@
-pub mod Refusal
-pub mod Answer
-pub mod Improve
-pub mod Rearrange
-pub mod CrossDepot
-pub mod Demand3
