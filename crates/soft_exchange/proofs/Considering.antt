@@ -22,7 +22,7 @@ use Rattle.loads.specs.Loads.{boxesOf}
 use Rattle.exchange.specs.Exchange.{scan, nothing}
 use Rattle.exchange.specs.declared.Choice.{Choice}
 use Rattle.soft_exchange.specs.SoftExchange.{priced, change}
-use Rattle.soft_exchange.specs.Parts.{costIn, measuresFor, Figured, better, bestRow, bestOf}
+use Rattle.soft_exchange.specs.Parts.{costIn, measuresFor, Priced, changeOf, better, bestRow, bestOf}
 use Rattle.soft_exchange.specs.declared.Terms.{Terms}
 use Rattle.soft_exchange.specs.declared.Figures.{Figures}
 
@@ -39,6 +39,11 @@ scan-same : {A B : Type 0} (f : A → B → B) → ((x : A) (b : B) → f x b �
 unfolding scan
 scan-same f same [] b = refl
 scan-same f same (x ∷ xs) b = ap (scan f xs) (same x b) ∙ scan-same f same xs b
+
+-- what the code computes is the definition's change
+pub same-change : (c : Columns) (t : Terms) (X Y newX newY : List ℕ) (f : Figures) → Priced c t X Y f → (x new1 new2 : Float) → new1 ≡ costIn c t newX
+    → new2 ≡ costIn c t newY → x ≡ new1 ⊕ new2 ⊖ f .cost1 ⊖ f .cost2 → x ≡ change (costIn c t) X Y newX newY
+same-change c t X Y newX newY f costs x new1 new2 e1 e2 e = rw (e, e1, e2, costs .first-cost, costs .second-cost)
 
 -- both lists have a price
 pub prices-known : (c : Columns) (t : Terms) (X Y : List ℕ) (cost1 cost2 : Float) (a b : Bool) → cost1 ≡ costIn c t X → cost2 ≡ costIn c t Y
@@ -85,27 +90,23 @@ module _ (c : Columns) (demand : List ℤ) (t : Terms) where
     unfolding better
     stays-unpriced e = sym (other _ _ _ _ (right-out (lt delta (best .delta)) _ (right-out rooms (priced (costIn c t) X Y) e)) refl)
 
-    module _ (f : Figures) (figured : Figured c demand t X Y f) (new1 new2 : Float) (e1 : new1 ≡ costIn c t newX) (e2 : new2 ≡ costIn c t newY) where
-      -- what the code computes is the definition's delta
-      same-delta : new1 ⊕ new2 ⊖ f .cost1 ⊖ f .cost2 ≡ delta
-      same-delta = rw (e1, e2, figured .first-cost, figured .second-cost)
-
-      pub stays-delta : lt (new1 ⊕ new2 ⊖ f .cost1 ⊖ f .cost2) (best .delta) ≡ false → best ≡ better c demand t X Y cut1 cut2 best
+    module _ (x : Float) (is-delta : x ≡ changeOf c t X Y cut1 cut2) where
+      pub stays-delta : lt x (best .delta) ≡ false → best ≡ better c demand t X Y cut1 cut2 best
       unfolding better
       stays-delta h =
-          let out : lt delta (best .delta) ≡ false = ap (λ (x : Float). lt x (best .delta)) (sym same-delta) ∙ h in
+          let out : lt delta (best .delta) ≡ false = rw is-delta at h in
           other _ _ _ _ (left-out (lt delta (best .delta)) (rooms && priced (costIn c t) X Y) out) refl
 
       pub taken-up : priced (costIn c t) X Y ≡ true → (load1 load2 : ℕ) → load1 ≡ total (boxesOf demand) newX → load1 ≤ t .capacity
-          → load2 ≡ total (boxesOf demand) newY → load2 ≤ t .capacity → lt (new1 ⊕ new2 ⊖ f .cost1 ⊖ f .cost2) (best .delta) ≡ true
-          → record { cut1 = cut1; cut2 = cut2; delta = new1 ⊕ new2 ⊖ f .cost1 ⊖ f .cost2 } ≡ better c demand t X Y cut1 cut2 best
+          → load2 ≡ total (boxesOf demand) newY → load2 ≤ t .capacity → lt x (best .delta) ≡ true
+          → record { cut1 = cut1; cut2 = cut2; delta = x } ≡ better c demand t X Y cut1 cut2 best
       unfolding better
       taken-up both-priced load1 load2 d1 h1 d2 h2 h =
-          let under : lt delta (best .delta) ≡ true = ap (λ (x : Float). lt x (best .delta)) (sym same-delta) ∙ h in
+          let under : lt delta (best .delta) ≡ true = rw is-delta at h in
           let both = and-both (room (measuresFor demand t) newX) (room (measuresFor demand t) newY) (within newX load1 d1 h1) (within newY load2 d2 h2) in
           let pass = and-both rooms (priced (costIn c t) X Y) both both-priced in
           picked _ _ _ _ (and-both (lt delta (best .delta)) (rooms && priced (costIn c t) X Y) under pass)
-          (ap (λ (x : Float). record { cut1 = cut1; cut2 = cut2; delta = x }) same-delta)
+          (ap (λ (x : Float). record { cut1 = cut1; cut2 = cut2; delta = x }) is-delta)
 
   module _ (X Y : List ℕ) where
     -- a pair of which one list has no price

@@ -17,6 +17,8 @@ use Rattle.descent.specs.Permitted.{Measure, room}
 use Rattle.descent.specs.Search.{Search, Judge, Sweep, taken, firstMove, next}
 use Rattle.descent.specs.Across.{Pair, Tails}
 use Rattle.loads.specs.Loads.{boxesOf, Loaded}
+use Rattle.heads.specs.Head.{Driven}
+use Rattle.heads.specs.declared.Head.{Head}
 use Rattle.exchange.specs.Exchange.{scan, nothing}
 use Rattle.exchange.specs.declared.Choice.{Choice}
 use Rattle.soft_exchange.specs.SoftExchange.{priced, change, soft-exchange-search, soft-exchange-judge}
@@ -45,14 +47,26 @@ pub record Asked (c : Columns) (demand : List ℤ) (t : Terms) : Type 0 where
   pub loaded : Loaded (c .l) demand
   pub depot-there : t .depot < c .l
 
--- the loads and the costs of two lists as they are
-pub record Figured (c : Columns) (demand : List ℤ) (t : Terms) (X Y : List ℕ) (f : Figures) : Type 0 where
-  pub first-load : f .load1 ≡ total (boxesOf demand) X
-  pub second-load : f .load2 ≡ total (boxesOf demand) Y
+-- a head of a list, driven by the van with these terms
+abbrev pub DrivenBy : Columns → Terms → List ℕ → Head → Type 0
+DrivenBy c t = Driven c (t .limits .rest) (t .depot)
+
+-- the costs of two lists as they are
+pub record Priced (c : Columns) (t : Terms) (X Y : List ℕ) (f : Figures) : Type 0 where
   pub first-cost : f .cost1 ≡ costIn c t X
   pub second-cost : f .cost2 ≡ costIn c t Y
 
+-- and their loads
+pub record Figured (c : Columns) (demand : List ℤ) (t : Terms) (X Y : List ℕ) (f : Figures) : Type 0 where
+  pub first-load : f .load1 ≡ total (boxesOf demand) X
+  pub second-load : f .load2 ≡ total (boxesOf demand) Y
+  pub costs : Priced c t X Y f
+
 -- ---- the best exchange of two lists
+
+-- what an exchange changes
+abbrev pub changeOf : Columns → Terms → List ℕ → List ℕ → ℕ → ℕ → Float
+changeOf c t X Y cut1 cut2 = change (costIn c t) X Y (joined X cut1 Y cut2) (joined Y cut2 X cut1)
 
 -- one candidate more: 'below the best so far' is 'counts' too, since the best starts at minus the floor
 unfoldable pub better : Columns → List ℤ → Terms → List ℕ → List ℕ → ℕ → ℕ → Choice → Choice

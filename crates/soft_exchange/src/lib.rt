@@ -3,6 +3,7 @@
 //
 // Pairs, cuts, loads and the order of search are those of `exchange`. What differs is the delta, and that a pair of which one list has no finite price has
 // no move. The cut at both ends, which changes nothing, is tried too: where its rounded delta counts, only the limit ends the run, as in the Rust.
+// Candidates with one cut share the head in front of it: it is driven once (`heads`), and a new list is priced from there on.
 use day::matrix::scale;
 use day::vehicle::RouteLimits;
 use edits::append_stretch;
@@ -12,6 +13,10 @@ use exchange::Choice;
 use exchange::Found;
 use exchange::Place;
 use exchange::place_after;
+use heads::Head;
+use heads::at_depot;
+use heads::price_from;
+use heads::reach;
 use lists::exchange_tails;
 use lists::list_of;
 use loads::boxes_at;
@@ -19,6 +24,7 @@ use loads::boxes_in;
 use loads::load_of;
 use numbers::gain_floor;
 use numbers::is_finite;
+use tests::both;
 ghost use mathlib.Core.Path.{_≡_};
 ghost use mathlib.Core.Bool.{true};
 ghost use mathlib.Core.List.{[]};
@@ -27,19 +33,21 @@ ghost use lib.IntN.{pos};
 ghost use lib.Signed.{leZ};
 ghost use lib.ListN.{length, take};
 ghost use Rattle.numbers.specs.Floor.{gainFloor};
+ghost use Rattle.numbers.specs.Operations.{_⊕_, _⊖_};
 ghost use Rattle.day.specs.Matrix.{scaleOf};
 ghost use Rattle.edits.specs.Total.{total};
 ghost use Rattle.lists.specs.Table.{lists};
 ghost use Rattle.lists.specs.Edits.{joined, Edited};
 ghost use Rattle.evaluation.specs.Columns.{columnsAt, Formed};
 ghost use Rattle.evaluation.specs.Route.{effectiveCost};
+ghost use Rattle.heads.specs.Head.{Driven};
 ghost use Rattle.descent.specs.Search.{run};
 ghost use Rattle.engine.specs.Engine.{endedAs};
 ghost use Rattle.loads.specs.Loads.{boxesOf, Loaded};
 ghost use Rattle.loads.specs.Loads.{Held};
 ghost use Rattle.exchange.specs.Exchange.{Two, pairAt, movedBy, from, InSweep, leads, Apt};
 ghost use Rattle.soft_exchange.specs.SoftExchange.{priced, soft-exchange-run};
-ghost use Rattle.soft_exchange.specs.Parts.{costIn, Asked, Figured, better, bestRow, bestOf, takenAt, firstAt, nextOf};
+ghost use Rattle.soft_exchange.specs.Parts.{costIn, Asked, DrivenBy, Priced, Figured, changeOf, better, bestRow, bestOf, takenAt, firstAt, nextOf};
 
 // What stays the same over a run: worked out once, before the first move.
 pub struct Terms {
@@ -62,7 +70,7 @@ pub struct Figures {
 
 // ---- a candidate
 
-// What the first `cut1` visits of a list cost with another's tail behind them.
+// What the first `cut1` visits of a list cost with another's tail behind them, driven whole.
 fn joined_cost(
     flags: &[u8],
     service: &[f64],
@@ -104,10 +112,16 @@ fn joined_cost(
     )
 }
 
-// The better of the best so far and one exchange more, of which the new loads are known: loads first, then both new lists are priced.
-fn consider(
+// Minus what the two lists cost as they are.
+fn change_by(figures: Figures, new1: f64, new2: f64) -> f64
+    ensures { λ r. ⌜ r ≡ new1 ⊕ new2 ⊖ figures .cost1 ⊖ figures .cost2 ⌝ }
+{
+    new1 + new2 - figures.cost1 - figures.cost2
+}
+
+// What an exchange changes, both new lists driven whole.
+fn change_whole(
     flags: &[u8],
-    demand: &[i32],
     service: &[f64],
     ready: &[f64],
     due: &[f64],
@@ -120,27 +134,15 @@ fn consider(
     figures: Figures,
     cut1: usize,
     cut2: usize,
-    load1: usize,
-    load2: usize,
-    best: Choice,
-) -> Choice
-    requires { ⌜ Asked (columnsAt (terms .l) flags service ready due penalty distances times) (now demand) terms ⌝ }
+) -> f64
+    requires { ⌜ Formed (columnsAt (terms .l) flags service ready due penalty distances times) × (terms .depot < terms .l) ⌝ }
     requires { ⌜ Two (terms .l) (now one) (now other) × (cut1 ≤ length (now one)) × (cut2 ≤ length (now other)) ⌝ }
-    requires { ⌜ Figured (columnsAt (terms .l) flags service ready due penalty distances times) (now demand) terms (now one) (now other) figures ⌝ }
-    requires { ⌜ priced (costIn (columnsAt (terms .l) flags service ready due penalty distances times) terms) (now one) (now other) ≡ true ⌝ }
-    requires { ⌜ (load1 ≡ total (boxesOf (now demand)) (joined (now one) cut1 (now other) cut2))
-        × (load2 ≡ total (boxesOf (now demand)) (joined (now other) cut2 (now one) cut1)) ⌝ }
+    requires { ⌜ Priced (columnsAt (terms .l) flags service ready due penalty distances times) terms (now one) (now other) figures ⌝ }
     ensures { λ r.
-        ⌜ r ≡ better
+        ⌜ r ≡ changeOf
         (columnsAt (terms .l) (flags .entry) (service .entry) (ready .entry) (due .entry) (penalty .entry) (distances .entry) (times .entry))
-        (now (demand .entry)) terms (now (one .entry)) (now (other .entry)) cut1 cut2 best ⌝ }
+        terms (now (one .entry)) (now (other .entry)) cut1 cut2 ⌝ }
 {
-    if load1 > terms.capacity {
-        return best;
-    }
-    if load2 > terms.capacity {
-        return best;
-    }
     let new1 = joined_cost(
         flags,
         service,
@@ -169,7 +171,192 @@ fn consider(
         one,
         cut1,
     );
-    let delta = new1 + new2 - figures.cost1 - figures.cost2;
+    change_by(figures, new1, new2)
+}
+
+// What an exchange changes, each new list driven from the end of the head that it keeps.
+fn change_behind(
+    flags: &[u8],
+    service: &[f64],
+    ready: &[f64],
+    due: &[f64],
+    penalty: &[f64],
+    distances: &[f64],
+    times: &[f64],
+    terms: Terms,
+    one: &[u16],
+    other: &[u16],
+    figures: Figures,
+    cut1: usize,
+    cut2: usize,
+    driven1: Head,
+    driven2: Head,
+) -> f64
+    requires { ⌜ Formed (columnsAt (terms .l) flags service ready due penalty distances times) × (terms .depot < terms .l) ⌝ }
+    requires { ⌜ Two (terms .l) (now one) (now other) × (cut1 ≤ length (now one)) × (cut2 ≤ length (now other)) ⌝ }
+    requires { ⌜ Priced (columnsAt (terms .l) flags service ready due penalty distances times) terms (now one) (now other) figures ⌝ }
+    requires { ⌜ DrivenBy (columnsAt (terms .l) flags service ready due penalty distances times) terms (now one) driven1
+        × DrivenBy (columnsAt (terms .l) flags service ready due penalty distances times) terms (now other) driven2 ⌝ }
+    requires { ⌜ (driven1 .visits ≡ cut1) × (driven2 .visits ≡ cut2) ⌝ }
+    ensures { λ r.
+        ⌜ r ≡ changeOf
+        (columnsAt (terms .l) (flags .entry) (service .entry) (ready .entry) (due .entry) (penalty .entry) (distances .entry) (times .entry))
+        terms (now (one .entry)) (now (other .entry)) cut1 cut2 ⌝ }
+{
+    let limits = terms.limits;
+    let new1 = price_from(
+        terms.l,
+        flags,
+        service,
+        ready,
+        due,
+        penalty,
+        distances,
+        times,
+        limits,
+        terms.depot,
+        driven1,
+        &other[cut2..other.len()],
+    );
+    let new2 = price_from(
+        terms.l,
+        flags,
+        service,
+        ready,
+        due,
+        penalty,
+        distances,
+        times,
+        limits,
+        terms.depot,
+        driven2,
+        &one[cut1..one.len()],
+    );
+    change_by(figures, new1, new2)
+}
+
+// What an exchange changes. With a break, or where a visit can't be served, a head ends before its cut.
+fn change_of(
+    flags: &[u8],
+    service: &[f64],
+    ready: &[f64],
+    due: &[f64],
+    penalty: &[f64],
+    distances: &[f64],
+    times: &[f64],
+    terms: Terms,
+    one: &[u16],
+    other: &[u16],
+    figures: Figures,
+    cut1: usize,
+    cut2: usize,
+    driven1: Head,
+    driven2: Head,
+) -> f64
+    requires { ⌜ Formed (columnsAt (terms .l) flags service ready due penalty distances times) × (terms .depot < terms .l) ⌝ }
+    requires { ⌜ Two (terms .l) (now one) (now other) × (cut1 ≤ length (now one)) × (cut2 ≤ length (now other)) ⌝ }
+    requires { ⌜ Priced (columnsAt (terms .l) flags service ready due penalty distances times) terms (now one) (now other) figures ⌝ }
+    requires { ⌜ DrivenBy (columnsAt (terms .l) flags service ready due penalty distances times) terms (now one) driven1
+        × DrivenBy (columnsAt (terms .l) flags service ready due penalty distances times) terms (now other) driven2 ⌝ }
+    ensures { λ r.
+        ⌜ r ≡ changeOf
+        (columnsAt (terms .l) (flags .entry) (service .entry) (ready .entry) (due .entry) (penalty .entry) (distances .entry) (times .entry))
+        terms (now (one .entry)) (now (other .entry)) cut1 cut2 ⌝ }
+{
+    if !both(driven1.visits == cut1, driven2.visits == cut2) {
+        return change_whole(
+            flags,
+            service,
+            ready,
+            due,
+            penalty,
+            distances,
+            times,
+            terms,
+            one,
+            other,
+            figures,
+            cut1,
+            cut2,
+        );
+    }
+    change_behind(
+        flags,
+        service,
+        ready,
+        due,
+        penalty,
+        distances,
+        times,
+        terms,
+        one,
+        other,
+        figures,
+        cut1,
+        cut2,
+        driven1,
+        driven2,
+    )
+}
+
+// The better of the best so far and one exchange more, of which the new loads are known: loads first, then both new lists are priced.
+fn consider(
+    flags: &[u8],
+    demand: &[i32],
+    service: &[f64],
+    ready: &[f64],
+    due: &[f64],
+    penalty: &[f64],
+    distances: &[f64],
+    times: &[f64],
+    terms: Terms,
+    one: &[u16],
+    other: &[u16],
+    figures: Figures,
+    cut1: usize,
+    cut2: usize,
+    load1: usize,
+    load2: usize,
+    driven1: Head,
+    driven2: Head,
+    best: Choice,
+) -> Choice
+    requires { ⌜ Asked (columnsAt (terms .l) flags service ready due penalty distances times) (now demand) terms ⌝ }
+    requires { ⌜ Two (terms .l) (now one) (now other) × (cut1 ≤ length (now one)) × (cut2 ≤ length (now other)) ⌝ }
+    requires { ⌜ Figured (columnsAt (terms .l) flags service ready due penalty distances times) (now demand) terms (now one) (now other) figures ⌝ }
+    requires { ⌜ priced (costIn (columnsAt (terms .l) flags service ready due penalty distances times) terms) (now one) (now other) ≡ true ⌝ }
+    requires { ⌜ (load1 ≡ total (boxesOf (now demand)) (joined (now one) cut1 (now other) cut2))
+        × (load2 ≡ total (boxesOf (now demand)) (joined (now other) cut2 (now one) cut1)) ⌝ }
+    requires { ⌜ DrivenBy (columnsAt (terms .l) flags service ready due penalty distances times) terms (now one) driven1
+        × DrivenBy (columnsAt (terms .l) flags service ready due penalty distances times) terms (now other) driven2 ⌝ }
+    ensures { λ r.
+        ⌜ r ≡ better
+        (columnsAt (terms .l) (flags .entry) (service .entry) (ready .entry) (due .entry) (penalty .entry) (distances .entry) (times .entry))
+        (now (demand .entry)) terms (now (one .entry)) (now (other .entry)) cut1 cut2 best ⌝ }
+{
+    if load1 > terms.capacity {
+        return best;
+    }
+    if load2 > terms.capacity {
+        return best;
+    }
+    let delta = change_of(
+        flags,
+        service,
+        ready,
+        due,
+        penalty,
+        distances,
+        times,
+        terms,
+        one,
+        other,
+        figures,
+        cut1,
+        cut2,
+        driven1,
+        driven2,
+    );
     if delta < best.delta {
         return Choice { cut1, cut2, delta };
     }
@@ -178,7 +365,7 @@ fn consider(
 
 // ---- the best exchange of two lists
 
-// The best with one cut of the first list and every cut of the second; `head1` is the load of the first head.
+// The best with one cut of the first list and every cut of the second; `head1` is the load of the first head, and `driven1` the van behind it.
 fn best_row(
     flags: &[u8],
     demand: &[i32],
@@ -194,6 +381,7 @@ fn best_row(
     figures: Figures,
     cut1: usize,
     head1: usize,
+    driven1: Head,
     best: Choice,
 ) -> Choice
     requires { ⌜ Asked (columnsAt (terms .l) flags service ready due penalty distances times) (now demand) terms ⌝ }
@@ -201,17 +389,36 @@ fn best_row(
     requires { ⌜ Figured (columnsAt (terms .l) flags service ready due penalty distances times) (now demand) terms (now one) (now other) figures ⌝ }
     requires { ⌜ priced (costIn (columnsAt (terms .l) flags service ready due penalty distances times) terms) (now one) (now other) ≡ true ⌝ }
     requires { ⌜ head1 ≡ total (boxesOf (now demand)) (take cut1 (now one)) ⌝ }
+    requires { ⌜ DrivenBy (columnsAt (terms .l) flags service ready due penalty distances times) terms (now one) driven1 ⌝ }
     ensures { λ r.
         ⌜ r ≡ bestRow
         (columnsAt (terms .l) (flags .entry) (service .entry) (ready .entry) (due .entry) (penalty .entry) (distances .entry) (times .entry))
         (now (demand .entry)) terms (now (one .entry)) (now (other .entry)) cut1 best ⌝ }
 {
+    let limits = terms.limits;
+    let rest = limits.rest;
     let mut found = best;
+    let mut driven2 = at_depot(terms.depot);
     let mut head2 = 0;
     let mut last = 0;
     while last < other.len() {
         head2 += boxes_at(terms.l, demand, other, last);
         let cut2 = last + 1;
+        driven2 = reach(
+            terms.l,
+            flags,
+            service,
+            ready,
+            due,
+            penalty,
+            distances,
+            times,
+            rest,
+            terms.depot,
+            other,
+            driven2,
+            cut2,
+        );
         let new1 = head1 + (figures.load2 - head2);
         let new2 = head2 + (figures.load1 - head1);
         found = consider(
@@ -231,6 +438,8 @@ fn best_row(
             cut2,
             new1,
             new2,
+            driven1,
+            driven2,
             found,
         );
         last += 1;
@@ -262,15 +471,33 @@ fn best_priced(
         (columnsAt (terms .l) (flags .entry) (service .entry) (ready .entry) (due .entry) (penalty .entry) (distances .entry) (times .entry))
         (now (demand .entry)) terms (now (one .entry)) (now (other .entry)) ⌝ }
 {
+    let limits = terms.limits;
+    let rest = limits.rest;
     let mut best = Choice {
         cut1: 0,
         cut2: 0,
         delta: -terms.floor,
     };
+    let mut driven1 = at_depot(terms.depot);
     let mut head1 = 0;
     let mut last = 0;
     while last < one.len() {
         head1 += boxes_at(terms.l, demand, one, last);
+        driven1 = reach(
+            terms.l,
+            flags,
+            service,
+            ready,
+            due,
+            penalty,
+            distances,
+            times,
+            rest,
+            terms.depot,
+            one,
+            driven1,
+            last + 1,
+        );
         best = best_row(
             flags,
             demand,
@@ -286,6 +513,7 @@ fn best_priced(
             figures,
             last + 1,
             head1,
+            driven1,
             best,
         );
         last += 1;

@@ -17,7 +17,7 @@ returns : tie.Need-returns
 returns c =
     let at-figures-of = c .before .before in
     let start = at-figures-of .before .before .before .before .before .before .before .before .before .before .before in
-    first-unpriced _ _ (start .args .terms) _ _ _ _ (at-figures-of .figures-of .ensures .first-cost) (c .before .is-finite .ensures)
+    first-unpriced _ _ (start .args .terms) _ _ _ _ (at-figures-of .figures-of .ensures .costs .first-cost) (c .before .is-finite .ensures)
     (not-true _ (c .if1 .taken))
 
 is-finite-requires-2 : tie.Need-is-finite-requires-2
@@ -27,7 +27,7 @@ returns-2 : tie.Need-returns-2
 returns-2 c =
     let at-figures-of = c .before .before .before .before in
     let start = at-figures-of .before .before .before .before .before .before .before .before .before .before .before in
-    second-unpriced _ _ (start .args .terms) _ _ _ _ (at-figures-of .figures-of .ensures .second-cost) (c .before .is-finite2 .ensures)
+    second-unpriced _ _ (start .args .terms) _ _ _ _ (at-figures-of .figures-of .ensures .costs .second-cost) (c .before .is-finite2 .ensures)
     (not-true _ (c .if2 .taken))
 
 best-priced-requires : tie.Need-best-priced-requires
@@ -37,7 +37,7 @@ best-priced-requires c κs =
     let at-figures-of = at-is-finite .before in
     let start = at-figures-of .before .before .before .before .before .before .before .before .before .before .before in
     let figured = at-figures-of .figures-of .ensures in
-    let priced = prices-known _ (start .args .terms) _ _ _ _ _ _ (figured .first-cost) (figured .second-cost) (at-is-finite .is-finite .ensures)
+    let priced = prices-known _ (start .args .terms) _ _ _ _ _ _ (figured .costs .first-cost) (figured .costs .second-cost) (at-is-finite .is-finite .ensures)
     (c .before .is-finite2 .ensures) (not-false _ (at-if1 .if1 .left)) (not-false _ (c .if2 .left)) in
     (start .pre .0, (start .pre .1, (figured, priced)))
 

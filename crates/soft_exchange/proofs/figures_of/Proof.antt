@@ -30,8 +30,7 @@ returns c =
     record {
       first-load = c .before .load-of .ensures .0;
       second-load = c .load-of2 .ensures .0;
-      first-cost = at-effective-cost .effective-cost .ensures;
-      second-cost = at-effective-cost2 .effective-cost2 .ensures;
+      costs = record { first-cost = at-effective-cost .effective-cost .ensures; second-cost = at-effective-cost2 .effective-cost2 .ensures };
     }
 
 pub figures-of-spec : {M : Type 1} → statement M

@@ -1,0 +1,25 @@
+-- `change_whole`: each new list's cost is its callee's answer.
+use borrow.Author.Needs.{needs}
+use Rattle.exchange.proofs.Joined.{two-turned}
+use Rattle.soft_exchange.proofs.Considering.{same-change}
+use Rattle.soft_exchange.proofs.change_whole.Statement.{statement}
+use Rattle.soft_exchange.proofs.change_whole.Tie as tie
+
+joined-cost-requires : tie.Need-joined-cost-requires
+joined-cost-requires c κs =
+    (c .before .before .before .before .before .before .before .before .before .pre .0, (c .before .before .before .before .before .before .before .before .before .pre .1 .0 .0, (c .before .before .before .before .before .before .before .before .before .pre .1 .0 .1, c .before .before .before .before .before .before .before .before .before .pre .1 .0 .2)))
+
+joined-cost-requires-2 : tie.Need-joined-cost-requires-2
+joined-cost-requires-2 c κs =
+    (c .before .before .before .before .before .before .before .before .before .before .pre .0, (two-turned _ _ _ (c .before .before .before .before .before .before .before .before .before .before .pre .1 .0 .0), (c .before .before .before .before .before .before .before .before .before .before .pre .1 .0 .2, c .before .before .before .before .before .before .before .before .before .before .pre .1 .0 .1)))
+
+change-by-requires : tie.Need-change-by-requires
+change-by-requires c κs = search needs
+
+returns : tie.Need-returns
+returns c =
+    same-change _ (c .before .before .before .before .before .before .before .before .before .before .before .before .args .terms) _ _ _ _ (c .before .before .before .before .before .before .before .before .before .before .before .before .args .figures) (c .before .before .before .before .before .before .before .before .before .before .before .before .pre .1 .1) _ _ _ (c .before .before .joined-cost .ensures) (c .before .joined-cost2 .ensures) (c .change-by .ensures)
+
+pub change-whole-spec : {M : Type 1} → statement M
+change-whole-spec =
+    tie.close (tie.spec joined-cost-requires joined-cost-requires-2 change-by-requires returns)
