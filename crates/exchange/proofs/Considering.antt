@@ -16,7 +16,7 @@ use Rattle.descent.specs.Permitted.{fits}
 use Rattle.deltas.specs.Deltas.{exchangeDelta}
 use Rattle.engine.specs.Engine.{passing}
 use Rattle.loads.specs.Loads.{boxesOf}
-use Rattle.exchange.specs.Exchange.{checksFor, Asked, better}
+use Rattle.exchange.specs.Exchange.{checksFor, Asked, better, betterBy}
 use Rattle.exchange.specs.declared.Terms.{Terms}
 use Rattle.exchange.specs.declared.Choice.{Choice}
 
@@ -80,27 +80,27 @@ module _ (c : Columns) (demand : List ℤ) (t : Terms) (asked : Asked c demand t
     new2 = joined Y cut2 X cut1
 
     pub stays-first-load : (load : ℕ) → load ≡ total (boxesOf demand) new1 → t .capacity < load → best ≡ better c demand t X Y cut1 cut2 best
-    unfolding better
+    unfolding betterBy
     stays-first-load load e h = other _ _ _ _ (first-out (lt delta (best .delta)) _ _ (over new1 load e h)) refl
 
     pub stays-second-load : (load : ℕ) → load ≡ total (boxesOf demand) new2 → t .capacity < load → best ≡ better c demand t X Y cut1 cut2 best
-    unfolding better
+    unfolding betterBy
     stays-second-load load e h = other _ _ _ _ (second-out (lt delta (best .delta)) (fits (checksFor c demand t) new1) _ (over new2 load e h)) refl
 
     pub stays-delta : (d : Float) → d ≡ delta → not (lt d (best .delta)) ≡ true → best ≡ better c demand t X Y cut1 cut2 best
-    unfolding better
+    unfolding betterBy
     stays-delta d e h =
         let out : lt delta (best .delta) ≡ false = rw e at (not-true (lt d (best .delta)) h) in
         other _ _ _ _ (below-out (lt delta (best .delta)) _ out) refl
 
     pub stays-first-list : (passed : Bool) → passed ≡ passing (t .needed) c (t .limits) (t .depot) new1 → not passed ≡ true
         → best ≡ better c demand t X Y cut1 cut2 best
-    unfolding better
+    unfolding betterBy
     stays-first-list passed e h = other _ _ _ _ (first-out (lt delta (best .delta)) _ _ (refused new1 passed e h)) refl
 
     pub stays-second-list : (passed : Bool) → passed ≡ passing (t .needed) c (t .limits) (t .depot) new2 → not passed ≡ true
         → best ≡ better c demand t X Y cut1 cut2 best
-    unfolding better
+    unfolding betterBy
     stays-second-list passed e h = other _ _ _ _ (second-out (lt delta (best .delta)) (fits (checksFor c demand t) new1) _ (refused new2 passed e h)) refl
 
     pub taken-up : (d : Float) (load1 load2 : ℕ) (passed1 passed2 : Bool) → d ≡ delta → not (lt d (best .delta)) ≡ false
@@ -108,7 +108,7 @@ module _ (c : Columns) (demand : List ℤ) (t : Terms) (asked : Asked c demand t
         → passed1 ≡ passing (t .needed) c (t .limits) (t .depot) new1 → not passed1 ≡ false
         → passed2 ≡ passing (t .needed) c (t .limits) (t .depot) new2 → not passed2 ≡ false
         → record { cut1 = cut1; cut2 = cut2; delta = d } ≡ better c demand t X Y cut1 cut2 best
-    unfolding better
+    unfolding betterBy
     taken-up d load1 load2 passed1 passed2 e h e1 h1 e2 h2 f1 g1 f2 g2 =
         let under : lt delta (best .delta) ≡ true = rw e at (not-false (lt d (best .delta)) h) in
         picked _ _ _ _ (all-in (lt delta (best .delta)) _ _ under (fine new1 load1 passed1 e1 h1 f1 g1) (fine new2 load2 passed2 e2 h2 f2 g2))

@@ -19,7 +19,7 @@ use Rattle.descent.specs.Order.{range}
 use Rattle.descent.specs.Permitted.{room}
 use Rattle.descent.proofs.Members.{and-both}
 use Rattle.loads.specs.Loads.{boxesOf}
-use Rattle.exchange.specs.Exchange.{scan, nothing}
+use Rattle.exchange.specs.Exchange.{scan, nothing, betterBy, rowBy, bestBy}
 use Rattle.exchange.specs.declared.Choice.{Choice}
 use Rattle.soft_exchange.specs.SoftExchange.{priced, change}
 use Rattle.soft_exchange.specs.Parts.{costIn, measuresFor, Priced, changeOf, better, bestRow, bestOf}
@@ -75,24 +75,24 @@ module _ (c : Columns) (demand : List ℤ) (t : Terms) where
     rooms = room (measuresFor demand t) newX && room (measuresFor demand t) newY
 
     pub stays-first-load : (load : ℕ) → load ≡ total (boxesOf demand) newX → t .capacity < load → best ≡ better c demand t X Y cut1 cut2 best
-    unfolding better
+    unfolding betterBy
     stays-first-load load e h =
         let out = left-out (room (measuresFor demand t) newX) (room (measuresFor demand t) newY) (over newX load e h) in
         other _ _ _ _ (right-out (lt delta (best .delta)) _ (left-out rooms (priced (costIn c t) X Y) out)) refl
 
     pub stays-second-load : (load : ℕ) → load ≡ total (boxesOf demand) newY → t .capacity < load → best ≡ better c demand t X Y cut1 cut2 best
-    unfolding better
+    unfolding betterBy
     stays-second-load load e h =
         let out = right-out (room (measuresFor demand t) newX) (room (measuresFor demand t) newY) (over newY load e h) in
         other _ _ _ _ (right-out (lt delta (best .delta)) _ (left-out rooms (priced (costIn c t) X Y) out)) refl
 
     stays-unpriced : priced (costIn c t) X Y ≡ false → better c demand t X Y cut1 cut2 best ≡ best
-    unfolding better
+    unfolding betterBy
     stays-unpriced e = sym (other _ _ _ _ (right-out (lt delta (best .delta)) _ (right-out rooms (priced (costIn c t) X Y) e)) refl)
 
     module _ (x : Float) (is-delta : x ≡ changeOf c t X Y cut1 cut2) where
       pub stays-delta : lt x (best .delta) ≡ false → best ≡ better c demand t X Y cut1 cut2 best
-      unfolding better
+      unfolding betterBy
       stays-delta h =
           let out : lt delta (best .delta) ≡ false = rw is-delta at h in
           other _ _ _ _ (left-out (lt delta (best .delta)) (rooms && priced (costIn c t) X Y) out) refl
@@ -100,7 +100,7 @@ module _ (c : Columns) (demand : List ℤ) (t : Terms) where
       pub taken-up : priced (costIn c t) X Y ≡ true → (load1 load2 : ℕ) → load1 ≡ total (boxesOf demand) newX → load1 ≤ t .capacity
           → load2 ≡ total (boxesOf demand) newY → load2 ≤ t .capacity → lt x (best .delta) ≡ true
           → record { cut1 = cut1; cut2 = cut2; delta = x } ≡ better c demand t X Y cut1 cut2 best
-      unfolding better
+      unfolding betterBy
       taken-up both-priced load1 load2 d1 h1 d2 h2 h =
           let under : lt delta (best .delta) ≡ true = rw is-delta at h in
           let both = and-both (room (measuresFor demand t) newX) (room (measuresFor demand t) newY) (within newX load1 d1 h1) (within newY load2 d2 h2) in
@@ -111,7 +111,7 @@ module _ (c : Columns) (demand : List ℤ) (t : Terms) where
   module _ (X Y : List ℕ) where
     -- a pair of which one list has no price
     nothing-there : priced (costIn c t) X Y ≡ false → nothing (t .floor) ≡ bestOf c demand t X Y
-    unfolding bestOf bestRow
+    unfolding bestBy rowBy
     nothing-there e =
         let row : (cut1 : ℕ) (best : Choice) → bestRow c demand t X Y cut1 best ≡ best =
         λ cut1 best. scan-same (better c demand t X Y cut1) (λ cut2 so-far. stays-unpriced X Y cut1 cut2 so-far e) (range 1 (suc (length Y))) best in

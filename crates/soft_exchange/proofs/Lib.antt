@@ -1,5 +1,4 @@
 pub mod Behind
 pub mod Considering
 pub mod Choosing
-pub mod Moves
 pub mod Offices

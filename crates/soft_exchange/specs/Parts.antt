@@ -1,25 +1,24 @@
 -- Soft tail exchange as its functions state it: what stays the same over a run, what is known of a pair, the best exchange so far, and the next move.
 -- For src/; the engine's own definition is in SoftExchange.antt, and places and moves are those of `exchange`. Assumes nothing.
 use mathlib.Core.Path.{_≡_}
-use mathlib.Core.Bool.{cond, _&&_}
+use mathlib.Core.Bool.{Bool, _&&_}
 use mathlib.Core.Option.{Option}
 use mathlib.Core.List.{List, [], _∷_}
-use Prim.Native.Nat.{ℕ, suc, _<_}
+use Prim.Native.Nat.{ℕ, _<_}
 use lib.IntN.{ℤ}
 use lib.ListN.{length}
-use lib.Ieee.{Float, lt}
+use lib.Ieee.{Float}
 use Rattle.evaluation.specs.Columns.{Columns, Formed}
 use Rattle.evaluation.specs.Route.{effectiveCost}
 use Rattle.edits.specs.Total.{total}
 use Rattle.lists.specs.Edits.{joined}
-use Rattle.descent.specs.Order.{range}
 use Rattle.descent.specs.Permitted.{Measure, room}
 use Rattle.descent.specs.Search.{Search, Judge, Sweep, taken, firstMove, next}
 use Rattle.descent.specs.Across.{Pair, Tails}
 use Rattle.loads.specs.Loads.{boxesOf, Loaded}
 use Rattle.heads.specs.Head.{Driven}
 use Rattle.heads.specs.declared.Head.{Head}
-use Rattle.exchange.specs.Exchange.{scan, nothing}
+use Rattle.exchange.specs.Exchange.{exchanging, betterBy, rowBy, bestBy}
 use Rattle.exchange.specs.declared.Choice.{Choice}
 use Rattle.soft_exchange.specs.SoftExchange.{priced, change, soft-exchange-search, soft-exchange-judge}
 use Rattle.soft_exchange.specs.declared.Terms.{Terms}
@@ -33,9 +32,13 @@ costIn c t = effectiveCost c (t .limits) (t .depot)
 abbrev pub measuresFor : List ℤ → Terms → List Measure
 measuresFor demand t = record { demand = boxesOf demand; capacity = t .capacity } ∷ []
 
--- the engine's search on a day, with a van's terms
-unfoldable pub searchOf : Columns → List ℤ → Terms → Search (List (List ℕ)) Pair Tails
-searchOf c demand t = soft-exchange-search (measuresFor demand t) (costIn c t)
+-- which exchanges pass on a day, with a van's terms
+unfoldable pub passesOf : Columns → List ℤ → Terms → List (List ℕ) → Tails → Bool
+passesOf c demand t = soft-exchange-search (measuresFor demand t) (costIn c t) .passes
+
+-- the engine's search
+abbrev pub searchOf : Columns → List ℤ → Terms → Search (List (List ℕ)) Pair Tails
+searchOf c demand t = exchanging (passesOf c demand t)
 
 -- and how it judges a candidate
 unfoldable pub judgeOf : Columns → Terms → Judge (List (List ℕ)) Tails Float
@@ -64,38 +67,37 @@ pub record Figured (c : Columns) (demand : List ℤ) (t : Terms) (X Y : List ℕ
 
 -- ---- the best exchange of two lists
 
--- what an exchange changes
-abbrev pub changeOf : Columns → Terms → List ℕ → List ℕ → ℕ → ℕ → Float
-changeOf c t X Y cut1 cut2 = change (costIn c t) X Y (joined X cut1 Y cut2) (joined Y cut2 X cut1)
+module _ (c : Columns) (t : Terms) (X Y : List ℕ) where
+  -- what an exchange changes
+  abbrev pub changeOf : ℕ → ℕ → Float
+  changeOf cut1 cut2 = change (costIn c t) X Y (joined X cut1 Y cut2) (joined Y cut2 X cut1)
 
--- one candidate more: 'below the best so far' is 'counts' too, since the best starts at minus the floor
-unfoldable pub better : Columns → List ℤ → Terms → List ℕ → List ℕ → ℕ → ℕ → Choice → Choice
-better c demand t X Y cut1 cut2 best =
-    let newX = joined X cut1 Y cut2 in
-    let newY = joined Y cut2 X cut1 in
-    let delta = change (costIn c t) X Y newX newY in
-    cond (lt delta (best .delta) && ((room (measuresFor demand t) newX && room (measuresFor demand t) newY) && priced (costIn c t) X Y))
-    (record { cut1 = cut1; cut2 = cut2; delta = delta })
-    best
+  module _ (demand : List ℤ) where
+    -- whether both new lists have room; both lists have a price
+    abbrev pub passBy : ℕ → ℕ → Bool
+    passBy cut1 cut2 = (room (measuresFor demand t) (joined X cut1 Y cut2) && room (measuresFor demand t) (joined Y cut2 X cut1)) && priced (costIn c t) X Y
 
--- `for cut2 in 1..=n2`
-unfoldable pub bestRow : Columns → List ℤ → Terms → List ℕ → List ℕ → ℕ → Choice → Choice
-bestRow c demand t X Y cut1 = scan (better c demand t X Y cut1) (range 1 (suc (length Y)))
+-- the best so far as in `exchange`
+module _ (c : Columns) (demand : List ℤ) (t : Terms) (X Y : List ℕ) where
+  abbrev pub better : ℕ → ℕ → Choice → Choice
+  better = betterBy (changeOf c t X Y) (passBy c t X Y demand)
 
--- `for cut1 in 1..=n1`, from nothing on
-unfoldable pub bestOf : Columns → List ℤ → Terms → List ℕ → List ℕ → Choice
-bestOf c demand t X Y = scan (bestRow c demand t X Y) (range 1 (suc (length X))) (nothing (t .floor))
+  abbrev pub bestRow : ℕ → Choice → Choice
+  bestRow = rowBy (changeOf c t X Y) (passBy c t X Y demand) (length Y)
+
+  abbrev pub bestOf : Choice
+  bestOf = bestBy (changeOf c t X Y) (passBy c t X Y demand) (length X) (length Y) (t .floor)
 
 -- the exchange to take at a pair
-unfoldable pub takenAt : Columns → List ℤ → Terms → List (List ℕ) → Pair → Option Tails
+abbrev pub takenAt : Columns → List ℤ → Terms → List (List ℕ) → Pair → Option Tails
 takenAt c demand t = taken (searchOf c demand t) (judgeOf c t)
 
 -- ---- moves
 
 -- the first move at some pairs
-unfoldable pub firstAt : Columns → List ℤ → Terms → List (List ℕ) → List Pair → Option (Sweep (List (List ℕ)) Pair)
+abbrev pub firstAt : Columns → List ℤ → Terms → List (List ℕ) → List Pair → Option (Sweep (List (List ℕ)) Pair)
 firstAt c demand t = firstMove (searchOf c demand t) (judgeOf c t)
 
 -- the next move of a run
-unfoldable pub nextOf : Columns → List ℤ → Terms → Sweep (List (List ℕ)) Pair → Option (Sweep (List (List ℕ)) Pair)
+abbrev pub nextOf : Columns → List ℤ → Terms → Sweep (List (List ℕ)) Pair → Option (Sweep (List (List ℕ)) Pair)
 nextOf c demand t = next (searchOf c demand t) (judgeOf c t)

@@ -83,7 +83,8 @@ module _ (c : Columns) (demand : List ℤ) (s : Setup) (visits lengths : List �
     where
       fails : (m : Relocation) → m ∈ across ls from to → passOf m ≡ false
       fails m i =
-          let row = each-in (λ position. map (λ place. record { from = from; position = position; to = to; place = place }) (range 0 (suc (length (at ls to)))))
+          let row = each-in
+          (λ position. map (λ place. record { from = from; position = position; to = to; place = place }) (range 0 (suc (length (at ls to)))))
           (range 0 (length (at ls from))) m i in
           let one = map-in (λ place. record { from = from; position = row .0; to = to; place = place }) (range 0 (suc (length (at ls to)))) m (row .2) in
           ap (λ (m : Relocation). passOf m) (sym (one .2)) ∙ no-price-at from to (row .0) (one .0) e
@@ -233,7 +234,8 @@ module _ (c : Columns) (demand : List ℤ) (s : Setup) (visits lengths : List �
       unfolding moveOf intoList
       offers-best apart =
           let all = all-offers 0 (length X - 0) (nothing (bound s)) none-best in
-          best-across deltaOf passOf (bound s) ls (pair .from) (pair .to) _ apart (rw (at-lists visits lengths (pair .from)) (all .scanned)) (all .still .figured)
+          best-across deltaOf passOf (bound s) ls (pair .from) (pair .to) _ apart (rw (at-lists visits lengths (pair .from)) (all .scanned))
+          (all .still .figured)
 
   -- two lists, with a price or without
   pub pair-best : (from to : ℕ) → from ≢ to

@@ -141,7 +141,8 @@ module _ (c : Columns) (limits : RouteLimits) (depot : ℕ) (xs : List ℕ) (hea
       → priceFrom c limits depot head (take (length xs - (position + 1)) (drop (position + 1) xs)) ≡ effectiveCost c limits depot (without xs position)
   price-without-is position h at-cut =
       let long = length-take-le position xs (omega arith) in
-      let behind : drop (head .visits) (without xs position) ≡ drop (suc position) xs = rw (at-cut, drop-at (take position xs) (drop (suc position) xs) position long) in
+      let behind : drop (head .visits) (without xs position) ≡ drop (suc position) xs = rw
+      (at-cut, drop-at (take position xs) (drop (suc position) xs) position long) in
       let kept : take (head .visits) (without xs position) ≡ take (head .visits) xs =
       rw (at-cut, take-at (take position xs) (drop (suc position) xs) position long) in
       ap (priceFrom c limits depot head) (tail-lent xs position h ∙ sym behind) ∙ from-head c limits depot xs (without xs position) head driven kept
@@ -153,6 +154,7 @@ module _ (c : Columns) (limits : RouteLimits) (depot : ℕ) (xs : List ℕ) (hea
   price-inserted visit place end buffer within is-end laid =
       let long = length-take-le place xs (within .1) in
       let kept : take (head .visits) (inserted xs visit place) ≡ take (head .visits) xs =
-      take-append-le (head .visits) (take place xs) (visit ∷ drop place xs) (omega (arith, long, within .0)) ∙ take-take (head .visits) place xs (within .0) in
+      take-append-le (head .visits) (take place xs) (visit ∷ drop place xs) (omega (arith, long, within .0)) ∙ take-take (head .visits) place xs
+      (within .0) in
       ap (priceFrom c limits depot head) (part-lent (head .visits) end buffer (inserted xs visit place) (omega (arith, is-end, within .0, within .1)) laid)
       ∙ from-head c limits depot xs (inserted xs visit place) head driven kept

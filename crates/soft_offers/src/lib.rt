@@ -28,7 +28,8 @@ ghost use Rattle.deltas.specs.Changes.{fixedIf};
 ghost use Rattle.loads.specs.Loads.{Loaded, Held};
 ghost use Rattle.pairs.specs.Pairs.{nothing};
 ghost use Rattle.soft_offers.specs.Prices.{without, inserted, givingDelta};
-ghost use Rattle.soft_offers.specs.Offers.{Prepared, DrivenBy, TwoOf, priceOf, bound, better, bestAmong, Known, bestOffer, bestOffers, bestPriced, BestOf};
+ghost use Rattle.soft_offers.specs.Offers.{Prepared, DrivenBy, TwoOf, priceOf, bound, better, bestAmong, Known};
+ghost use Rattle.soft_offers.specs.Offers.{bestOffer, bestOffers, bestPriced, BestOf};
 
 // What is worked out once before the first move.
 pub struct Setup {
@@ -360,7 +361,8 @@ fn offer_visit(
     requires { ⌜ Prepared setup (columnsAt (setup .l) flags service ready due penalty distances times) ⌝ }
     requires { ⌜ Loaded (setup .l) (now demand) × (64 ≤ length (now buffer)) ⌝ }
     requires { ⌜ TwoOf (setup .l) (now giver) (now receiver) × (position < length (now giver)) ⌝ }
-    requires { ⌜ Known (columnsAt (setup .l) flags service ready due penalty distances times) (now demand) setup (now giver) (now receiver) pair × (pair .load ≤ 63000000) ⌝ }
+    requires { ⌜ Known (columnsAt (setup .l) flags service ready due penalty distances times) (now demand) setup (now giver) (now receiver) pair
+        × (pair .load ≤ 63000000) ⌝ }
     requires { ⌜ DrivenBy (columnsAt (setup .l) flags service ready due penalty distances times) setup (now giver) head ⌝ }
     ensures { λ r.
         ⌜ r ≡ bestOffer (columnsAt (setup .l) (flags .entry) (service .entry) (ready .entry) (due .entry) (penalty .entry) (distances .entry) (times .entry))
@@ -451,7 +453,8 @@ fn best_of_pair(
     requires { ⌜ Prepared setup (columnsAt (setup .l) flags service ready due penalty distances times) ⌝ }
     requires { ⌜ Loaded (setup .l) (now demand) × (64 ≤ length (now buffer)) ⌝ }
     requires { ⌜ TwoOf (setup .l) (now giver) (now receiver) ⌝ }
-    requires { ⌜ Known (columnsAt (setup .l) flags service ready due penalty distances times) (now demand) setup (now giver) (now receiver) pair × (pair .load ≤ 63000000) ⌝ }
+    requires { ⌜ Known (columnsAt (setup .l) flags service ready due penalty distances times) (now demand) setup (now giver) (now receiver) pair
+        × (pair .load ≤ 63000000) ⌝ }
     ensures { λ r.
         ⌜ r ≡ bestOffers (columnsAt (setup .l) (flags .entry) (service .entry) (ready .entry) (due .entry) (penalty .entry) (distances .entry) (times .entry))
         (now (demand .entry)) setup (now (giver .entry)) (now (receiver .entry)) pair (range 0 (length (now (giver .entry)))) (nothing (bound setup)) ⌝ }

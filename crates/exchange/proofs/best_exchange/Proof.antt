@@ -7,7 +7,7 @@ use Rattle.edits.specs.Total.{total}
 use Rattle.evaluation.specs.Columns.{columns}
 use Rattle.descent.specs.Order.{range}
 use Rattle.loads.specs.Loads.{boxesOf}
-use Rattle.exchange.specs.Exchange.{scan, bestRow, bestOf}
+use Rattle.exchange.specs.Exchange.{scan, bestRow, bestOf, bestBy}
 use Rattle.exchange.proofs.Choosing.{scan-turn, scan-end}
 use Rattle.loads.proofs.Boxes.{load-more, sum-small}
 use Rattle.exchange.proofs.best_exchange.Statement.{statement}
@@ -34,7 +34,7 @@ load-of-requires-2 c κs =
     (start .pre .0 .loaded, record { few = omega (arith, start .pre .1 .few); below = start .pre .1 .other-below })
 
 loop-holds : tie.Need-loop-holds Inv-loop μ-loop
-unfolding bestOf
+unfolding bestBy
 loop-holds c = (omega arith, refl, refl)
 
 boxes-at-requires : tie.Need-boxes-at-requires Inv-loop μ-loop

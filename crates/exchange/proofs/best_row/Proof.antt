@@ -7,7 +7,7 @@ use Rattle.edits.specs.Total.{total}
 use Rattle.evaluation.specs.Columns.{columns}
 use Rattle.descent.specs.Order.{range}
 use Rattle.loads.specs.Loads.{boxesOf}
-use Rattle.exchange.specs.Exchange.{better, scan, bestRow}
+use Rattle.exchange.specs.Exchange.{better, scan, bestRow, rowBy}
 use Rattle.exchange.proofs.Choosing.{scan-turn, scan-end}
 use Rattle.loads.proofs.Boxes.{load-small, load-more, load-joined, sum-small, head-small}
 use Rattle.exchange.proofs.best_row.Statement.{statement}
@@ -25,7 +25,7 @@ abbrev μ-loop : tie.MeasureT-loop
     length other - last
 
 loop-holds : tie.Need-loop-holds Inv-loop μ-loop
-unfolding bestRow
+unfolding rowBy
 loop-holds c = (omega arith, refl, refl)
 
 boxes-at-requires : tie.Need-boxes-at-requires Inv-loop μ-loop

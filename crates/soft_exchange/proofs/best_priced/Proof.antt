@@ -9,7 +9,7 @@ use Rattle.evaluation.specs.Columns.{columns}
 use Rattle.heads.proofs.Heads.{depot-driven}
 use Rattle.descent.specs.Order.{range}
 use Rattle.loads.specs.Loads.{boxesOf}
-use Rattle.exchange.specs.Exchange.{scan}
+use Rattle.exchange.specs.Exchange.{scan, bestBy}
 use Rattle.exchange.proofs.Choosing.{scan-turn, scan-end}
 use Rattle.loads.proofs.Boxes.{load-more, sum-small}
 use Rattle.soft_exchange.specs.Parts.{DrivenBy, bestRow, bestOf}
@@ -33,63 +33,87 @@ at-depot-requires : tie.Need-at-depot-requires Inv-loop μ-loop
 at-depot-requires c κs = search needs
 
 loop-holds : tie.Need-loop-holds Inv-loop μ-loop
-unfolding bestOf
+unfolding bestBy
 loop-holds c =
-    (omega arith, refl, refl, rw (c .at-depot .ensures) (depot-driven _ _ _ _ (c .before .before .before .before .before .before .before .before .before .before .before .before .pre .0 .depot-there)))
+    let start = c .before .before .before .before .before .before .before .before .before .before .before .before in
+    (omega arith, refl, refl, rw (c .at-depot .ensures) (depot-driven _ _ _ _ (start .pre .0 .depot-there)))
 
 boxes-at-requires : tie.Need-boxes-at-requires Inv-loop μ-loop
 boxes-at-requires c κs =
-    (c .before .before .before .before .before .before .before .before .before .before .before .before .before .before .pre .0 .loaded, c .loop-test .taken, c .before .before .before .before .before .before .before .before .before .before .before .before .before .before .pre .1 .0 .one-below _ (c .loop-test .taken))
+    let start = c .before .before .before .before .before .before .before .before .before .before .before .before .before .before in
+    (start .pre .0 .loaded, c .loop-test .taken, start .pre .1 .0 .one-below _ (c .loop-test .taken))
 
 add-head1 : tie.Need-add-head1 Inv-loop μ-loop
 add-head1 c =
-    let two = c .before .before .before .before .before .before .before .before .before .before .before .before .before .before .before .pre .1 .0 in
-    let small = sum-small _ _ _ (c .before .before .before .before .before .before .before .before .before .before .before .before .before .before .before .pre .0 .loaded) (two .one-below) (omega (arith, two .few)) _ _ _ (c .before .loop-test .taken)
-    (c .before .before .loop .inv .1) (c .boxes-at .ensures) in
+    let at-loop = c .before .before in
+    let start = at-loop .before .before .before .before .before .before .before .before .before .before .before .before .before in
+    let two = start .pre .1 .0 in
+    let small = sum-small _ _ _ (start .pre .0 .loaded) (two .one-below) (omega (arith, two .few)) _ _ _ (c .before .loop-test .taken)
+    (at-loop .loop .inv .1) (c .boxes-at .ensures) in
     omega (arith, small .0, small .1)
 
 add-reach : tie.Need-add-reach Inv-loop μ-loop
 add-reach c =
-    omega (arith, c .before .loop-test .taken, c .before .before .before .before .before .before .before .before .before .before .before .before .before .before .before .pre .1 .0 .few)
+    let start = c .before .before .before .before .before .before .before .before .before .before .before .before .before .before .before in
+    omega (arith, c .before .loop-test .taken, start .pre .1 .0 .few)
 
 reach-requires : tie.Need-reach-requires Inv-loop μ-loop
 reach-requires c κs =
-    let known = c .before .before .before .before .before .before .before .before .before .before .before .before .before .before .before .pre in
-    (known .0 .formed, ((known .0 .depot-there, first-visits _ _ _ (known .1 .0), omega (arith, c .before .loop-test .taken)), c .before .before .loop .inv .3))
+    let at-loop = c .before .before in
+    let start = at-loop .before .before .before .before .before .before .before .before .before .before .before .before .before in
+    let known = start .pre in
+    (known .0 .formed, ((known .0 .depot-there, first-visits _ _ _ (known .1 .0), omega (arith, c .before .loop-test .taken)), at-loop .loop .inv .3))
 
 add-best-row : tie.Need-add-best-row Inv-loop μ-loop
 add-best-row c =
-    omega (arith, c .before .before .loop-test .taken, c .before .before .before .before .before .before .before .before .before .before .before .before .before .before .before .before .pre .1 .0 .few)
+    let at-loop-test = c .before .before in
+    let start = at-loop-test .before .before .before .before .before .before .before .before .before .before .before .before .before .before in
+    omega (arith, at-loop-test .loop-test .taken, start .pre .1 .0 .few)
 
 best-row-requires : tie.Need-best-row-requires Inv-loop μ-loop
 best-row-requires c κs =
-    let known = c .before .before .before .before .before .before .before .before .before .before .before .before .before .before .before .before .pre in (
+    let at-loop-test = c .before .before in
+    let at-loop = at-loop-test .before in
+    let start = at-loop .before .before .before .before .before .before .before .before .before .before .before .before .before in
+    let known = start .pre in (
       known .0,
       (
-        (known .1 .0, omega (arith, c .before .before .loop-test .taken)),
-        (known .1 .1 .0, (known .1 .1 .1, (load-more _ _ _ _ _ (c .before .before .loop-test .taken) (c .before .before .before .loop .inv .1) (c .before .boxes-at .ensures), c .reach .ensures .0))),
+        (known .1 .0, omega (arith, at-loop-test .loop-test .taken)),
+        (
+          known .1 .1 .0,
+          (
+            known .1 .1 .1,
+            (load-more _ _ _ _ _ (at-loop-test .loop-test .taken) (at-loop .loop .inv .1) (c .before .boxes-at .ensures), c .reach .ensures .0),
+          ),
+        ),
       ),
     )
 
 add-last : tie.Need-add-last Inv-loop μ-loop
 add-last c =
-    omega (arith, c .before .before .before .loop-test .taken, c .before .before .before .before .before .before .before .before .before .before .before .before .before .before .before .before .before .pre .1 .0 .few)
+    let at-loop-test = c .before .before .before in
+    let start = at-loop-test .before .before .before .before .before .before .before .before .before .before .before .before .before .before in
+    omega (arith, at-loop-test .loop-test .taken, start .pre .1 .0 .few)
 
 loop-less : tie.Need-loop-less Inv-loop μ-loop
 loop-less c =
     omega (arith, c .before .before .before .loop-test .taken)
 
 loop-again : tie.Need-loop-again Inv-loop μ-loop
-loop-again c = (
-  omega (arith, c .before .before .before .loop-test .taken),
-  load-more _ _ _ _ _ (c .before .before .before .loop-test .taken) (c .before .before .before .before .loop .inv .1) (c .before .before .boxes-at .ensures),
-  scan-turn _ _ _ _ _ (omega (arith, c .before .before .before .loop-test .taken)) (c .best-row .ensures) ∙ c .before .before .before .before .loop .inv .2,
-  c .before .reach .ensures .0,
-)
+loop-again c =
+    let at-boxes-at = c .before .before in
+    let at-loop-test = at-boxes-at .before in
+    let at-loop = at-loop-test .before in (
+      omega (arith, at-loop-test .loop-test .taken),
+      load-more _ _ _ _ _ (at-loop-test .loop-test .taken) (at-loop .loop .inv .1) (at-boxes-at .boxes-at .ensures),
+      scan-turn _ _ _ _ _ (omega (arith, at-loop-test .loop-test .taken)) (c .best-row .ensures) ∙ at-loop .loop .inv .2,
+      c .before .reach .ensures .0,
+    )
 
 returns : tie.Need-returns Inv-loop μ-loop
 returns c =
-    sym (scan-end _ (suc (c .before .loop .last)) (suc (length (c .before .before .before .before .before .before .before .before .before .before .before .before .before .before .args .one .now))) _ (omega (arith, c .loop-test .left))) ∙ c .before .loop .inv .2
+    let start = c .before .before .before .before .before .before .before .before .before .before .before .before .before .before in
+    sym (scan-end _ (suc (c .before .loop .last)) (suc (length (start .args .one .now))) _ (omega (arith, c .loop-test .left))) ∙ c .before .loop .inv .2
 
 pub best-priced-spec : {M : Type 1} → statement M
 best-priced-spec =

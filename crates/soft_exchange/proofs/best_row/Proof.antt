@@ -9,7 +9,7 @@ use Rattle.evaluation.specs.Columns.{columns}
 use Rattle.heads.proofs.Heads.{depot-driven}
 use Rattle.descent.specs.Order.{range}
 use Rattle.loads.specs.Loads.{boxesOf}
-use Rattle.exchange.specs.Exchange.{scan}
+use Rattle.exchange.specs.Exchange.{scan, rowBy}
 use Rattle.exchange.proofs.Choosing.{scan-turn, scan-end}
 use Rattle.loads.proofs.Boxes.{load-small, load-more, load-joined, sum-small, head-small}
 use Rattle.soft_exchange.specs.Parts.{DrivenBy, better, bestRow}
@@ -18,8 +18,8 @@ use Rattle.soft_exchange.proofs.best_row.Statement.{statement}
 use Rattle.soft_exchange.proofs.best_row.Tie as tie
 
 abbrev Inv-loop : tie.InvT-loop
-Inv-loop flags demand service ready due penalty distances times terms one other figures cut1 head1 driven1 rest found₀ driven2₀ head2₀ last₀ found driven2 head2
-    last =
+Inv-loop flags demand service ready due penalty distances times terms one other figures cut1 head1 driven1 rest found₀ driven2₀ head2₀ last₀ found driven2
+    head2 last =
     let c = columns (terms .l) flags service ready due penalty distances times in
     (last ≤ length other)
     × (head2 ≡ total (boxesOf demand) (take last other))
@@ -35,13 +35,15 @@ at-depot-requires : tie.Need-at-depot-requires Inv-loop μ-loop
 at-depot-requires c κs = search needs
 
 loop-holds : tie.Need-loop-holds Inv-loop μ-loop
-unfolding bestRow
+unfolding rowBy
 loop-holds c =
-    (omega arith, refl, refl, rw (c .at-depot .ensures) (depot-driven _ _ _ _ (c .before .before .before .before .before .before .before .before .before .before .before .pre .0 .depot-there)))
+    let start = c .before .before .before .before .before .before .before .before .before .before .before in
+    (omega arith, refl, refl, rw (c .at-depot .ensures) (depot-driven _ _ _ _ (start .pre .0 .depot-there)))
 
 boxes-at-requires : tie.Need-boxes-at-requires Inv-loop μ-loop
 boxes-at-requires c κs =
-    (c .before .before .before .before .before .before .before .before .before .before .before .before .before .pre .0 .loaded, c .loop-test .taken, c .before .before .before .before .before .before .before .before .before .before .before .before .before .pre .1 .0 .0 .other-below _ (c .loop-test .taken))
+    let start = c .before .before .before .before .before .before .before .before .before .before .before .before .before in
+    (start .pre .0 .loaded, c .loop-test .taken, start .pre .1 .0 .0 .other-below _ (c .loop-test .taken))
 
 -- the function's entry
 abbrev start : tie.After-boxes-at Inv-loop μ-loop → tie.Start Inv-loop μ-loop
@@ -53,7 +55,8 @@ head2-small : (c : tie.After-boxes-at Inv-loop μ-loop) →
     (c .before .before .loop .head2 + c .boxes-at .result ≤ load) × (load ≤ 63000000)
 head2-small c =
     let two = start c .pre .1 .0 .0 in
-    sum-small _ _ _ (start c .pre .0 .loaded) (two .other-below) (omega (arith, two .few)) _ _ _ (c .before .loop-test .taken) (c .before .before .loop .inv .1)
+    sum-small _ _ _ (start c .pre .0 .loaded) (two .other-below) (omega (arith, two .few)) _ _ _ (c .before .loop-test .taken)
+    (c .before .before .loop .inv .1)
     (c .boxes-at .ensures)
 
 -- and so is the first
@@ -74,47 +77,61 @@ add-head2 c =
 
 add-cut2 : tie.Need-add-cut2 Inv-loop μ-loop
 add-cut2 c =
-    omega (arith, c .before .loop-test .taken, c .before .before .before .before .before .before .before .before .before .before .before .before .before .before .pre .1 .0 .0 .few)
+    let start = c .before .before .before .before .before .before .before .before .before .before .before .before .before .before in
+    omega (arith, c .before .loop-test .taken, start .pre .1 .0 .0 .few)
 
 reach-requires : tie.Need-reach-requires Inv-loop μ-loop
 reach-requires c κs =
-    let known = c .before .before .before .before .before .before .before .before .before .before .before .before .before .before .pre in
-    (known .0 .formed, ((known .0 .depot-there, second-visits _ _ _ (known .1 .0 .0), omega (arith, c .before .loop-test .taken)), c .before .before .loop .inv .3))
+    let at-loop = c .before .before in
+    let start = at-loop .before .before .before .before .before .before .before .before .before .before .before .before in
+    let known = start .pre in
+    (known .0 .formed, ((known .0 .depot-there, second-visits _ _ _ (known .1 .0 .0), omega (arith, c .before .loop-test .taken)), at-loop .loop .inv .3))
 
 sub-new1 : tie.Need-sub-new1 Inv-loop μ-loop
 sub-new1 c =
+    let start = c .before .before .before .before .before .before .before .before .before .before .before .before .before .before .before .before in
     let small = head2-small (c .before .before) in
-    omega (arith, small .0, c .before .before .before .before .before .before .before .before .before .before .before .before .before .before .before .before .pre .1 .1 .0 .second-load)
+    omega (arith, small .0, start .pre .1 .1 .0 .second-load)
 
 add-new1 : tie.Need-add-new1 Inv-loop μ-loop
 add-new1 c =
+    let start = c .before .before .before .before .before .before .before .before .before .before .before .before .before .before .before .before in
     let small = head2-small (c .before .before) in
     let head = head1-small (c .before .before) in
     let most = one-small (c .before .before) in
-    omega (arith, small .1, head, most, c .before .before .before .before .before .before .before .before .before .before .before .before .before .before .before .before .pre .1 .1 .0 .second-load)
+    omega (arith, small .1, head, most, start .pre .1 .1 .0 .second-load)
 
 sub-new2 : tie.Need-sub-new2 Inv-loop μ-loop
 sub-new2 c =
+    let further1 = c .before .before .before .before .before .before .before .before .before .before .before .before .before .before .before in
+    let start = further1 .before .before in
     let head = head1-small (c .before .before .before) in
-    omega (arith, head, c .before .before .before .before .before .before .before .before .before .before .before .before .before .before .before .before .before .pre .1 .1 .0 .first-load)
+    omega (arith, head, start .pre .1 .1 .0 .first-load)
 
 add-new2 : tie.Need-add-new2 Inv-loop μ-loop
 add-new2 c =
+    let further1 = c .before .before .before .before .before .before .before .before .before .before .before .before .before .before .before in
+    let start = further1 .before .before in
     let small = head2-small (c .before .before .before) in
     let most = one-small (c .before .before .before) in
-    omega (arith, small .0, small .1, most, c .before .before .before .before .before .before .before .before .before .before .before .before .before .before .before .before .before .pre .1 .1 .0 .first-load)
+    omega (arith, small .0, small .1, most, start .pre .1 .1 .0 .first-load)
 
 consider-requires : tie.Need-consider-requires Inv-loop μ-loop
 consider-requires c κs =
-    let known = c .before .before .before .before .before .before .before .before .before .before .before .before .before .before .before .before .before .pre in
-    let a = c .before .before .before .before .before .before .before .before .before .before .before .before .before .before .before .before .before .args in
+    let at-reach = c .before .before in
+    let at-boxes-at = at-reach .before in
+    let at-loop-test = at-boxes-at .before in
+    let at-loop = at-loop-test .before in
+    let start = at-loop .before .before .before .before .before .before .before .before .before .before .before .before in
+    let known = start .pre in
+    let a = start .args in
     let boxes = boxesOf (a .demand .now) in
     let figured = known .1 .1 .0 in
-    let cut2 = c .before .before .before .before .before .loop .last + 1 in
-    let head2 = load-more _ _ _ _ _ (c .before .before .before .before .loop-test .taken) (c .before .before .before .before .before .loop .inv .1) (c .before .before .before .boxes-at .ensures) in (
+    let cut2 = at-loop .loop .last + 1 in
+    let head2 = load-more _ _ _ _ _ (at-loop-test .loop-test .taken) (at-loop .loop .inv .1) (at-boxes-at .boxes-at .ensures) in (
       known .0,
       (
-        (known .1 .0 .0, known .1 .0 .1, omega (arith, c .before .before .before .before .loop-test .taken)),
+        (known .1 .0 .0, known .1 .0 .1, omega (arith, at-loop-test .loop-test .taken)),
         (
           figured,
           (
@@ -124,7 +141,7 @@ consider-requires c κs =
                 load-joined boxes (a .one .now) (a .other .now) (a .cut1) cut2 _ _ _ (known .1 .1 .1 .1 .0) head2 (figured .second-load),
                 load-joined boxes (a .other .now) (a .one .now) cut2 (a .cut1) _ _ _ head2 (known .1 .1 .1 .1 .0) (figured .first-load),
               ),
-              (known .1 .1 .1 .1 .1, c .before .before .reach .ensures .0),
+              (known .1 .1 .1 .1 .1, at-reach .reach .ensures .0),
             ),
           ),
         ),
@@ -133,23 +150,30 @@ consider-requires c κs =
 
 add-last : tie.Need-add-last Inv-loop μ-loop
 add-last c =
-    omega (arith, c .before .before .before .before .before .loop-test .taken, c .before .before .before .before .before .before .before .before .before .before .before .before .before .before .before .before .before .before .pre .1 .0 .0 .few)
+    let at-loop-test = c .before .before .before .before .before in
+    let start = at-loop-test .before .before .before .before .before .before .before .before .before .before .before .before .before in
+    omega (arith, at-loop-test .loop-test .taken, start .pre .1 .0 .0 .few)
 
 loop-less : tie.Need-loop-less Inv-loop μ-loop
 loop-less c =
     omega (arith, c .before .before .before .before .before .loop-test .taken)
 
 loop-again : tie.Need-loop-again Inv-loop μ-loop
-loop-again c = (
-  omega (arith, c .before .before .before .before .before .loop-test .taken),
-  load-more _ _ _ _ _ (c .before .before .before .before .before .loop-test .taken) (c .before .before .before .before .before .before .loop .inv .1) (c .before .before .before .before .boxes-at .ensures),
-  scan-turn _ _ _ _ _ (omega (arith, c .before .before .before .before .before .loop-test .taken)) (c .consider .ensures) ∙ c .before .before .before .before .before .before .loop .inv .2,
-  c .before .before .before .reach .ensures .0,
-)
+loop-again c =
+    let at-reach = c .before .before .before in
+    let at-boxes-at = at-reach .before in
+    let at-loop-test = at-boxes-at .before in
+    let at-loop = at-loop-test .before in (
+      omega (arith, at-loop-test .loop-test .taken),
+      load-more _ _ _ _ _ (at-loop-test .loop-test .taken) (at-loop .loop .inv .1) (at-boxes-at .boxes-at .ensures),
+      scan-turn _ _ _ _ _ (omega (arith, at-loop-test .loop-test .taken)) (c .consider .ensures) ∙ at-loop .loop .inv .2,
+      at-reach .reach .ensures .0,
+    )
 
 returns : tie.Need-returns Inv-loop μ-loop
 returns c =
-    sym (scan-end _ (suc (c .before .loop .last)) (suc (length (c .before .before .before .before .before .before .before .before .before .before .before .before .before .args .other .now))) _ (omega (arith, c .loop-test .left))) ∙ c .before .loop .inv .2
+    let start = c .before .before .before .before .before .before .before .before .before .before .before .before .before in
+    sym (scan-end _ (suc (c .before .loop .last)) (suc (length (start .args .other .now))) _ (omega (arith, c .loop-test .left))) ∙ c .before .loop .inv .2
 
 pub best-row-spec : {M : Type 1} → statement M
 best-row-spec =

@@ -21,7 +21,8 @@ part-price-from-end c = search needs
 
 price-from-requires : tie.Need-price-from-requires
 price-from-requires c κs =
-    (c .before .before .before .before .before .before .before .before .before .before .before .pre .0 .0, (c .before .before .before .before .before .before .before .before .before .before .before .pre .0 .1, c .before .before .before .before .before .before .before .before .before .before .before .pre .1 .1 .1 .0 .0 .placed, tail-visits _ _ _ (c .before .before .before .before .before .before .before .before .before .before .before .pre .1 .0 .0) _ (c .before .before .before .before .before .before .before .before .before .before .before .pre .1 .0 .2)))
+    let start = c .before .before .before .before .before .before .before .before .before .before .before in
+    (start .pre .0 .0, (start .pre .0 .1, start .pre .1 .1 .1 .0 .0 .placed, tail-visits _ _ _ (start .pre .1 .0 .0) _ (start .pre .1 .0 .2)))
 
 mul-price-from-2 : tie.Need-mul-price-from-2
 mul-price-from-2 c = search needs
@@ -37,19 +38,26 @@ part-price-from-end-2 c = search needs
 
 price-from-requires-2 : tie.Need-price-from-requires-2
 price-from-requires-2 c κs =
-    (c .before .before .before .before .before .before .before .before .before .before .before .before .before .pre .0 .0, (c .before .before .before .before .before .before .before .before .before .before .before .before .before .pre .0 .1, c .before .before .before .before .before .before .before .before .before .before .before .before .before .pre .1 .1 .1 .0 .1 .placed, tail-visits _ _ _ (two-turned _ _ _ (c .before .before .before .before .before .before .before .before .before .before .before .before .before .pre .1 .0 .0)) _ (c .before .before .before .before .before .before .before .before .before .before .before .before .before .pre .1 .0 .1)))
+    let start = c .before .before .before .before .before .before .before .before .before .before .before .before .before in (
+      start .pre .0 .0,
+      (start .pre .0 .1, start .pre .1 .1 .1 .0 .1 .placed, tail-visits _ _ _ (two-turned _ _ _ (start .pre .1 .0 .0)) _ (start .pre .1 .0 .1)),
+    )
 
 change-by-requires : tie.Need-change-by-requires
 change-by-requires c κs = search needs
 
 returns : tie.Need-returns
 returns c =
-    let a = c .before .before .before .before .before .before .before .before .before .before .before .before .before .before .before .args in
-    let known = c .before .before .before .before .before .before .before .before .before .before .before .before .before .before .before .pre in
-    let new1 = c .before .before .before .price-from .ensures
-    ∙ price-behind _ _ _ (a .one .now) (a .other .now) (a .cut1) (a .cut2) (a .driven1) (known .1 .1 .1 .0 .0) (known .1 .1 .1 .1 .0) (known .1 .0 .1, known .1 .0 .2) in
+    let at-price-from = c .before .before .before in
+    let start = at-price-from .before .before .before .before .before .before .before .before .before .before .before .before in
+    let a = start .args in
+    let known = start .pre in
+    let new1 = at-price-from .price-from .ensures
+    ∙ price-behind _ _ _ (a .one .now) (a .other .now) (a .cut1) (a .cut2) (a .driven1) (known .1 .1 .1 .0 .0) (known .1 .1 .1 .1 .0)
+    (known .1 .0 .1, known .1 .0 .2) in
     let new2 = c .before .price-from2 .ensures
-    ∙ price-behind _ _ _ (a .other .now) (a .one .now) (a .cut2) (a .cut1) (a .driven2) (known .1 .1 .1 .0 .1) (known .1 .1 .1 .1 .1) (known .1 .0 .2, known .1 .0 .1) in
+    ∙ price-behind _ _ _ (a .other .now) (a .one .now) (a .cut2) (a .cut1) (a .driven2) (known .1 .1 .1 .0 .1) (known .1 .1 .1 .1 .1)
+    (known .1 .0 .2, known .1 .0 .1) in
     same-change _ (a .terms) _ _ _ _ (a .figures) (known .1 .1 .0) _ _ _ new1 new2 (c .change-by .ensures)
 
 pub change-behind-spec : {M : Type 1} → statement M

@@ -12,7 +12,8 @@ both-requires c κs = search needs
 
 change-whole-requires : tie.Need-change-whole-requires
 change-whole-requires c κs =
-    (c .before .before .before .before .before .before .before .before .before .before .before .before .before .pre .0, (c .before .before .before .before .before .before .before .before .before .before .before .before .before .pre .1 .0, c .before .before .before .before .before .before .before .before .before .before .before .before .before .pre .1 .1 .0))
+    let start = c .before .before .before .before .before .before .before .before .before .before .before .before .before in
+    (start .pre .0, (start .pre .1 .0, start .pre .1 .1 .0))
 
 returns : tie.Need-returns
 returns c =
@@ -20,11 +21,17 @@ returns c =
 
 change-behind-requires : tie.Need-change-behind-requires
 change-behind-requires c κs =
-    let a = c .before .before .before .before .before .before .before .before .before .before .before .before .before .args in
+    let start = c .before .before .before .before .before .before .before .before .before .before .before .before .before in
+    let a = start .args in
     let first = eqb (a .driven1 .visits) (a .cut1) in
     let second = eqb (a .driven2 .visits) (a .cut2) in
-    let told = sym (c .before .both .ensures) ∙ not-false _ (c .if1 .left) in
-    (c .before .before .before .before .before .before .before .before .before .before .before .before .before .pre .0, (c .before .before .before .before .before .before .before .before .before .before .before .before .before .pre .1 .0, (c .before .before .before .before .before .before .before .before .before .before .before .before .before .pre .1 .1 .0, (c .before .before .before .before .before .before .before .before .before .before .before .before .before .pre .1 .1 .1, (eqb-true _ _ (and-first first second told), eqb-true _ _ (and-second first second told))))))
+    let told = sym (c .before .both .ensures) ∙ not-false _ (c .if1 .left) in (
+      start .pre .0,
+      (
+        start .pre .1 .0,
+        (start .pre .1 .1 .0, (start .pre .1 .1 .1, (eqb-true _ _ (and-first first second told), eqb-true _ _ (and-second first second told)))),
+      ),
+    )
 
 returns-2 : tie.Need-returns-2
 returns-2 c =

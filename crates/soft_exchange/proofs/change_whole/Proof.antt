@@ -7,18 +7,23 @@ use Rattle.soft_exchange.proofs.change_whole.Tie as tie
 
 joined-cost-requires : tie.Need-joined-cost-requires
 joined-cost-requires c κs =
-    (c .before .before .before .before .before .before .before .before .before .pre .0, (c .before .before .before .before .before .before .before .before .before .pre .1 .0 .0, (c .before .before .before .before .before .before .before .before .before .pre .1 .0 .1, c .before .before .before .before .before .before .before .before .before .pre .1 .0 .2)))
+    let start = c .before .before .before .before .before .before .before .before .before in
+    (start .pre .0, (start .pre .1 .0 .0, (start .pre .1 .0 .1, start .pre .1 .0 .2)))
 
 joined-cost-requires-2 : tie.Need-joined-cost-requires-2
 joined-cost-requires-2 c κs =
-    (c .before .before .before .before .before .before .before .before .before .before .pre .0, (two-turned _ _ _ (c .before .before .before .before .before .before .before .before .before .before .pre .1 .0 .0), (c .before .before .before .before .before .before .before .before .before .before .pre .1 .0 .2, c .before .before .before .before .before .before .before .before .before .before .pre .1 .0 .1)))
+    let start = c .before .before .before .before .before .before .before .before .before .before in
+    (start .pre .0, (two-turned _ _ _ (start .pre .1 .0 .0), (start .pre .1 .0 .2, start .pre .1 .0 .1)))
 
 change-by-requires : tie.Need-change-by-requires
 change-by-requires c κs = search needs
 
 returns : tie.Need-returns
 returns c =
-    same-change _ (c .before .before .before .before .before .before .before .before .before .before .before .before .args .terms) _ _ _ _ (c .before .before .before .before .before .before .before .before .before .before .before .before .args .figures) (c .before .before .before .before .before .before .before .before .before .before .before .before .pre .1 .1) _ _ _ (c .before .before .joined-cost .ensures) (c .before .joined-cost2 .ensures) (c .change-by .ensures)
+    let at-joined-cost = c .before .before in
+    let start = at-joined-cost .before .before .before .before .before .before .before .before .before .before in
+    same-change _ (start .args .terms) _ _ _ _ (start .args .figures) (start .pre .1 .1) _ _ _ (at-joined-cost .joined-cost .ensures)
+    (c .before .joined-cost2 .ensures) (c .change-by .ensures)
 
 pub change-whole-spec : {M : Type 1} → statement M
 change-whole-spec =

@@ -32,32 +32,52 @@ at-depot-requires c κs = search needs
 
 loop-holds : tie.Need-loop-holds Inv-loop μ-loop
 loop-holds c =
-    (rw (c .before .nothing-below .ensures), omega arith, refl, rw (c .at-depot .ensures) (depot-driven _ _ _ _ (c .before .before .before .before .before .before .before .before .before .before .before .before .before .before .pre .0 .depot-there)))
+    let start = c .before .before .before .before .before .before .before .before .before .before .before .before .before .before in
+    (rw (c .before .nothing-below .ensures), omega arith, refl, rw (c .at-depot .ensures) (depot-driven _ _ _ _ (start .pre .0 .depot-there)))
 
 reach-requires : tie.Need-reach-requires Inv-loop μ-loop
 reach-requires c κs =
-    (c .before .before .before .before .before .before .before .before .before .before .before .before .before .before .before .before .pre .0 .formed, ((c .before .before .before .before .before .before .before .before .before .before .before .before .before .before .before .before .pre .0 .depot-there, c .before .before .before .before .before .before .before .before .before .before .before .before .before .before .before .before .pre .1 .1 .0 .gives, c .before .loop .inv .1), c .before .loop .inv .3))
+    let start = c .before .before .before .before .before .before .before .before .before .before .before .before .before .before .before .before in
+    (start .pre .0 .formed, ((start .pre .0 .depot-there, start .pre .1 .1 .0 .gives, c .before .loop .inv .1), c .before .loop .inv .3))
 
 offer-visit-requires : tie.Need-offer-visit-requires Inv-loop μ-loop
 offer-visit-requires c κs =
-    (c .before .before .before .before .before .before .before .before .before .before .before .before .before .before .before .before .before .before .pre .0, ((c .before .before .before .before .before .before .before .before .before .before .before .before .before .before .before .before .before .before .pre .1 .0 .0, omega (arith, c .before .before .before .loop .inv .2, c .before .before .before .before .before .before .before .before .before .before .before .before .before .before .before .before .before .before .pre .1 .0 .1)), ((c .before .before .before .before .before .before .before .before .before .before .before .before .before .before .before .before .before .before .pre .1 .1 .0, c .before .before .loop-test .taken), (c .before .before .before .before .before .before .before .before .before .before .before .before .before .before .before .before .before .before .pre .1 .1 .1, c .before .reach .ensures .0))))
+    let at-loop-test = c .before .before in
+    let at-loop = at-loop-test .before in
+    let start = at-loop .before .before .before .before .before .before .before .before .before .before .before .before .before .before .before in (
+      start .pre .0,
+      (
+        (start .pre .1 .0 .0, omega (arith, at-loop .loop .inv .2, start .pre .1 .0 .1)),
+        ((start .pre .1 .1 .0, at-loop-test .loop-test .taken), (start .pre .1 .1 .1, c .before .reach .ensures .0)),
+      ),
+    )
 
 add-position : tie.Need-add-position Inv-loop μ-loop
 add-position c =
-    omega (arith, c .before .before .before .before .before .loop-test .taken, c .before .before .before .before .before .before .before .before .before .before .before .before .before .before .before .before .before .before .before .before .before .pre .1 .1 .0 .gives .few)
+    let at-loop-test = c .before .before .before .before .before in
+    let further1 = at-loop-test .before .before .before .before .before .before .before .before .before .before .before .before .before .before in
+    let start = further1 .before .before in
+    omega (arith, at-loop-test .loop-test .taken, start .pre .1 .1 .0 .gives .few)
 
 loop-less : tie.Need-loop-less Inv-loop μ-loop
 loop-less c =
     omega (arith, c .before .before .before .before .before .loop-test .taken)
 
 loop-again : tie.Need-loop-again Inv-loop μ-loop
-loop-again c = (
-  rw (c .before .before .offer-visit .ensures) (offers-turn _ _ (c .before .before .before .before .before .before .before .before .before .before .before .before .before .before .before .before .before .before .before .before .before .args .setup) (c .before .before .before .before .before .before .before .before .before .before .before .before .before .before .before .before .before .before .before .before .before .args .giver .now) (c .before .before .before .before .before .before .before .before .before .before .before .before .before .before .before .before .before .before .before .before .before .args .receiver .now) (c .before .before .before .before .before .before .before .before .before .before .before .before .before .before .before .before .before .before .before .before .before .args .pair) (c .before .before .before .before .before .before .loop .best) (c .before .before .before .before .before .before .loop .position) (c .before .before .before .before .before .loop-test .taken))
-      ∙ c .before .before .before .before .before .before .loop .inv .0,
-  omega (arith, c .before .before .before .before .before .loop-test .taken),
-  c .before .before .offer-visit .kept .1 .1 .1 .1 .1 .1 .1 .1 .1 .1 .1 .0 ∙ c .before .before .before .before .before .before .loop .inv .2,
-  c .before .before .before .before .reach .ensures .0,
-)
+loop-again c =
+    let at-offer-visit = c .before .before in
+    let at-reach = at-offer-visit .before .before in
+    let at-loop-test = at-reach .before in
+    let at-loop = at-loop-test .before in
+    let start = at-loop .before .before .before .before .before .before .before .before .before .before .before .before .before .before .before in (
+      rw (at-offer-visit .offer-visit .ensures)
+          (offers-turn _ _ (start .args .setup) (start .args .giver .now) (start .args .receiver .now) (start .args .pair) (at-loop .loop .best)
+          (at-loop .loop .position) (at-loop-test .loop-test .taken))
+          ∙ at-loop .loop .inv .0,
+      omega (arith, at-loop-test .loop-test .taken),
+      at-offer-visit .offer-visit .kept .1 .1 .1 .1 .1 .1 .1 .1 .1 .1 .1 .0 ∙ at-loop .loop .inv .2,
+      at-reach .reach .ensures .0,
+    )
 
 same-length : tie.Need-same-length Inv-loop μ-loop
 same-length c =
@@ -65,7 +85,9 @@ same-length c =
 
 returns : tie.Need-returns Inv-loop μ-loop
 returns c =
-    sym (offers-end _ _ (c .before .before .before .before .before .before .before .before .before .before .before .before .before .before .before .before .args .setup) (c .before .before .before .before .before .before .before .before .before .before .before .before .before .before .before .before .args .giver .now) (c .before .before .before .before .before .before .before .before .before .before .before .before .before .before .before .before .args .receiver .now) (c .before .before .before .before .before .before .before .before .before .before .before .before .before .before .before .before .args .pair) (c .before .loop .best) (c .before .loop .position) (c .loop-test .left)) ∙ c .before .loop .inv .0
+    let start = c .before .before .before .before .before .before .before .before .before .before .before .before .before .before .before .before in
+    sym (offers-end _ _ (start .args .setup) (start .args .giver .now) (start .args .receiver .now) (start .args .pair) (c .before .loop .best)
+    (c .before .loop .position) (c .loop-test .left)) ∙ c .before .loop .inv .0
 
 pub best-of-pair-spec : {M : Type 1} → statement M
 best-of-pair-spec =

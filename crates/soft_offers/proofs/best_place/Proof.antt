@@ -28,47 +28,71 @@ abbrev μ-loop : tie.MeasureT-loop
 
 inserted-first-requires : tie.Need-inserted-first-requires Inv-loop μ-loop
 inserted-first-requires c κs =
-    omega (arith, c .before .before .before .before .before .before .before .before .before .before .before .pre .1 .0, c .before .before .before .before .before .before .before .before .before .before .before .pre .1 .1 .1)
+    let start = c .before .before .before .before .before .before .before .before .before .before .before in
+    omega (arith, start .pre .1 .0, start .pre .1 .1 .1)
 
 at-depot-requires : tie.Need-at-depot-requires Inv-loop μ-loop
 at-depot-requires c κs = search needs
 
 loop-holds : tie.Need-loop-holds Inv-loop μ-loop
 loop-holds c =
-    (refl, c .before .before .before .inserted-first .ensures .1, omega arith, refl, rw (c .at-depot .ensures) (depot-driven _ _ _ _ (c .before .before .before .before .before .before .before .before .before .before .before .before .before .before .before .pre .0 .depot-there)))
+    let at-inserted-first = c .before .before .before in
+    let start = at-inserted-first .before .before .before .before .before .before .before .before .before .before .before .before in
+    (refl, at-inserted-first .inserted-first .ensures .1, omega arith, refl, rw (c .at-depot .ensures) (depot-driven _ _ _ _ (start .pre .0 .depot-there)))
 
 reach-requires : tie.Need-reach-requires Inv-loop μ-loop
 reach-requires c κs =
-    (c .before .before .before .before .before .before .before .before .before .before .before .before .before .before .before .before .pre .0 .formed, ((c .before .before .before .before .before .before .before .before .before .before .before .before .before .before .before .before .pre .0 .depot-there, c .before .before .before .before .before .before .before .before .before .before .before .before .before .before .before .before .pre .1 .1 .0, c .loop .inv .2), c .loop .inv .4))
+    let start = c .before .before .before .before .before .before .before .before .before .before .before .before .before .before .before .before in
+    (start .pre .0 .formed, ((start .pre .0 .depot-there, start .pre .1 .1 .0, c .loop .inv .2), c .loop .inv .4))
 
 mul-price-from : tie.Need-mul-price-from Inv-loop μ-loop
 mul-price-from c =
-    omega (arith, c .reach .ensures .1, c .before .loop .inv .2, c .before .before .before .before .before .before .before .before .before .before .before .before .before .before .before .before .before .pre .1 .1 .1)
+    let further1 = c .before .before .before .before .before .before .before .before .before .before .before .before .before .before .before in
+    let start = further1 .before .before in
+    omega (arith, c .reach .ensures .1, c .before .loop .inv .2, start .pre .1 .1 .1)
 
 sub-price-from : tie.Need-sub-price-from Inv-loop μ-loop
 sub-price-from c =
-    omega (arith, c .reach .ensures .1, c .before .loop .inv .2, c .before .before .before .before .before .inserted-first .ensures .0)
+    let at-inserted-first = c .before .before .before .before .before in
+    omega (arith, c .reach .ensures .1, c .before .loop .inv .2, at-inserted-first .inserted-first .ensures .0)
 
 part-price-from-start : tie.Need-part-price-from-start Inv-loop μ-loop
 part-price-from-start c =
-    omega (arith, c .before .reach .ensures .1, c .before .before .loop .inv .2, c .before .before .before .before .before .before .inserted-first .ensures .0)
+    let at-loop = c .before .before in
+    let at-inserted-first = at-loop .before .before .before .before in
+    omega (arith, c .before .reach .ensures .1, at-loop .loop .inv .2, at-inserted-first .inserted-first .ensures .0)
 
 part-price-from-end : tie.Need-part-price-from-end Inv-loop μ-loop
 part-price-from-end c =
-    omega (arith, c .before .before .loop .inv .3, c .before .before .before .before .before .before .inserted-first .ensures .0, c .before .before .before .before .before .before .inserted-first .kept .0, c .before .before .before .before .before .before .before .before .before .before .before .before .before .before .before .before .before .before .pre .1 .0, c .before .before .before .before .before .before .before .before .before .before .before .before .before .before .before .before .before .before .pre .1 .1 .1)
+    let at-loop = c .before .before in
+    let at-inserted-first = at-loop .before .before .before .before in
+    let start = at-inserted-first .before .before .before .before .before .before .before .before .before .before .before .before in
+    omega (
+      arith,
+      at-loop .loop .inv .3,
+      at-inserted-first .inserted-first .ensures .0,
+      at-inserted-first .inserted-first .kept .0,
+      start .pre .1 .0,
+      start .pre .1 .1 .1,
+    )
 
 price-from-requires : tie.Need-price-from-requires Inv-loop μ-loop
 price-from-requires c κs =
-    let known = c .before .before .before .before .before .before .before .before .before .before .before .before .before .before .before .before .before .before .before .pre in
-    let a = c .before .before .before .before .before .before .before .before .before .before .before .before .before .before .before .before .before .before .before .args in
-    let at-loop = c .before .before .before .loop in
-    let driven = c .before .before .reach .ensures in
-    let all = visits-inserted _ (a .list .now) (a .offer .visit) (at-loop .place) (known .1 .1 .0) (known .1 .1 .1) (known .1 .1 .2) in (
+    let at-reach = c .before .before in
+    let at-loop = at-reach .before in
+    let at-inserted-first = at-loop .before .before .before .before in
+    let start = at-inserted-first .before .before .before .before .before .before .before .before .before .before .before .before in
+    let known = start .pre in
+    let a = start .args in
+    let here = at-loop .loop in
+    let driven = at-reach .reach .ensures in
+    let all = visits-inserted _ (a .list .now) (a .offer .visit) (here .place) (known .1 .1 .0) (known .1 .1 .1) (known .1 .1 .2) in (
       known .0 .formed,
       (
         known .0 .depot-there,
         driven .0 .placed,
-        part-visits _ (c .before .before .reach .result .visits) (c .before .before .before .before .before .before .before .inserted-first .result) (at-loop .buffer) _ (omega (arith, driven .1, at-loop .inv .2, c .before .before .before .before .before .before .before .inserted-first .ensures .0)) (at-loop .inv .1) all,
+        part-visits _ (at-reach .reach .result .visits) (at-inserted-first .inserted-first .result) (here .buffer) _
+            (omega (arith, driven .1, here .inv .2, at-inserted-first .inserted-first .ensures .0)) (here .inv .1) all,
       ),
     )
 
@@ -77,45 +101,79 @@ better-of-requires c κs = search needs
 
 same-length : tie.Need-same-length Inv-loop μ-loop
 same-length c =
-    c .before .before .before .before .before .before .loop .inv .3 ∙ c .before .before .before .before .before .before .before .before .before .before .inserted-first .kept .0
+    let at-loop = c .before .before .before .before .before .before in
+    let at-inserted-first = at-loop .before .before .before .before in
+    at-loop .loop .inv .3 ∙ at-inserted-first .inserted-first .kept .0
 
 returns : tie.Need-returns Inv-loop μ-loop
 returns c =
-    let a = c .before .before .before .before .before .before .before .before .before .before .before .before .before .before .before .before .before .before .before .before .before .before .args in
-    let at-loop = c .before .before .before .before .before .before .loop in
-    let new = c .before .before .price-from .ensures ∙ price-inserted _ _ _ (a .list .now) (c .before .before .before .before .before .reach .result) (c .before .before .before .before .before .reach .ensures .0) (a .offer .visit) (at-loop .place) (c .before .before .before .before .before .before .before .before .before .before .inserted-first .result)
-    (at-loop .buffer) (c .before .before .before .before .before .reach .ensures .1, at-loop .inv .2) (c .before .before .before .before .before .before .before .before .before .before .inserted-first .ensures .0) (at-loop .inv .1) in
-    let turn = among-turn _ (a .list .now) (a .offer) (at-loop .after) (at-loop .place) _ _ (at-loop .inv .2) new (c .before .better-of .ensures) in
-    sym (among-end _ (a .list .now) (a .offer) _ (at-loop .place + 1) (omega (arith, c .if1 .taken))) ∙ turn ∙ at-loop .inv .0
+    let at-price-from = c .before .before in
+    let at-reach = at-price-from .before .before .before in
+    let at-loop = at-reach .before in
+    let at-inserted-first = at-loop .before .before .before .before in
+    let start = at-inserted-first .before .before .before .before .before .before .before .before .before .before .before .before in
+    let a = start .args in
+    let here = at-loop .loop in
+    let new = at-price-from .price-from .ensures ∙ price-inserted _ _ _ (a .list .now) (at-reach .reach .result) (at-reach .reach .ensures .0)
+    (a .offer .visit) (here .place) (at-inserted-first .inserted-first .result)
+    (here .buffer) (at-reach .reach .ensures .1, here .inv .2) (at-inserted-first .inserted-first .ensures .0) (here .inv .1) in
+    let turn = among-turn _ (a .list .now) (a .offer) (here .after) (here .place) _ _ (here .inv .2) new (c .before .better-of .ensures) in
+    sym (among-end _ (a .list .now) (a .offer) _ (here .place + 1) (omega (arith, c .if1 .taken))) ∙ turn ∙ here .inv .0
 
 step-on-requires : tie.Need-step-on-requires Inv-loop μ-loop
-step-on-requires c κs = (
-  omega (arith, c .before .if1 .left, c .before .before .before .before .before .before .before .loop .inv .2, c .before .before .before .before .before .before .before .loop .inv .3, c .before .before .before .before .before .before .before .before .before .before .before .inserted-first .kept .0, c .before .before .before .before .before .before .before .before .before .before .before .before .before .before .before .before .before .before .before .before .before .before .before .pre .1 .0, c .before .before .before .before .before .before .before .before .before .before .before .before .before .before .before .before .before .before .before .before .before .before .before .pre .1 .1 .1),
-  omega (arith, c .before .before .before .before .before .before .before .loop .inv .2, c .before .before .before .before .before .before .before .before .before .before .before .before .before .before .before .before .before .before .before .before .before .before .before .pre .1 .1 .1),
-)
+step-on-requires c κs =
+    let at-loop = c .before .before .before .before .before .before .before in
+    let at-inserted-first = at-loop .before .before .before .before in
+    let start = at-inserted-first .before .before .before .before .before .before .before .before .before .before .before .before in (
+      omega (
+        arith,
+        c .before .if1 .left,
+        at-loop .loop .inv .2,
+        at-loop .loop .inv .3,
+        at-inserted-first .inserted-first .kept .0,
+        start .pre .1 .0,
+        start .pre .1 .1 .1,
+      ),
+      omega (arith, at-loop .loop .inv .2, start .pre .1 .1 .1),
+    )
 
 add-place : tie.Need-add-place Inv-loop μ-loop
 add-place c =
-    omega (arith, c .before .before .before .before .before .before .before .before .before .before .loop .inv .2, c .before .before .before .before .before .before .before .before .before .before .before .before .before .before .before .before .before .before .before .before .before .before .before .before .before .before .pre .1 .1 .1)
+    let at-loop = c .before .before .before .before .before .before .before .before .before .before in
+    let further1 = at-loop .before .before .before .before .before .before .before .before .before .before .before .before .before .before .before in
+    let start = further1 .before in
+    omega (arith, at-loop .loop .inv .2, start .pre .1 .1 .1)
 
 loop-less : tie.Need-loop-less Inv-loop μ-loop
 loop-less c =
-    omega (arith, c .before .before .before .before .if1 .left, c .before .before .before .before .before .before .before .before .before .before .loop .inv .2)
+    let at-if1 = c .before .before .before .before in
+    let at-loop = at-if1 .before .before .before .before .before .before in
+    omega (arith, at-if1 .if1 .left, at-loop .loop .inv .2)
 
 loop-again : tie.Need-loop-again Inv-loop μ-loop
 loop-again c =
-    let a = c .before .before .before .before .before .before .before .before .before .before .before .before .before .before .before .before .before .before .before .before .before .before .before .before .before .before .args in
-    let at-loop = c .before .before .before .before .before .before .before .before .before .before .loop in
-    let new = c .before .before .before .before .before .before .price-from .ensures ∙ price-inserted _ _ _ (a .list .now) (c .before .before .before .before .before .before .before .before .before .reach .result) (c .before .before .before .before .before .before .before .before .before .reach .ensures .0) (a .offer .visit) (at-loop .place) (c .before .before .before .before .before .before .before .before .before .before .before .before .before .before .inserted-first .result)
-    (at-loop .buffer) (c .before .before .before .before .before .before .before .before .before .reach .ensures .1, at-loop .inv .2) (c .before .before .before .before .before .before .before .before .before .before .before .before .before .before .inserted-first .ensures .0) (at-loop .inv .1) in
-    let turn = among-turn _ (a .list .now) (a .offer) (at-loop .after) (at-loop .place) _ _ (at-loop .inv .2) new (c .before .before .before .before .before .better-of .ensures) in
-    let on = stepped (a .list .now) (a .offer .visit) (at-loop .place) (c .before .before .before .before .before .before .before .before .before .before .before .before .before .before .inserted-first .result) (at-loop .buffer) (omega (arith, c .before .before .before .before .if1 .left, at-loop .inv .2))
-    (omega (arith, c .before .before .before .before .before .before .before .before .before .before .before .before .before .before .inserted-first .ensures .0)) (at-loop .inv .1) in (
-      turn ∙ at-loop .inv .0,
-      ap (take (c .before .before .before .before .before .before .before .before .before .before .before .before .before .before .inserted-first .result)) (c .before .before .step-on .ensures) ∙ on,
-      omega (arith, c .before .before .before .before .if1 .left, at-loop .inv .2),
-      c .before .before .step-on .kept .0 ∙ at-loop .inv .3,
-      c .before .before .before .before .before .before .before .before .before .reach .ensures .0,
+    let at-step-on = c .before .before in
+    let at-if1 = at-step-on .before .before in
+    let at-better-of = at-if1 .before in
+    let at-price-from = at-better-of .before in
+    let at-reach = at-price-from .before .before .before in
+    let at-loop = at-reach .before in
+    let at-inserted-first = at-loop .before .before .before .before in
+    let start = at-inserted-first .before .before .before .before .before .before .before .before .before .before .before .before in
+    let a = start .args in
+    let here = at-loop .loop in
+    let new = at-price-from .price-from .ensures ∙ price-inserted _ _ _ (a .list .now) (at-reach .reach .result) (at-reach .reach .ensures .0)
+    (a .offer .visit) (here .place) (at-inserted-first .inserted-first .result)
+    (here .buffer) (at-reach .reach .ensures .1, here .inv .2) (at-inserted-first .inserted-first .ensures .0) (here .inv .1) in
+    let turn = among-turn _ (a .list .now) (a .offer) (here .after) (here .place) _ _ (here .inv .2) new (at-better-of .better-of .ensures) in
+    let on = stepped (a .list .now) (a .offer .visit) (here .place) (at-inserted-first .inserted-first .result) (here .buffer)
+    (omega (arith, at-if1 .if1 .left, here .inv .2))
+    (omega (arith, at-inserted-first .inserted-first .ensures .0)) (here .inv .1) in (
+      turn ∙ here .inv .0,
+      ap (take (at-inserted-first .inserted-first .result)) (at-step-on .step-on .ensures) ∙ on,
+      omega (arith, at-if1 .if1 .left, here .inv .2),
+      at-step-on .step-on .kept .0 ∙ here .inv .3,
+      at-reach .reach .ensures .0,
     )
 
 pub best-place-spec : {M : Type 1} → statement M

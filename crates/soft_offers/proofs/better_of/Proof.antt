@@ -10,7 +10,8 @@ returns c =
 
 returns-2 : tie.Need-returns-2
 returns-2 c =
-    better-kept _ (c .before .before .before .before .before .args .best) _ (c .before .before .before .before .before .args .new) _ refl (c .if1 .left)
+    let start = c .before .before .before .before .before in
+    better-kept _ (start .args .best) _ (start .args .new) _ refl (c .if1 .left)
 
 pub better-of-spec : {M : Type 1} → statement M
 better-of-spec = tie.close (tie.spec returns returns-2)

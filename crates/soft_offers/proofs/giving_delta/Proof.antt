@@ -6,7 +6,8 @@ use Rattle.soft_offers.proofs.giving_delta.Tie as tie
 
 price-without-requires : tie.Need-price-without-requires
 price-without-requires c κs =
-    (c .before .before .before .before .before .before .before .before .before .before .pre .0, (c .before .before .before .before .before .before .before .before .before .before .pre .1 .0, c .before .before .before .before .before .before .before .before .before .before .pre .1 .1 .0))
+    let start = c .before .before .before .before .before .before .before .before .before .before in
+    (start .pre .0, (start .pre .1 .0, start .pre .1 .1 .0))
 
 fixed-if-requires : tie.Need-fixed-if-requires
 fixed-if-requires c κs = search needs
@@ -16,7 +17,10 @@ same-length c = search needs
 
 returns : tie.Need-returns
 returns c =
-    giving-is _ _ (c .before .before .before .before .before .before .before .before .before .before .before .before .before .before .args .list .now) (c .before .before .before .before .before .before .before .before .before .before .before .before .before .before .args .position) _ _ _ (c .before .before .before .before .before .before .before .before .before .before .before .before .before .before .pre .1 .0 .2) (c .before .before .before .price-without .ensures) (c .before .before .before .before .before .before .before .before .before .before .before .before .before .before .pre .1 .1 .1) (c .fixed-if .ensures)
+    let at-price-without = c .before .before .before in
+    let start = at-price-without .before .before .before .before .before .before .before .before .before .before .before in
+    giving-is _ _ (start .args .list .now) (start .args .position) _ _ _ (start .pre .1 .0 .2) (at-price-without .price-without .ensures)
+    (start .pre .1 .1 .1) (c .fixed-if .ensures)
 
 pub giving-delta-spec : {M : Type 1} → statement M
 giving-delta-spec =

@@ -8,7 +8,8 @@ use Rattle.soft_offers.proofs.offer_visit.Tie as tie
 
 mul-visit : tie.Need-mul-visit
 mul-visit c =
-    omega (arith, c .before .before .before .before .before .before .before .before .before .before .pre .1 .1 .0 .1, c .before .before .before .before .before .before .before .before .before .before .pre .1 .1 .0 .0 .gives .few)
+    let start = c .before .before .before .before .before .before .before .before .before .before in
+    omega (arith, start .pre .1 .1 .0 .1, start .pre .1 .1 .0 .0 .gives .few)
 
 shared-slice-read-visit : tie.Need-shared-slice-read-visit
 shared-slice-read-visit c = search needs
@@ -18,21 +19,31 @@ wide-requires c κs = search needs
 
 boxes-of-requires : tie.Need-boxes-of-requires
 boxes-of-requires c κs =
-    let below = c .before .before .before .before .before .before .before .before .before .before .before .before .pre .1 .1 .0 .0 .gives .below _ (c .before .before .before .before .before .before .before .before .before .before .before .before .pre .1 .1 .0 .1) in
-    (omega (arith, c .wide .ensures, below, c .before .before .before .before .before .before .before .before .before .before .before .before .pre .1 .0 .0 .column), rw (c .wide .ensures) (c .before .before .before .before .before .before .before .before .before .before .before .before .pre .1 .0 .0 .in-range _ below))
+    let start = c .before .before .before .before .before .before .before .before .before .before .before .before in
+    let below = start .pre .1 .1 .0 .0 .gives .below _ (start .pre .1 .1 .0 .1) in
+    (omega (arith, c .wide .ensures, below, start .pre .1 .0 .0 .column), rw (c .wide .ensures) (start .pre .1 .0 .0 .in-range _ below))
 
 add-load : tie.Need-add-load
 add-load c =
-    omega (arith, c .before .boxes-of .ensures .1, c .before .before .before .before .before .before .before .before .before .before .before .before .before .before .pre .1 .1 .1 .0 .1)
+    let start = c .before .before .before .before .before .before .before .before .before .before .before .before .before .before in
+    omega (arith, c .before .boxes-of .ensures .1, start .pre .1 .1 .1 .0 .1)
 
 returns : tie.Need-returns
 returns c =
-    refused-as _ _ (c .before .before .before .before .before .before .before .before .before .before .before .before .before .before .before .before .args .setup) (c .before .before .before .before .before .before .before .before .before .before .before .before .before .before .before .before .args .giver .now) (c .before .before .before .before .before .before .before .before .before .before .before .before .before .before .before .before .args .receiver .now) (c .before .before .before .before .before .before .before .before .before .before .before .before .before .before .before .before .args .pair) (c .before .before .before .before .before .before .before .before .before .before .before .before .before .before .before .before .args .best) (c .before .before .before .before .before .before .before .before .before .before .before .before .before .before .before .before .args .position) _ _ (c .before .before .before .before .wide .ensures) (c .before .before .before .boxes-of .ensures .0)
+    let at-boxes-of = c .before .before .before in
+    let at-wide = at-boxes-of .before in
+    let start = at-wide .before .before .before .before .before .before .before .before .before .before .before .before in
+    refused-as _ _ (start .args .setup) (start .args .giver .now) (start .args .receiver .now) (start .args .pair) (start .args .best)
+    (start .args .position) _ _ (at-wide .wide .ensures) (at-boxes-of .boxes-of .ensures .0)
     (c .if1 .taken)
 
 giving-delta-requires : tie.Need-giving-delta-requires
 giving-delta-requires c κs =
-    (c .before .before .before .before .before .before .before .before .before .before .before .before .before .before .before .before .before .pre .0, ((c .before .before .before .before .before .before .before .before .before .before .before .before .before .before .before .before .before .pre .1 .0 .1, c .before .before .before .before .before .before .before .before .before .before .before .before .before .before .before .before .before .pre .1 .1 .0 .0 .gives, c .before .before .before .before .before .before .before .before .before .before .before .before .before .before .before .before .before .pre .1 .1 .0 .1), (c .before .before .before .before .before .before .before .before .before .before .before .before .before .before .before .before .before .pre .1 .1 .1 .1, c .before .before .before .before .before .before .before .before .before .before .before .before .before .before .before .before .before .pre .1 .1 .1 .0 .0 .price-from)))
+    let further1 = c .before .before .before .before .before .before .before .before .before .before .before .before .before .before .before in
+    let start = further1 .before .before in (
+      start .pre .0,
+      ((start .pre .1 .0 .1, start .pre .1 .1 .0 .0 .gives, start .pre .1 .1 .0 .1), (start .pre .1 .1 .1 .1, start .pre .1 .1 .1 .0 .0 .price-from)),
+    )
 
 is-finite-requires : tie.Need-is-finite-requires
 is-finite-requires c κs = search needs
@@ -42,24 +53,48 @@ same-length c = search needs
 
 returns-2 : tie.Need-returns-2
 returns-2 c =
-    fails-as _ _ (c .before .before .before .before .before .before .before .before .before .before .before .before .before .before .before .before .before .before .before .before .before .before .args .setup) (c .before .before .before .before .before .before .before .before .before .before .before .before .before .before .before .before .before .before .before .before .before .before .args .giver .now) (c .before .before .before .before .before .before .before .before .before .before .before .before .before .before .before .before .before .before .before .before .before .before .args .receiver .now) (c .before .before .before .before .before .before .before .before .before .before .before .before .before .before .before .before .before .before .before .before .before .before .args .pair) (c .before .before .before .before .before .before .before .before .before .before .before .before .before .before .before .before .before .before .before .before .before .before .args .best) (c .before .before .before .before .before .before .before .before .before .before .before .before .before .before .before .before .before .before .before .before .before .before .args .position) _ _ (c .before .before .before .before .before .before .before .before .before .before .wide .ensures) (c .before .before .before .before .before .before .before .before .before .boxes-of .ensures .0)
-    _ (c .before .before .before .before .giving-delta .ensures) _ (c .before .is-finite .ensures) (not-true _ (c .if2 .taken))
+    let at-giving-delta = c .before .before .before .before in
+    let at-boxes-of = at-giving-delta .before .before .before .before .before in
+    let at-wide = at-boxes-of .before in
+    let start = at-wide .before .before .before .before .before .before .before .before .before .before .before .before in
+    fails-as _ _ (start .args .setup) (start .args .giver .now) (start .args .receiver .now) (start .args .pair) (start .args .best)
+    (start .args .position) _ _ (at-wide .wide .ensures) (at-boxes-of .boxes-of .ensures .0)
+    _ (at-giving-delta .giving-delta .ensures) _ (c .before .is-finite .ensures) (not-true _ (c .if2 .taken))
 
 fixed-if-requires : tie.Need-fixed-if-requires
 fixed-if-requires c κs = search needs
 
 best-place-requires : tie.Need-best-place-requires
 best-place-requires c κs =
-    let two = c .before .before .before .before .before .before .before .before .before .before .before .before .before .before .before .before .before .before .before .before .before .before .before .before .pre .1 .1 .0 .0 in
-    (c .before .before .before .before .before .before .before .before .before .before .before .before .before .before .before .before .before .before .before .before .before .before .before .before .pre .0, (omega (arith, c .before .before .before .before .before .before .giving-delta .kept .1 .1 .1 .1 .1 .1 .1 .1 .1 .0, c .before .before .before .before .before .before .before .before .before .before .before .before .before .before .before .before .before .before .before .before .before .before .before .before .pre .1 .0 .1), (two .takes, two .room-there, two .gives .below _ (c .before .before .before .before .before .before .before .before .before .before .before .before .before .before .before .before .before .before .before .before .before .before .before .before .pre .1 .1 .0 .1))))
+    let at-giving-delta = c .before .before .before .before .before .before in
+    let further1 = at-giving-delta .before .before .before .before .before .before .before .before .before .before .before .before .before .before in
+    let start = further1 .before .before .before .before in
+    let two = start .pre .1 .1 .0 .0 in (
+      start .pre .0,
+      (
+        omega (arith, at-giving-delta .giving-delta .kept .1 .1 .1 .1 .1 .1 .1 .1 .1 .0, start .pre .1 .0 .1),
+        (two .takes, two .room-there, two .gives .below _ (start .pre .1 .1 .0 .1)),
+      ),
+    )
 
 same-length-2 : tie.Need-same-length-2
 same-length-2 c = search needs
 
 returns-3 : tie.Need-returns-3
 returns-3 c =
-    offered-as _ _ (c .before .before .before .before .before .before .before .before .before .before .before .before .before .before .before .before .before .before .before .before .before .before .before .before .before .before .before .args .setup) (c .before .before .before .before .before .before .before .before .before .before .before .before .before .before .before .before .before .before .before .before .before .before .before .before .before .before .before .args .giver .now) (c .before .before .before .before .before .before .before .before .before .before .before .before .before .before .before .before .before .before .before .before .before .before .before .before .before .before .before .args .receiver .now) (c .before .before .before .before .before .before .before .before .before .before .before .before .before .before .before .before .before .before .before .before .before .before .before .before .before .before .before .args .pair) (c .before .before .before .before .before .before .before .before .before .before .before .before .before .before .before .before .before .before .before .before .before .before .before .before .before .before .before .args .best) (c .before .before .before .before .before .before .before .before .before .before .before .before .before .before .before .before .before .before .before .before .before .before .before .before .before .before .before .args .position) _ _ (c .before .before .before .before .before .before .before .before .before .before .before .before .before .before .before .wide .ensures) (c .before .before .before .before .before .before .before .before .before .before .before .before .before .before .boxes-of .ensures .0)
-    _ (c .before .before .before .before .before .before .before .before .before .giving-delta .ensures) _ (c .before .before .before .before .before .before .is-finite .ensures) (not-false _ (c .before .before .before .before .before .if2 .left)) (c .before .before .before .before .before .before .before .before .before .before .before .if1 .left) _ _ (c .before .before .before .before .fixed-if .ensures) (c .before .before .best-place .ensures)
+    let at-best-place = c .before .before in
+    let at-fixed-if = at-best-place .before .before in
+    let at-if2 = at-fixed-if .before in
+    let at-is-finite = at-if2 .before in
+    let at-giving-delta = at-is-finite .before .before .before in
+    let at-if1 = at-giving-delta .before .before in
+    let at-boxes-of = at-if1 .before .before .before in
+    let at-wide = at-boxes-of .before in
+    let start = at-wide .before .before .before .before .before .before .before .before .before .before .before .before in
+    offered-as _ _ (start .args .setup) (start .args .giver .now) (start .args .receiver .now) (start .args .pair) (start .args .best)
+    (start .args .position) _ _ (at-wide .wide .ensures) (at-boxes-of .boxes-of .ensures .0)
+    _ (at-giving-delta .giving-delta .ensures) _ (at-is-finite .is-finite .ensures) (not-false _ (at-if2 .if2 .left)) (at-if1 .if1 .left) _ _
+    (at-fixed-if .fixed-if .ensures) (at-best-place .best-place .ensures)
 
 pub offer-visit-spec : {M : Type 1} → statement M
 offer-visit-spec =

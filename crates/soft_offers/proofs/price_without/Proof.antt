@@ -24,11 +24,15 @@ part-price-from-end c = search needs
 
 price-from-requires : tie.Need-price-from-requires
 price-from-requires c κs =
-    (c .before .before .before .before .before .before .before .before .before .before .before .before .before .pre .0 .formed, (c .before .before .before .before .before .before .before .before .before .before .before .before .before .pre .0 .depot-there, c .before .before .before .before .before .before .before .before .before .before .before .before .before .pre .1 .1 .placed, tail-visits _ _ _ (c .before .before .before .before .before .before .before .before .before .before .before .before .before .pre .1 .0 .1) (c .before .before .before .before .before .before .before .before .before .before .before .before .before .pre .1 .0 .2)))
+    let start = c .before .before .before .before .before .before .before .before .before .before .before .before .before in
+    (start .pre .0 .formed, (start .pre .0 .depot-there, start .pre .1 .1 .placed, tail-visits _ _ _ (start .pre .1 .0 .1) (start .pre .1 .0 .2)))
 
 returns : tie.Need-returns
 returns c =
-    c .price-from .ensures ∙ price-without-is _ _ _ (c .before .before .before .before .before .before .before .before .before .before .before .before .before .before .args .list .now) (c .before .before .before .before .before .before .before .before .before .before .before .before .before .before .args .head) (c .before .before .before .before .before .before .before .before .before .before .before .before .before .before .pre .1 .1) (c .before .before .before .before .before .before .before .before .before .before .before .before .before .before .args .position) (c .before .before .before .before .before .before .before .before .before .before .before .before .before .before .pre .1 .0 .2) (c .before .before .before .if1 .taken)
+    let at-if1 = c .before .before .before in
+    let start = at-if1 .before .before .before .before .before .before .before .before .before .before .before in
+    c .price-from .ensures ∙ price-without-is _ _ _ (start .args .list .now) (start .args .head) (start .pre .1 .1) (start .args .position)
+    (start .pre .1 .0 .2) (at-if1 .if1 .taken)
 
 removed-into-requires : tie.Need-removed-into-requires
 removed-into-requires c κs = search needs
@@ -44,8 +48,13 @@ part-price-of-end c = search needs
 
 price-of-requires : tie.Need-price-of-requires
 price-of-requires c κs =
-    let end = c .before .before .before .before .removed-into in
-    (c .before .before .before .before .before .before .before .before .before .before .before .before .before .before .before .before .before .pre .0, rw (front (end .result) (end .last .0) _ (end .ensures .1)) (visits-without _ (c .before .before .before .before .before .before .before .before .before .before .before .before .before .before .before .before .before .args .list .now) (c .before .before .before .before .before .before .before .before .before .before .before .before .before .before .before .before .before .args .position) (c .before .before .before .before .before .before .before .before .before .before .before .before .before .before .before .before .before .pre .1 .0 .1) (c .before .before .before .before .before .before .before .before .before .before .before .before .before .before .before .before .before .pre .1 .0 .2)))
+    let at-removed-into = c .before .before .before .before in
+    let start = at-removed-into .before .before .before .before .before .before .before .before .before .before .before .before .before in
+    let end = at-removed-into .removed-into in (
+      start .pre .0,
+      rw (front (end .result) (end .last .0) _ (end .ensures .1))
+          (visits-without _ (start .args .list .now) (start .args .position) (start .pre .1 .0 .1) (start .pre .1 .0 .2)),
+    )
 
 same-length : tie.Need-same-length
 same-length c = search needs
