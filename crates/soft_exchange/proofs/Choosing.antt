@@ -13,8 +13,8 @@ use Rattle.exchange.specs.Exchange.{pairAt, movedBy}
 use Rattle.exchange.specs.declared.Place.{Place}
 use Rattle.exchange.specs.declared.Choice.{Choice}
 use Rattle.exchange.proofs.Choosing.{best-first}
-use Rattle.soft_exchange.specs.Parts.{passesOf, judgeOf, bestOf, takenAt}
-use Rattle.soft_exchange.specs.declared.Terms.{Terms}
+use Rattle.soft_tails.specs.Parts.{passesOf, judgeOf, bestOf, takenAt}
+use Rattle.soft_tails.specs.declared.Terms.{Terms}
 
 module _ (c : Columns) (demand : List ℤ) (t : Terms) (ls : List (List ℕ)) (p : Pair) where
   -- the best of all is what is taken

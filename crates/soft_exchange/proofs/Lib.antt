@@ -1,4 +1,2 @@
-pub mod Behind
-pub mod Considering
 pub mod Choosing
 pub mod Offices

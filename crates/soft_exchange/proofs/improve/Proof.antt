@@ -6,7 +6,7 @@ use mir.ValLaws.{toZ-ofZ}
 use Rattle.numbers.specs.Floor.{gainFloor}
 use Rattle.exchange.proofs.Tables.{edited-length}
 use Rattle.soft_exchange.specs.SoftExchange.{soft-exchange-run}
-use Rattle.soft_exchange.specs.Parts.{passesOf, judgeOf}
+use Rattle.soft_tails.specs.Parts.{passesOf, judgeOf}
 use Rattle.soft_exchange.proofs.improve.Statement.{statement}
 use Rattle.soft_exchange.proofs.improve.Tie as tie
 

@@ -12,7 +12,7 @@ use Rattle.descent.specs.Search.{Sweep}
 use Rattle.descent.specs.Across.{Pair}
 use Rattle.loads.specs.Loads.{Held}
 use Rattle.exchange.specs.Exchange.{from, InSweep}
-use Rattle.soft_exchange.specs.Parts.{nextOf}
+use Rattle.soft_tails.specs.Parts.{nextOf}
 use Rattle.exchange.proofs.Places.{still-in, none-ahead, nothing-ahead}
 use Rattle.loads.proofs.Tables.{still-held}
 use Rattle.exchange.proofs.Tables.{edited-none, edited-length}

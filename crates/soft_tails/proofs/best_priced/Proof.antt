@@ -12,10 +12,10 @@ use Rattle.loads.specs.Loads.{boxesOf}
 use Rattle.exchange.specs.Exchange.{scan, bestBy}
 use Rattle.exchange.proofs.Choosing.{scan-turn, scan-end}
 use Rattle.loads.proofs.Boxes.{load-more, sum-small}
-use Rattle.soft_exchange.specs.Parts.{DrivenBy, bestRow, bestOf}
-use Rattle.soft_exchange.proofs.Behind.{first-visits}
-use Rattle.soft_exchange.proofs.best_priced.Statement.{statement}
-use Rattle.soft_exchange.proofs.best_priced.Tie as tie
+use Rattle.soft_tails.specs.Parts.{DrivenBy, bestRow, bestOf}
+use Rattle.soft_tails.proofs.Behind.{first-visits}
+use Rattle.soft_tails.proofs.best_priced.Statement.{statement}
+use Rattle.soft_tails.proofs.best_priced.Tie as tie
 
 abbrev Inv-loop : tie.InvT-loop
 Inv-loop flags demand service ready due penalty distances times terms one other figures rest best₀ driven1₀ head1₀ last₀ best driven1 head1 last =

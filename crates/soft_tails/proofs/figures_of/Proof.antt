@@ -1,7 +1,7 @@
 -- `figures_of`: each figure is its callee's answer, and the visits of both lists are locations.
 use native.Mathlib.Omega.{arith}
-use Rattle.soft_exchange.proofs.figures_of.Statement.{statement}
-use Rattle.soft_exchange.proofs.figures_of.Tie as tie
+use Rattle.soft_tails.proofs.figures_of.Statement.{statement}
+use Rattle.soft_tails.proofs.figures_of.Tie as tie
 
 effective-cost-requires : tie.Need-effective-cost-requires
 effective-cost-requires c κs =

@@ -21,10 +21,10 @@ use Rattle.descent.proofs.Members.{and-both}
 use Rattle.loads.specs.Loads.{boxesOf}
 use Rattle.exchange.specs.Exchange.{scan, nothing, betterBy, rowBy, bestBy}
 use Rattle.exchange.specs.declared.Choice.{Choice}
-use Rattle.soft_exchange.specs.SoftExchange.{priced, change}
-use Rattle.soft_exchange.specs.Parts.{costIn, measuresFor, Priced, changeOf, better, bestRow, bestOf}
-use Rattle.soft_exchange.specs.declared.Terms.{Terms}
-use Rattle.soft_exchange.specs.declared.Figures.{Figures}
+use Rattle.soft_tails.specs.Tails.{priced, change}
+use Rattle.soft_tails.specs.Parts.{costIn, measuresFor, Priced, changeOf, better, bestRow, bestOf}
+use Rattle.soft_tails.specs.declared.Terms.{Terms}
+use Rattle.soft_tails.specs.declared.Figures.{Figures}
 
 left-out : (a b : Bool) → a ≡ false → (a && b) ≡ false
 left-out false b e = refl

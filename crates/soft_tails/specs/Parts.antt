@@ -1,5 +1,5 @@
 -- Soft tail exchange as its functions state it: what stays the same over a run, what is known of a pair, the best exchange so far, and the next move.
--- For src/; the engine's own definition is in SoftExchange.antt, and places and moves are those of `exchange`. Assumes nothing.
+-- For src/; the engine's own definition is in Tails.antt, and places and moves are those of `exchange`. Assumes nothing.
 use mathlib.Core.Path.{_≡_}
 use mathlib.Core.Bool.{Bool, _&&_}
 use mathlib.Core.Option.{Option}
@@ -20,9 +20,9 @@ use Rattle.heads.specs.Head.{Driven}
 use Rattle.heads.specs.declared.Head.{Head}
 use Rattle.exchange.specs.Exchange.{exchanging, betterBy, rowBy, bestBy}
 use Rattle.exchange.specs.declared.Choice.{Choice}
-use Rattle.soft_exchange.specs.SoftExchange.{priced, change, soft-exchange-search, soft-exchange-judge}
-use Rattle.soft_exchange.specs.declared.Terms.{Terms}
-use Rattle.soft_exchange.specs.declared.Figures.{Figures}
+use Rattle.soft_tails.specs.Tails.{priced, change, soft-exchange-search, soft-exchange-judge}
+use Rattle.soft_tails.specs.declared.Terms.{Terms}
+use Rattle.soft_tails.specs.declared.Figures.{Figures}
 
 -- what a list costs
 abbrev pub costIn : Columns → Terms → List ℕ → Float

@@ -12,10 +12,10 @@ use Rattle.loads.specs.Loads.{boxesOf}
 use Rattle.exchange.specs.Exchange.{scan, rowBy}
 use Rattle.exchange.proofs.Choosing.{scan-turn, scan-end}
 use Rattle.loads.proofs.Boxes.{load-small, load-more, load-joined, sum-small, head-small}
-use Rattle.soft_exchange.specs.Parts.{DrivenBy, better, bestRow}
-use Rattle.soft_exchange.proofs.Behind.{second-visits}
-use Rattle.soft_exchange.proofs.best_row.Statement.{statement}
-use Rattle.soft_exchange.proofs.best_row.Tie as tie
+use Rattle.soft_tails.specs.Parts.{DrivenBy, better, bestRow}
+use Rattle.soft_tails.proofs.Behind.{second-visits}
+use Rattle.soft_tails.proofs.best_row.Statement.{statement}
+use Rattle.soft_tails.proofs.best_row.Tie as tie
 
 abbrev Inv-loop : tie.InvT-loop
 Inv-loop flags demand service ready due penalty distances times terms one other figures cut1 head1 driven1 rest found₀ driven2₀ head2₀ last₀ found driven2
