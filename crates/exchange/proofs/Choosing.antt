@@ -4,8 +4,7 @@ use mathlib.Core.Path.{_≡_, refl, sym, ap, _∙_}
 use mathlib.Core.Bool.{Bool, true, false, cond, _&&_}
 use mathlib.Core.Option.{Option, none, some}
 use mathlib.Core.List.{List, [], _∷_, _++_, map}
-use Prim.Native.Nat.{ℕ, zero, suc, _+_, _-_, _≤_, _<_}
-use native.Mathlib.Numerals.{add-one}
+use Prim.Native.Nat.{ℕ, zero, suc, _-_}
 use lib.IntN.{ℤ}
 use lib.ListN.{length}
 use lib.Ieee.{Float, lt, neg}
@@ -17,24 +16,14 @@ use Rattle.descent.specs.Order.{from-on, range, each}
 use Rattle.descent.specs.Search.{least, firstLeast, ok, taken}
 use Rattle.descent.specs.Across.{at, Pair, Tails}
 use Rattle.descent.proofs.Members.{T-true, true-T, and-parts, and-both}
-use Rattle.descent.proofs.Loops.{range-step, range-done, least-better, least-stays, first-found, first-passed}
+use Rattle.descent.proofs.Loops.{least-better, least-stays, first-found, first-passed}
 use Rattle.lists.specs.Table.{lists, listOf}
 use Rattle.lists.proofs.Tables.{at-lists}
-use Rattle.exchange.specs.Exchange.{passesOf, judgeOf, scan, nothing, betterBy, rowBy, bestBy, bestOf, pairAt, movedBy, takenAt}
-use Rattle.exchange.specs.declared.Terms.{Terms}
+use Rattle.tails.specs.Best.{scan, nothing, betterBy, rowBy, bestBy, bestOf}
+use Rattle.exchange.specs.Exchange.{passesOf, judgeOf, pairAt, movedBy, takenAt}
+use Rattle.tails.specs.declared.Terms.{Terms}
 use Rattle.exchange.specs.declared.Place.{Place}
-use Rattle.exchange.specs.declared.Choice.{Choice}
-
--- ---- a loop over the cuts behind the visit at k: a turn, and the end
-
-pub scan-turn : {B : Type 0} (f : ℕ → B → B) (k e : ℕ) (b newer : B) → suc k < e → newer ≡ f (k + 1) b
-    → scan f (range (suc (k + 1)) e) newer ≡ scan f (range (suc k) e) b
-unfolding scan
-scan-turn f k e b newer h q = rw (q, add-one k, range-step (suc k) e h)
-
-pub scan-end : {B : Type 0} (f : ℕ → B → B) (k e : ℕ) (b : B) → e ≤ k → scan f (range k e) b ≡ b
-unfolding scan
-scan-end f k e b h = rw (range-done k e h)
+use Rattle.tails.specs.declared.Choice.{Choice}
 
 -- ---- a scan with one test
 

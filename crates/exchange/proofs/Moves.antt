@@ -16,7 +16,8 @@ use Rattle.descent.proofs.Loops.{place-passed, place-moved, next-ahead, next-sw
 use Rattle.descent.proofs.Sweeps.{first-least-some}
 use Rattle.descent.proofs.TailExchange.{tail-cuts-in}
 use Rattle.loads.specs.Loads.{Held}
-use Rattle.exchange.specs.Exchange.{exchanging, pairAt, movedBy, from, placeAfter, InSweep, leadsBy, leads}
+use Rattle.tails.specs.Best.{exchanging}
+use Rattle.exchange.specs.Exchange.{pairAt, movedBy, from, placeAfter, InSweep, leadsBy, leads}
 use Rattle.exchange.specs.declared.Place.{Place}
 use Rattle.exchange.specs.declared.Found.{Found}
 use Rattle.exchange.proofs.Places.{from-turn, from-end, from-start}

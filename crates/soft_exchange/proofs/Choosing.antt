@@ -11,7 +11,7 @@ use Rattle.descent.specs.Search.{ok, taken}
 use Rattle.descent.specs.Across.{at, Pair}
 use Rattle.exchange.specs.Exchange.{pairAt, movedBy}
 use Rattle.exchange.specs.declared.Place.{Place}
-use Rattle.exchange.specs.declared.Choice.{Choice}
+use Rattle.tails.specs.declared.Choice.{Choice}
 use Rattle.exchange.proofs.Choosing.{best-first}
 use Rattle.soft_tails.specs.Parts.{passesOf, judgeOf, bestOf, takenAt}
 use Rattle.soft_tails.specs.declared.Terms.{Terms}

@@ -5,7 +5,6 @@
 use day::matrix::scale;
 use day::vehicle::RouteLimits;
 use engine::Ended;
-use exchange::Choice;
 use exchange::Found;
 use exchange::Place;
 use exchange::place_after;
@@ -15,6 +14,7 @@ use loads::boxes_in;
 use numbers::gain_floor;
 use soft_tails::Terms;
 use soft_tails::best_exchange;
+use tails::Choice;
 ghost use mathlib.Core.Path.{_≡_};
 ghost use mathlib.Core.Bool.{true};
 ghost use mathlib.Core.List.{[]};

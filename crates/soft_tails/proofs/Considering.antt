@@ -19,8 +19,8 @@ use Rattle.descent.specs.Order.{range}
 use Rattle.descent.specs.Permitted.{room}
 use Rattle.descent.proofs.Members.{and-both}
 use Rattle.loads.specs.Loads.{boxesOf}
-use Rattle.exchange.specs.Exchange.{scan, nothing, betterBy, rowBy, bestBy}
-use Rattle.exchange.specs.declared.Choice.{Choice}
+use Rattle.tails.specs.Best.{scan, nothing, betterBy, rowBy, bestBy}
+use Rattle.tails.specs.declared.Choice.{Choice}
 use Rattle.soft_tails.specs.Tails.{priced, change}
 use Rattle.soft_tails.specs.Parts.{costIn, measuresFor, Priced, changeOf, better, bestRow, bestOf}
 use Rattle.soft_tails.specs.declared.Terms.{Terms}

@@ -18,8 +18,8 @@ use Rattle.descent.specs.Across.{Pair, Tails}
 use Rattle.loads.specs.Loads.{boxesOf, Loaded}
 use Rattle.heads.specs.Head.{Driven}
 use Rattle.heads.specs.declared.Head.{Head}
-use Rattle.exchange.specs.Exchange.{exchanging, betterBy, rowBy, bestBy}
-use Rattle.exchange.specs.declared.Choice.{Choice}
+use Rattle.tails.specs.Best.{exchanging, betterBy, rowBy, bestBy}
+use Rattle.tails.specs.declared.Choice.{Choice}
 use Rattle.soft_tails.specs.Tails.{priced, change, soft-exchange-search, soft-exchange-judge}
 use Rattle.soft_tails.specs.declared.Terms.{Terms}
 use Rattle.soft_tails.specs.declared.Figures.{Figures}

@@ -7,7 +7,6 @@
 use day::vehicle::RouteLimits;
 use edits::append_stretch;
 use evaluation::route::effective_cost;
-use exchange::Choice;
 use heads::Head;
 use heads::at_depot;
 use heads::price_from;
@@ -15,6 +14,7 @@ use heads::reach;
 use loads::boxes_at;
 use loads::load_of;
 use numbers::is_finite;
+use tails::Choice;
 use tests::both;
 ghost use mathlib.Core.Path.{_≡_};
 ghost use mathlib.Core.Bool.{true};
@@ -26,7 +26,7 @@ ghost use Rattle.lists.specs.Edits.{joined};
 ghost use Rattle.evaluation.specs.Columns.{columnsAt, Formed};
 ghost use Rattle.evaluation.specs.Route.{effectiveCost};
 ghost use Rattle.loads.specs.Loads.{boxesOf};
-ghost use Rattle.exchange.specs.Exchange.{Two};
+ghost use Rattle.tails.specs.Best.{Two};
 ghost use Rattle.soft_tails.specs.Tails.{priced};
 ghost use Rattle.soft_tails.specs.Parts.{costIn, Asked, DrivenBy, Priced, Figured, changeOf, better, bestRow, bestOf};
 

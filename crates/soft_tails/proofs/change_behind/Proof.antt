@@ -1,7 +1,7 @@
 -- `change_behind`: behind its head each new list is the other list's tail, which is what is driven.
 use borrow.Author.Needs.{needs}
 use mathlib.Core.Path.{_∙_}
-use Rattle.exchange.proofs.Joined.{two-turned}
+use Rattle.tails.proofs.Joined.{two-turned}
 use Rattle.soft_tails.proofs.Behind.{tail-visits, price-behind}
 use Rattle.soft_tails.proofs.Considering.{same-change}
 use Rattle.soft_tails.proofs.change_behind.Statement.{statement}

@@ -1,6 +1,6 @@
 -- `change_whole`: each new list's cost is its callee's answer.
 use borrow.Author.Needs.{needs}
-use Rattle.exchange.proofs.Joined.{two-turned}
+use Rattle.tails.proofs.Joined.{two-turned}
 use Rattle.soft_tails.proofs.Considering.{same-change}
 use Rattle.soft_tails.proofs.change_whole.Statement.{statement}
 use Rattle.soft_tails.proofs.change_whole.Tie as tie

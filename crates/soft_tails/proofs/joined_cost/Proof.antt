@@ -2,7 +2,7 @@
 use borrow.Author.Needs.{needs}
 use mathlib.Core.Path.{ap, _∙_}
 use Rattle.evaluation.specs.Route.{effectiveCost}
-use Rattle.exchange.proofs.Joined.{visits-joined, built, front}
+use Rattle.tails.proofs.Joined.{visits-joined, built, front}
 use Rattle.soft_tails.proofs.joined_cost.Statement.{statement}
 use Rattle.soft_tails.proofs.joined_cost.Tie as tie
 

@@ -7,11 +7,11 @@ use Rattle.edits.specs.Total.{total}
 use Rattle.evaluation.specs.Columns.{columns}
 use Rattle.descent.specs.Order.{range}
 use Rattle.loads.specs.Loads.{boxesOf}
-use Rattle.exchange.specs.Exchange.{scan, bestRow, bestOf, bestBy}
-use Rattle.exchange.proofs.Choosing.{scan-turn, scan-end}
+use Rattle.tails.specs.Best.{scan, bestRow, bestOf, bestBy}
+use Rattle.tails.proofs.Turns.{scan-turn, scan-end}
 use Rattle.loads.proofs.Boxes.{load-more, sum-small}
-use Rattle.exchange.proofs.best_exchange.Statement.{statement}
-use Rattle.exchange.proofs.best_exchange.Tie as tie
+use Rattle.tails.proofs.best_exchange.Statement.{statement}
+use Rattle.tails.proofs.best_exchange.Tie as tie
 
 abbrev Inv-loop : tie.InvT-loop
 Inv-loop flags demand service ready due penalty distances times terms one other load1 load2 best₀ head1₀ last₀ best head1 last =

@@ -5,9 +5,9 @@ use mathlib.Core.Path.{ap, _∙_}
 use Rattle.tests.specs.All.{off, on}
 use Rattle.evaluation.specs.Route.{feasible}
 use Rattle.engine.specs.Engine.{passing}
-use Rattle.exchange.proofs.Joined.{visits-joined, built, front}
-use Rattle.exchange.proofs.joined_passes.Statement.{statement}
-use Rattle.exchange.proofs.joined_passes.Tie as tie
+use Rattle.tails.proofs.Joined.{visits-joined, built, front}
+use Rattle.tails.proofs.joined_passes.Statement.{statement}
+use Rattle.tails.proofs.joined_passes.Tie as tie
 
 returns : tie.Need-returns
 unfolding passing

@@ -16,9 +16,9 @@ use Rattle.descent.specs.Permitted.{fits}
 use Rattle.deltas.specs.Deltas.{exchangeDelta}
 use Rattle.engine.specs.Engine.{passing}
 use Rattle.loads.specs.Loads.{boxesOf}
-use Rattle.exchange.specs.Exchange.{checksFor, Asked, better, betterBy}
-use Rattle.exchange.specs.declared.Terms.{Terms}
-use Rattle.exchange.specs.declared.Choice.{Choice}
+use Rattle.tails.specs.Best.{checksFor, Asked, better, betterBy}
+use Rattle.tails.specs.declared.Terms.{Terms}
+use Rattle.tails.specs.declared.Choice.{Choice}
 
 no-room : (room pass : Bool) → room ≡ false → ((room && true) && pass) ≡ false
 no-room false pass e = refl

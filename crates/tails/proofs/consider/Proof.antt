@@ -1,8 +1,8 @@
 -- `consider`: each of its ends is one case of the definition's choice with one exchange more.
-use Rattle.exchange.proofs.Joined.{two-turned}
-use Rattle.exchange.proofs.Considering.{stays-first-load, stays-second-load, stays-delta, stays-first-list, stays-second-list, taken-up}
-use Rattle.exchange.proofs.consider.Statement.{statement}
-use Rattle.exchange.proofs.consider.Tie as tie
+use Rattle.tails.proofs.Joined.{two-turned}
+use Rattle.tails.proofs.Considering.{stays-first-load, stays-second-load, stays-delta, stays-first-list, stays-second-list, taken-up}
+use Rattle.tails.proofs.consider.Statement.{statement}
+use Rattle.tails.proofs.consider.Tie as tie
 
 returns : tie.Need-returns
 returns c =

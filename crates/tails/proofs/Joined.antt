@@ -11,7 +11,7 @@ use Rattle.edits.proofs.Cuts.{to-end, lent}
 use Rattle.evaluation.specs.Columns.{Visits}
 use Rattle.lists.specs.Edits.{joined}
 use Rattle.descent.proofs.Below.{over, Below, below-at}
-use Rattle.exchange.specs.Exchange.{Two}
+use Rattle.tails.specs.Best.{Two}
 use Rattle.loads.proofs.Boxes.{load-parts}
 
 below-all : (l : ℕ) (xs : List ℕ) → ((k : ℕ) → k < length xs → getD xs k 0 < l) → Below l xs

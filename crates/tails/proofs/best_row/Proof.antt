@@ -7,11 +7,11 @@ use Rattle.edits.specs.Total.{total}
 use Rattle.evaluation.specs.Columns.{columns}
 use Rattle.descent.specs.Order.{range}
 use Rattle.loads.specs.Loads.{boxesOf}
-use Rattle.exchange.specs.Exchange.{better, scan, bestRow, rowBy}
-use Rattle.exchange.proofs.Choosing.{scan-turn, scan-end}
+use Rattle.tails.specs.Best.{better, scan, bestRow, rowBy}
+use Rattle.tails.proofs.Turns.{scan-turn, scan-end}
 use Rattle.loads.proofs.Boxes.{load-small, load-more, load-joined, sum-small, head-small}
-use Rattle.exchange.proofs.best_row.Statement.{statement}
-use Rattle.exchange.proofs.best_row.Tie as tie
+use Rattle.tails.proofs.best_row.Statement.{statement}
+use Rattle.tails.proofs.best_row.Tie as tie
 
 abbrev Inv-loop : tie.InvT-loop
 Inv-loop flags demand service ready due penalty distances times terms one other cut1 head1 load1 load2 found₀ head2₀ last₀ found head2 last =
