@@ -4,39 +4,26 @@ use mathlib.Core.Path.{_≡_, refl, sym, ap, _∙_}
 use mathlib.Core.Bool.{Bool, true, false, cond, _&&_}
 use mathlib.Core.Option.{Option, none, some}
 use mathlib.Core.List.{List, [], _∷_, _++_, map}
-use Prim.Native.Nat.{ℕ, zero, suc, _+_, _-_, _≤_, _<_}
-use native.Mathlib.Numerals.{add-one}
+use Prim.Native.Nat.{ℕ, zero, suc, _-_}
 use lib.IntN.{ℤ}
 use lib.ListN.{length}
 use lib.Ieee.{Float, lt, neg}
 use Rattle.numbers.specs.Floor.{gainFloor}
 use Rattle.numbers.proofs.Total.{lt-trans}
-use Rattle.day.specs.Matrix.{leg, scaleOf}
+use Rattle.day.specs.Matrix.{scaleOf}
 use Rattle.evaluation.specs.Columns.{Columns}
 use Rattle.descent.specs.Order.{from-on, range, each}
-use Rattle.descent.specs.Permitted.{fits}
 use Rattle.descent.specs.Search.{least, firstLeast, ok, taken}
-use Rattle.descent.specs.Across.{at, Pair, Tails, new1, new2}
+use Rattle.descent.specs.Across.{at, Pair, Tails}
 use Rattle.descent.proofs.Members.{T-true, true-T, and-parts, and-both}
-use Rattle.descent.proofs.Loops.{range-step, range-done, least-better, least-stays, first-found, first-passed}
-use Rattle.deltas.specs.Deltas.{exchangeDelta}
+use Rattle.descent.proofs.Loops.{least-better, least-stays, first-found, first-passed}
 use Rattle.lists.specs.Table.{lists, listOf}
 use Rattle.lists.proofs.Tables.{at-lists}
-use Rattle.exchange.specs.Exchange.{checksFor, searchOf, judgeOf, better, scan, bestRow, nothing, bestOf, pairAt, movedBy, takenAt}
-use Rattle.exchange.specs.declared.Terms.{Terms}
+use Rattle.tails.specs.Best.{scan, nothing, betterBy, rowBy, bestBy, bestOf}
+use Rattle.exchange.specs.Exchange.{passesOf, judgeOf, pairAt, movedBy, takenAt}
+use Rattle.tails.specs.declared.Terms.{Terms}
 use Rattle.exchange.specs.declared.Place.{Place}
-use Rattle.exchange.specs.declared.Choice.{Choice}
-
--- ---- a loop over the cuts behind the visit at k: a turn, and the end
-
-pub scan-turn : {B : Type 0} (f : ℕ → B → B) (k e : ℕ) (b newer : B) → suc k < e → newer ≡ f (k + 1) b
-    → scan f (range (suc (k + 1)) e) newer ≡ scan f (range (suc k) e) b
-unfolding scan
-scan-turn f k e b newer h q = rw (q, add-one k, range-step (suc k) e h)
-
-pub scan-end : {B : Type 0} (f : ℕ → B → B) (k e : ℕ) (b : B) → e ≤ k → scan f (range k e) b ≡ b
-unfolding scan
-scan-end f k e b h = rw (range-done k e h)
+use Rattle.tails.specs.declared.Choice.{Choice}
 
 -- ---- a scan with one test
 
@@ -93,26 +80,20 @@ module _ {C : Type 0} (delta : C → Float) (pass : C → Bool) (bound : Float) 
   onward-end none = refl
   onward-end (some best) = refl
 
--- ---- the exchanges of a pair
+-- ---- the exchanges of a pair, by what one changes and whether it passes
 
-module _ (c : Columns) (demand : List ℤ) (t : Terms) (ls : List (List ℕ)) (p : Pair) where
-  abbrev X : List ℕ
-  X = at ls (p .one)
-
-  abbrev Y : List ℕ
-  Y = at ls (p .other)
-
-  abbrev delta : Tails → Float
-  delta m = exchangeDelta (leg (c .l) (c .distances)) (t .depot) (at ls (m .pair .one)) (at ls (m .pair .other)) (m .cut1) (m .cut2)
-
-  abbrev pass : Tails → Bool
-  pass m = fits (checksFor c demand t) (new1 ls m) && fits (checksFor c demand t) (new2 ls m)
-
-  abbrev bound : Float
-  bound = neg (gainFloor (scaleOf (c .distances)))
-
+module _ (p : Pair) (delta : Tails → Float) (pass : Tails → Bool) (floor : Float) where
   abbrev tails : ℕ → ℕ → Tails
   tails i k = record { pair = p; cut1 = i; cut2 = k }
+
+  abbrev change : ℕ → ℕ → Float
+  change i k = delta (tails i k)
+
+  abbrev may-go : ℕ → ℕ → Bool
+  may-go i k = pass (tails i k)
+
+  abbrev bound : Float
+  bound = neg floor
 
   abbrev moved : Choice → Option Tails
   moved best = movedBy p (best .cut1) (best .cut2)
@@ -128,8 +109,8 @@ module _ (c : Columns) (demand : List ℤ) (t : Terms) (ls : List (List ℕ)) (p
     pub known : Known newer
 
   one-more : (i k : ℕ) (best : Choice) (rest : List Tails) → Known best
-      → Onward best (better c demand t X Y (suc i) k best) (tails (suc i) k ∷ rest) rest
-  unfolding better movedBy lt
+      → Onward best (betterBy change may-go (suc i) k best) (tails (suc i) k ∷ rest) rest
+  unfolding betterBy movedBy lt
   one-more i k best rest known = go (lt (delta m) (best .delta) && pass m) refl
     where
       m : Tails
@@ -147,31 +128,44 @@ module _ (c : Columns) (demand : List ℤ) (t : Terms) (ls : List (List ℕ)) (p
       go false e = record { same = onward-stays delta pass bound (moved best) m rest (tested ∙ e); known = known }
 
   row-more : (i : ℕ) (ks : List ℕ) (best : Choice) (rest : List Tails) → Known best
-      → Onward best (scan (better c demand t X Y (suc i)) ks best) (map (tails (suc i)) ks ++ rest) rest
+      → Onward best (scan (betterBy change may-go (suc i)) ks best) (map (tails (suc i)) ks ++ rest) rest
   unfolding scan
   row-more i [] best rest known = record { same = refl; known = known }
   row-more i (k ∷ ks) best rest known =
       let one = one-more i k best (map (tails (suc i)) ks ++ rest) known in
-      let more = row-more i ks (better c demand t X Y (suc i) k best) rest (one .known) in
+      let more = row-more i ks (betterBy change may-go (suc i) k best) rest (one .known) in
       record { same = one .same ∙ more .same; known = more .known }
 
-  rows-more : (a n : ℕ) (best : Choice) → Known best
-      → onward delta pass bound (moved best) (each (from-on (suc a) n) λ i. map (tails i) (range 1 (suc (length Y))))
-      ≡ moved (scan (bestRow c demand t X Y) (from-on (suc a) n) best)
-  unfolding scan bestRow
-  rows-more a zero best known = onward-end delta pass bound (moved best)
-  rows-more a (suc n) best known =
-      let row = row-more a (range 1 (suc (length Y))) best (each (from-on (suc (suc a)) n) λ i. map (tails i) (range 1 (suc (length Y)))) known in
-      row .same ∙ rows-more (suc a) n (bestRow c demand t X Y (suc a) best) (row .known)
+  rows-more : (a n n2 : ℕ) (best : Choice) → Known best
+      → onward delta pass bound (moved best) (each (from-on (suc a) n) λ i. map (tails i) (range 1 (suc n2)))
+      ≡ moved (scan (rowBy change may-go n2) (from-on (suc a) n) best)
+  unfolding scan rowBy
+  rows-more a zero n2 best known = onward-end delta pass bound (moved best)
+  rows-more a (suc n) n2 best known =
+      let row = row-more a (range 1 (suc n2)) best (each (from-on (suc (suc a)) n) λ i. map (tails i) (range 1 (suc n2))) known in
+      row .same ∙ rows-more (suc a) n n2 (rowBy change may-go n2 (suc a) best) (row .known)
 
-  known-nothing : t .floor ≡ gainFloor (scaleOf (c .distances)) → Known (nothing (t .floor))
+  known-nothing : Known (nothing floor)
   unfolding movedBy
-  known-nothing e = record { figured = ap neg e; counted = tt }
+  known-nothing = record { figured = refl; counted = tt }
 
+  -- the best of all is the first least of all
+  pub best-first : (n1 n2 : ℕ) → moved (bestBy change may-go n1 n2 floor)
+      ≡ onward delta pass bound none (each (range 1 (suc n1)) λ i. map (tails i) (range 1 (suc n2)))
+  unfolding bestBy movedBy
+  best-first n1 n2 = sym (rows-more 0 (suc n1 - 1) n2 (nothing floor) known-nothing)
+
+-- ---- the exchanges of this engine
+
+module _ (c : Columns) (demand : List ℤ) (t : Terms) (ls : List (List ℕ)) (p : Pair) where
   -- the best of all is what is taken
-  pub best-taken : t .floor ≡ gainFloor (scaleOf (c .distances)) → moved (bestOf c demand t X Y) ≡ takenAt c demand t ls p
-  unfolding bestOf takenAt taken searchOf judgeOf ok movedBy
-  best-taken e = sym (rows-more 0 (suc (length X) - 1) (nothing (t .floor)) (known-nothing e))
+  best-taken : t .floor ≡ gainFloor (scaleOf (c .distances))
+      → movedBy p (bestOf c demand t (at ls (p .one)) (at ls (p .other)) .cut1) (bestOf c demand t (at ls (p .one)) (at ls (p .other)) .cut2)
+      ≡ takenAt c demand t ls p
+  unfolding taken passesOf judgeOf ok
+  best-taken e =
+      rw e (best-first p (judgeOf c t .delta ls) (passesOf c demand t ls) (gainFloor (scaleOf (c .distances))) (length (at ls (p .one)))
+      (length (at ls (p .other))))
 
 -- so of two lists of the tables
 pub best-at : (c : Columns) (demand : List ℤ) (t : Terms) (visits lengths : List ℕ) (p : Place) (X₁ Y₁ : List ℕ) (best : Choice)
@@ -179,7 +173,4 @@ pub best-at : (c : Columns) (demand : List ℤ) (t : Terms) (visits lengths : Li
     → best ≡ bestOf c demand t X₁ Y₁ → movedBy (pairAt p) (best .cut1) (best .cut2) ≡ takenAt c demand t (lists visits lengths) (pairAt p)
 best-at c demand t visits lengths p X₁ Y₁ best floor e f q =
     let ls = lists visits lengths in
-    let one : X₁ ≡ at ls (p .one) = e ∙ sym (at-lists visits lengths (p .one)) in
-    let other : Y₁ ≡ at ls (p .other) = f ∙ sym (at-lists visits lengths (p .other)) in
-    let same = ap (λ (Z : List ℕ). bestOf c demand t Z Y₁) one ∙ ap (λ (Z : List ℕ). bestOf c demand t (at ls (p .one)) Z) other in
-    ap (λ (b : Choice). movedBy (pairAt p) (b .cut1) (b .cut2)) (q ∙ same) ∙ best-taken c demand t ls (pairAt p) floor
+    rw (q, e, f, ← at-lists visits lengths (p .one), ← at-lists visits lengths (p .other)) (best-taken c demand t ls (pairAt p) floor)

@@ -1,6 +1,4 @@
 pub mod Choosing
-pub mod Joined
-pub mod Considering
 pub mod Places
 pub mod Tables
 pub mod Moves

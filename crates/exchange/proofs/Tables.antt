@@ -13,7 +13,7 @@ use Rattle.lists.proofs.Tables.{at-lists, length-list, start-later, start-withi
 use Rattle.deltas.specs.Judged.{Lent}
 use Rattle.loads.specs.Loads.{Held}
 use Rattle.loads.proofs.Tables.{list-visits}
-use Rattle.exchange.specs.Exchange.{Two}
+use Rattle.tails.specs.Best.{Two}
 
 module _ (l : ℕ) (visits lengths : List ℕ) (held : Held l visits lengths) where
   pub two-lists : (one other : ℕ) → one < other → Two l (listOf visits lengths one) (listOf visits lengths other)

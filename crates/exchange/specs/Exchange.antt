@@ -1,86 +1,40 @@
 -- Tail exchange as its functions state it: what stays the same over a run, the best exchange so far, the pairs of lists one after another, and where a move
 -- leads. For src/; the engine's own definition is `tail-exchange` of descent. Assumes nothing.
 use mathlib.Core.Path.{_≡_}
-use mathlib.Core.Bool.{cond, _&&_}
+use mathlib.Core.Bool.{Bool, cond}
 use mathlib.Core.Option.{Option, none, some}
 use mathlib.Core.List.{List, [], _∷_, _++_, map}
 use Prim.Native.Nat.{ℕ, zero, suc, _+_, _≤_, _<_}
 use lib.Dec.{ltb}
 use lib.IntN.{ℤ}
-use lib.ListN.{length, getD}
-use lib.Ieee.{Float, neg, lt}
+use lib.ListN.{length}
+use lib.Ieee.{Float}
 use Rattle.numbers.specs.Operations.{zero64}
-use Rattle.numbers.specs.Floor.{gainFloor}
-use Rattle.day.specs.Matrix.{leg, scaleOf}
-use Rattle.evaluation.specs.Columns.{Columns, Formed}
-use Rattle.evaluation.specs.Route.{checksNeeded}
-use Rattle.lists.specs.Edits.{joined, tailsExchanged, Cuts}
+use Rattle.evaluation.specs.Columns.{Columns}
+use Rattle.lists.specs.Edits.{tailsExchanged, Cuts}
 use Rattle.descent.specs.Order.{range, each}
-use Rattle.descent.specs.Permitted.{Checks, fits, tail-exchange}
+use Rattle.descent.specs.Permitted.{tail-exchange}
 use Rattle.descent.specs.Search.{Search, Judge, Sweep, taken, firstMove, next}
 use Rattle.descent.specs.Across.{Pair, Tails}
 use Rattle.descent.specs.Engines.{search-of}
-use Rattle.deltas.specs.Deltas.{exchangeDelta}
 use Rattle.deltas.specs.Judged.{float-judge}
-use Rattle.engine.specs.Engine.{checksOf, mapOf}
-use Rattle.loads.specs.Loads.{measureOf, Loaded}
-use Rattle.exchange.specs.declared.Terms.{Terms}
+use Rattle.engine.specs.Engine.{mapOf}
+use Rattle.tails.specs.Best.{checksFor, exchanging}
+use Rattle.tails.specs.declared.Terms.{Terms}
 use Rattle.exchange.specs.declared.Place.{Place}
-use Rattle.exchange.specs.declared.Choice.{Choice}
 use Rattle.exchange.specs.declared.Found.{Found}
 
--- what both new lists must meet: 'both loads and both lists pass'
-abbrev pub checksFor : Columns → List ℤ → Terms → Checks
-checksFor c demand t = checksOf (measureOf demand (t .capacity) ∷ []) c (t .limits) (t .depot)
+-- which exchanges pass on a day, with a van's terms
+unfoldable pub passesOf : Columns → List ℤ → Terms → List (List ℕ) → Tails → Bool
+passesOf c demand t = search-of tail-exchange (checksFor c demand t) .passes
 
--- the engine's search on a day, with a van's terms
-unfoldable pub searchOf : Columns → List ℤ → Terms → Search (List (List ℕ)) Pair Tails
-searchOf c demand t = search-of tail-exchange (checksFor c demand t)
+-- the engine's search
+abbrev pub searchOf : Columns → List ℤ → Terms → Search (List (List ℕ)) Pair Tails
+searchOf c demand t = exchanging (passesOf c demand t)
 
 -- and how it judges a candidate; no delta reads the fixed cost
 unfoldable pub judgeOf : Columns → Terms → Judge (List (List ℕ)) Tails Float
 judgeOf c t = float-judge tail-exchange (mapOf (c .l) (c .distances) (t .depot) zero64)
-
--- what a run's functions ask of what stays the same
-pub record Asked (c : Columns) (demand : List ℤ) (t : Terms) : Type 0 where
-  pub formed : Formed c
-  pub loaded : Loaded (c .l) demand
-  pub depot-there : t .depot < c .l
-  pub needed : t .needed ≡ checksNeeded (c .flags) (t .limits)
-  pub floor : t .floor ≡ gainFloor (scaleOf (c .distances))
-
--- two lists of the tables
-pub record Two (l : ℕ) (X Y : List ℕ) : Type 0 where
-  pub one-below : (k : ℕ) → k < length X → getD X k 0 < l
-  pub other-below : (k : ℕ) → k < length Y → getD Y k 0 < l
-  pub few : length X + length Y ≤ 63
-
--- ---- the best exchange of two lists
-
--- one candidate more: 'below the best so far' is 'counts' too, since the best starts at minus the floor
-unfoldable pub better : Columns → List ℤ → Terms → List ℕ → List ℕ → ℕ → ℕ → Choice → Choice
-better c demand t X Y cut1 cut2 best =
-    let delta = exchangeDelta (leg (c .l) (c .distances)) (t .depot) X Y cut1 cut2 in
-    cond (lt delta (best .delta) && (fits (checksFor c demand t) (joined X cut1 Y cut2) && fits (checksFor c demand t) (joined Y cut2 X cut1)))
-    (record { cut1 = cut1; cut2 = cut2; delta = delta })
-    best
-
--- a loop: what f makes of the value, for one after another
-unfoldable pub scan : {A B : Type 0} → (A → B → B) → List A → B → B
-scan f [] b = b
-scan f (x ∷ xs) b = scan f xs (f x b)
-
--- `for cut2 in 1..=n2`
-unfoldable pub bestRow : Columns → List ℤ → Terms → List ℕ → List ℕ → ℕ → Choice → Choice
-bestRow c demand t X Y cut1 = scan (better c demand t X Y cut1) (range 1 (suc (length Y)))
-
--- nothing so far: no head has 0 visits, and a delta has to be below minus the floor
-abbrev pub nothing : Float → Choice
-nothing floor = record { cut1 = 0; cut2 = 0; delta = neg floor }
-
--- `for cut1 in 1..=n1`, from nothing on
-unfoldable pub bestOf : Columns → List ℤ → Terms → List ℕ → List ℕ → Choice
-bestOf c demand t X Y = scan (bestRow c demand t X Y) (range 1 (suc (length X))) (nothing (t .floor))
 
 -- the pair of lists that a place is
 abbrev pub pairAt : Place → Pair
@@ -92,7 +46,7 @@ movedBy p zero cut2 = none
 movedBy p (suc cut1) cut2 = some (record { pair = p; cut1 = suc cut1; cut2 = cut2 })
 
 -- the exchange to take at a pair
-unfoldable pub takenAt : Columns → List ℤ → Terms → List (List ℕ) → Pair → Option Tails
+abbrev pub takenAt : Columns → List ℤ → Terms → List (List ℕ) → Pair → Option Tails
 takenAt c demand t = taken (searchOf c demand t) (judgeOf c t)
 
 -- ---- the pairs of lists
@@ -117,11 +71,11 @@ pub record InSweep (n : ℕ) (p : Place) : Type 0 where
 -- ---- moves
 
 -- the first move at some pairs, and the next move of a run
-unfoldable pub firstAt : Columns → List ℤ → Terms → List (List ℕ) → List Pair → Option (Sweep (List (List ℕ)) Pair)
+abbrev pub firstAt : Columns → List ℤ → Terms → List (List ℕ) → List Pair → Option (Sweep (List (List ℕ)) Pair)
 firstAt c demand t = firstMove (searchOf c demand t) (judgeOf c t)
 
 -- the next move of a run
-unfoldable pub nextOf : Columns → List ℤ → Terms → Sweep (List (List ℕ)) Pair → Option (Sweep (List (List ℕ)) Pair)
+abbrev pub nextOf : Columns → List ℤ → Terms → Sweep (List (List ℕ)) Pair → Option (Sweep (List (List ℕ)) Pair)
 nextOf c demand t = next (searchOf c demand t) (judgeOf c t)
 
 -- where an exchange leads: the lists with the tails exchanged, and the pairs still ahead in this sweep

@@ -1,4 +1,2 @@
-pub mod Considering
 pub mod Choosing
-pub mod Moves
 pub mod Offices

@@ -1,2 +1,1 @@
 pub mod SoftExchange
-pub mod Parts

@@ -1,27 +1,31 @@
 -- The search of a pair of lists as the code goes about it: what a run keeps at hand, the candidates by visit, and the best so far.
 -- For the contracts of src/ and of `soft_relocate`; the engine's own search and judging are in Prices.antt. Assumes nothing.
 use mathlib.Core.Path.{_≡_}
-use mathlib.Core.Bool.{true, cond}
+use mathlib.Core.Bool.{Bool, true, cond, _&&_}
 use mathlib.Core.Option.{Option}
 use mathlib.Core.List.{List, [], _∷_, map}
-use Prim.Native.Nat.{ℕ, suc, _≤_, _<_}
+use Prim.Native.Nat.{ℕ, suc, _+_, _≤_, _<_}
+use lib.Dec.{leb, eqb}
 use lib.IntN.{ℤ}
-use lib.ListN.{length}
+use lib.ListN.{length, getD}
 use lib.Ieee.{Float, lt, neg}
 use lib.Ieee.Scale.{finite}
 use Rattle.numbers.specs.Operations.{_⊕_, _⊖_}
 use Rattle.edits.specs.Total.{total}
-use Rattle.lists.specs.Table.{lists, listOf}
-use Rattle.evaluation.specs.Columns.{Columns, Formed}
+use Rattle.lists.specs.Table.{lists}
+use Rattle.evaluation.specs.Columns.{Columns, Formed, Visits}
 use Rattle.evaluation.specs.Route.{effectiveCost}
+use Rattle.heads.specs.Head.{Driven}
+use Rattle.heads.specs.declared.Head.{Head}
+use Rattle.deltas.specs.Changes.{fixedIf}
 use Rattle.descent.specs.Order.{range}
 use Rattle.descent.specs.Search.{Search, Judge}
 use Rattle.descent.specs.Across.{at, Relocation}
 use Rattle.pairs.specs.Scan.{onward, figure, Counted}
-use Rattle.pairs.specs.Pairs.{moveOf, IsBest}
+use Rattle.pairs.specs.Pairs.{moveOf, nothing, IsBest}
 use Rattle.pairs.specs.declared.Choice.{Choice}
 use Rattle.loads.specs.Loads.{boxesOf, measureOf}
-use Rattle.soft_offers.specs.Prices.{inserted, soft-relocate-search, soft-relocate-judge}
+use Rattle.soft_offers.specs.Prices.{inserted, givingDelta, soft-relocate-search, soft-relocate-judge}
 use Rattle.soft_offers.specs.declared.Setup.{Setup}
 use Rattle.soft_offers.specs.declared.Pair.{Pair}
 use Rattle.soft_offers.specs.declared.Offer.{Offer}
@@ -32,6 +36,16 @@ use Rattle.soft_offers.specs.declared.Offer.{Offer}
 pub record Prepared (s : Setup) (c : Columns) : Type 0 where
   pub formed : Formed c
   pub depot-there : s .depot < c .l
+
+-- a head of a list, driven by the van of this setup
+abbrev pub DrivenBy : Columns → Setup → List ℕ → Head → Type 0
+DrivenBy c s = Driven c (s .limits .rest) (s .depot)
+
+-- two lists of the tables, the second with room for one visit more
+pub record TwoOf (l : ℕ) (X Y : List ℕ) : Type 0 where
+  pub gives : Visits l X
+  pub takes : Visits l Y
+  pub room-there : length Y < 63
 
 -- ---- the engine's search and judging
 
@@ -79,14 +93,52 @@ bestAmong price list offer [] best = best
 bestAmong price list offer (place ∷ places) best =
     bestAmong price list offer places (better offer (price (inserted list (offer .visit) place)) best place)
 
--- what is known of a pair of lists: both are priced, and the receiver's load is counted
-pub record Known (c : Columns) (demand : List ℤ) (s : Setup) (visits lengths : List ℕ) (pair : Pair) : Type 0 where
-  pub price-from : pair .«old_from» ≡ priceOf c s (listOf visits lengths (pair .from))
-  pub price-to : pair .«old_to» ≡ priceOf c s (listOf visits lengths (pair .to))
+-- ---- a pair of lists
+
+-- what is known of it: both are priced, and the receiver's boxes are counted
+pub record Known (c : Columns) (demand : List ℤ) (s : Setup) (X Y : List ℕ) (pair : Pair) : Type 0 where
+  pub price-from : pair .«old_from» ≡ priceOf c s X
+  pub price-to : pair .«old_to» ≡ priceOf c s Y
   pub finite-from : finite (pair .«old_from») ≡ true
   pub finite-to : finite (pair .«old_to») ≡ true
-  pub load : pair .load ≡ total (boxesOf demand) (listOf visits lengths (pair .to))
-  pub light : pair .load ≤ 63000000
+  pub load : pair .load ≡ total (boxesOf demand) Y
+
+module _ (c : Columns) (demand : List ℤ) (s : Setup) (X Y : List ℕ) (pair : Pair) where
+  -- a visit, offered
+  abbrev pub offerOf : ℕ → Offer
+  offerOf position = record {
+    from = pair .from;
+    position = position;
+    to = pair .to;
+    visit = getD X position 0;
+    giving = givingDelta (priceOf c s) (s .fixed) X position;
+    old = pair .«old_to»;
+    paid = fixedIf (eqb (length Y) 0) (s .fixed);
+  }
+
+  -- whether the receiver has room for it, and the giver a price without it
+  abbrev pub mayGo : ℕ → Bool
+  mayGo position =
+      leb (pair .load + boxesOf demand (getD X position 0)) (s .capacity) && finite (givingDelta (priceOf c s) (s .fixed) X position)
+
+  -- the best after an offer of one visit
+  unfoldable pub bestOffer : ℕ → Choice → Choice
+  bestOffer position best =
+      cond (mayGo position) (bestAmong (priceOf c s) Y (offerOf position) (range 0 (suc (length Y))) best) best
+
+  -- the best after the offers of some visits
+  unfoldable pub bestOffers : List ℕ → Choice → Choice
+  bestOffers [] best = best
+  bestOffers (position ∷ positions) best = bestOffers positions (bestOffer position best)
+
+-- the best move of two lists: none where one of them has no price
+module _ (c : Columns) (demand : List ℤ) (s : Setup) (X Y : List ℕ) (from to : ℕ) where
+  abbrev pub pairOf : Pair
+  pairOf = record { from = from; to = to; «old_from» = priceOf c s X; «old_to» = priceOf c s Y; load = total (boxesOf demand) Y }
+
+  unfoldable pub bestPriced : Choice
+  bestPriced =
+      cond (finite (priceOf c s X) && finite (priceOf c s Y)) (bestOffers c demand s X Y pairOf (range 0 (length X)) (nothing (bound s))) (nothing (bound s))
 
 module _ (c : Columns) (demand : List ℤ) (s : Setup) (visits lengths : List ℕ) where
   -- what the scan over some candidates comes to

@@ -1,11 +1,16 @@
 // The best move of a pair of lists where a day has a soft window (relocate.rs, `best_between_soft`): each visit of the one is offered at each place of the
 // other. What a visit taken out and put in changes can't be told from its neighbours there, for one put in front of a late one makes it later, so that every
 // move is priced whole, on both lists, with the fixed cost saved or paid. A list that has no price isn't moved into or out of.
+// Offers at later places share the receiver's first visits, and later visits the giver's: these are driven once (`heads`), and a list is priced from there on.
 use day::vehicle::RouteLimits;
 use edits::append;
 use edits::append_one;
 use edits::append_stretch;
 use evaluation::route::effective_cost;
+use heads::Head;
+use heads::at_depot;
+use heads::price_from;
+use heads::reach;
 use lists::length_of;
 use lists::list_of;
 use loads::boxes_of;
@@ -14,19 +19,17 @@ use numbers::is_finite;
 use pairs::Choice;
 use tests::both;
 ghost use mathlib.Core.Path.{_≡_};
-ghost use mathlib.Core.Logic.{_≢_};
-ghost use mathlib.Core.Bool.{true};
 ghost use Prim.Native.Nat.{suc, _+_, _-_, _<_, _≤_};
-ghost use lib.ListN.{length, take, getD};
+ghost use lib.ListN.{length, take};
 ghost use Rattle.edits.specs.Edits.{swapped};
-ghost use Rattle.lists.specs.Table.{lists};
 ghost use Rattle.evaluation.specs.Columns.{columnsAt, Visits};
 ghost use Rattle.descent.specs.Order.{range};
 ghost use Rattle.deltas.specs.Changes.{fixedIf};
 ghost use Rattle.loads.specs.Loads.{Loaded, Held};
 ghost use Rattle.pairs.specs.Pairs.{nothing};
 ghost use Rattle.soft_offers.specs.Prices.{without, inserted, givingDelta};
-ghost use Rattle.soft_offers.specs.Offers.{Prepared, priceOf, intoList, better, bestAmong, Known, Best, Scanned, BestOf};
+ghost use Rattle.soft_offers.specs.Offers.{Prepared, DrivenBy, TwoOf, priceOf, bound, better, bestAmong, Known};
+ghost use Rattle.soft_offers.specs.Offers.{bestOffer, bestOffers, bestPriced, BestOf};
 
 // What is worked out once before the first move.
 pub struct Setup {
@@ -149,6 +152,60 @@ fn price_of(
     )
 }
 
+// What a list is priced at without the visit at a position: from the end of its head where that ends there, else whole.
+fn price_without(
+    setup: Setup,
+    flags: &[u8],
+    service: &[f64],
+    ready: &[f64],
+    due: &[f64],
+    penalty: &[f64],
+    distances: &[f64],
+    times: &[f64],
+    list: &[u16],
+    buffer: &mut [u16],
+    head: Head,
+    position: usize,
+) -> f64
+    requires { ⌜ Prepared setup (columnsAt (setup .l) flags service ready due penalty distances times) ⌝ }
+    requires { ⌜ (64 ≤ length (now buffer)) × Visits (setup .l) (now list) × (position < length (now list)) ⌝ }
+    requires { ⌜ DrivenBy (columnsAt (setup .l) flags service ready due penalty distances times) setup (now list) head ⌝ }
+    ensures { λ r.
+        ⌜ r ≡ priceOf (columnsAt (setup .l) (flags .entry) (service .entry) (ready .entry) (due .entry) (penalty .entry) (distances .entry) (times .entry))
+        setup (without (now (list .entry)) position) ⌝ }
+{
+    if head.visits == position {
+        let limits = setup.limits;
+        let behind = position + 1;
+        return price_from(
+            setup.l,
+            flags,
+            service,
+            ready,
+            due,
+            penalty,
+            distances,
+            times,
+            limits,
+            setup.depot,
+            head,
+            &list[behind..list.len()],
+        );
+    }
+    let end = removed_into(buffer, list, position);
+    price_of(
+        setup,
+        flags,
+        service,
+        ready,
+        due,
+        penalty,
+        distances,
+        times,
+        &buffer[0..end],
+    )
+}
+
 // What taking the visit at a position out of a list changes: its price, and the fixed cost where it was the only one.
 fn giving_delta(
     setup: Setup,
@@ -161,19 +218,20 @@ fn giving_delta(
     times: &[f64],
     list: &[u16],
     buffer: &mut [u16],
+    head: Head,
     old: f64,
     position: usize,
 ) -> f64
     requires { ⌜ Prepared setup (columnsAt (setup .l) flags service ready due penalty distances times) ⌝ }
     requires { ⌜ (64 ≤ length (now buffer)) × Visits (setup .l) (now list) × (position < length (now list)) ⌝ }
+    requires { ⌜ DrivenBy (columnsAt (setup .l) flags service ready due penalty distances times) setup (now list) head ⌝ }
     requires { ⌜ old ≡ priceOf (columnsAt (setup .l) flags service ready due penalty distances times) setup (now list) ⌝ }
     ensures { λ r.
         ⌜ r ≡ givingDelta
         (priceOf (columnsAt (setup .l) (flags .entry) (service .entry) (ready .entry) (due .entry) (penalty .entry) (distances .entry) (times .entry)) setup)
         (setup .fixed) (now (list .entry)) position ⌝ }
 {
-    let end = removed_into(buffer, list, position);
-    let new = price_of(
+    let new = price_without(
         setup,
         flags,
         service,
@@ -182,48 +240,22 @@ fn giving_delta(
         penalty,
         distances,
         times,
-        &buffer[0..end],
+        list,
+        buffer,
+        head,
+        position,
     );
     // What a list no longer costs once it is emptied.
-    let saved = fixed_if(end == 0, setup.fixed);
+    let saved = fixed_if(list.len() == 1, setup.fixed);
     new - old - saved
 }
 
 // ---- an offer to a list
 
-// The better of the best so far and an offer at a place, whose list is laid out.
-fn better_of(
-    setup: Setup,
-    flags: &[u8],
-    service: &[f64],
-    ready: &[f64],
-    due: &[f64],
-    penalty: &[f64],
-    distances: &[f64],
-    times: &[f64],
-    receiving: &[u16],
-    offer: Offer,
-    best: Choice,
-    place: usize,
-) -> Choice
-    requires { ⌜ Prepared setup (columnsAt (setup .l) flags service ready due penalty distances times) ⌝ }
-    requires { ⌜ Visits (setup .l) (now receiving) ⌝ }
-    ensures { λ r.
-        ⌜ r ≡ better offer
-        (priceOf (columnsAt (setup .l) (flags .entry) (service .entry) (ready .entry) (due .entry) (penalty .entry) (distances .entry) (times .entry))
-        setup (now (receiving .entry))) best place ⌝ }
+// The better of the best so far and an offer at a place, which makes a list of this price.
+fn better_of(offer: Offer, new: f64, best: Choice, place: usize) -> Choice
+    ensures { λ r. ⌜ r ≡ better offer new best place ⌝ }
 {
-    let new = price_of(
-        setup,
-        flags,
-        service,
-        ready,
-        due,
-        penalty,
-        distances,
-        times,
-        receiving,
-    );
     let delta = offer.giving + (new - offer.old + offer.paid);
     if delta < best.delta {
         return Choice {
@@ -238,7 +270,7 @@ fn better_of(
     best
 }
 
-// The best after an offer at every place of a list: the visit is put in before all others, and goes on place by place.
+// The best after an offer at every place of a list: the visit is put in before all others, and goes on place by place; the list's head goes on with it.
 fn best_place(
     setup: Setup,
     flags: &[u8],
@@ -261,27 +293,15 @@ fn best_place(
         (priceOf (columnsAt (setup .l) (flags .entry) (service .entry) (ready .entry) (due .entry) (penalty .entry) (distances .entry) (times .entry)) setup)
         (now (list .entry)) offer (range 0 (suc (length (now (list .entry))))) best ⌝ }
 {
+    let limits = setup.limits;
+    let rest = limits.rest;
     let end = inserted_first(buffer, list, offer.visit);
-    let mut after = better_of(
-        setup,
-        flags,
-        service,
-        ready,
-        due,
-        penalty,
-        distances,
-        times,
-        &buffer[0..end],
-        offer,
-        best,
-        0,
-    );
+    let mut head = at_depot(setup.depot);
+    let mut after = best;
     let mut place = 0;
-    while place < list.len() {
-        step_on(buffer, place);
-        place += 1;
-        after = better_of(
-            setup,
+    loop {
+        head = reach(
+            setup.l,
             flags,
             service,
             ready,
@@ -289,16 +309,37 @@ fn best_place(
             penalty,
             distances,
             times,
-            &buffer[0..end],
-            offer,
-            after,
+            rest,
+            setup.depot,
+            list,
+            head,
             place,
         );
+        let from = head.visits;
+        let new = price_from(
+            setup.l,
+            flags,
+            service,
+            ready,
+            due,
+            penalty,
+            distances,
+            times,
+            limits,
+            setup.depot,
+            head,
+            &buffer[from..end],
+        );
+        after = better_of(offer, new, after, place);
+        if place == list.len() {
+            return after;
+        }
+        step_on(buffer, place);
+        place += 1;
     }
-    after
 }
 
-// The best after the visit at `position` was offered by one list of a pair to the other.
+// The best after the visit at `position` was offered by one list of a pair to the other; `head` is driven over the giver's visits in front of it.
 fn offer_visit(
     setup: Setup,
     flags: &[u8],
@@ -309,27 +350,24 @@ fn offer_visit(
     distances: &[f64],
     times: &[f64],
     demand: &[i32],
-    visits: &[u16],
-    lengths: &[u16],
+    giver: &[u16],
+    receiver: &[u16],
     buffer: &mut [u16],
     pair: Pair,
+    head: Head,
     position: usize,
     best: Choice,
 ) -> Choice
     requires { ⌜ Prepared setup (columnsAt (setup .l) flags service ready due penalty distances times) ⌝ }
-    requires { ⌜ Loaded (setup .l) (now demand) × Held (setup .l) (now visits) (now lengths) ⌝ }
-    requires { ⌜ 64 ≤ length (now buffer) ⌝ }
-    requires { ⌜ Best (columnsAt (setup .l) flags service ready due penalty distances times) (now demand) setup (now visits) (now lengths) best ⌝ }
-    requires { ⌜ Known (columnsAt (setup .l) flags service ready due penalty distances times) (now demand) setup (now visits) (now lengths) pair ⌝ }
-    requires { ⌜ (pair .from < length (now lengths)) × (position < getD (now lengths) (pair .from) 0) × (pair .to < length (now lengths))
-        × (pair .from ≢ pair .to) ⌝ }
+    requires { ⌜ Loaded (setup .l) (now demand) × (64 ≤ length (now buffer)) ⌝ }
+    requires { ⌜ TwoOf (setup .l) (now giver) (now receiver) × (position < length (now giver)) ⌝ }
+    requires { ⌜ Known (columnsAt (setup .l) flags service ready due penalty distances times) (now demand) setup (now giver) (now receiver) pair
+        × (pair .load ≤ 63000000) ⌝ }
+    requires { ⌜ DrivenBy (columnsAt (setup .l) flags service ready due penalty distances times) setup (now giver) head ⌝ }
     ensures { λ r.
-        ⌜ (let ls = lists (now (visits .entry)) (now (lengths .entry))
-        in Scanned (columnsAt (setup .l) (flags .entry) (service .entry) (ready .entry) (due .entry) (penalty .entry) (distances .entry) (times .entry))
-        (now (demand .entry)) setup (now (visits .entry)) (now (lengths .entry)) (intoList ls (pair .from) (pair .to) position) best r) ⌝ }
+        ⌜ r ≡ bestOffer (columnsAt (setup .l) (flags .entry) (service .entry) (ready .entry) (due .entry) (penalty .entry) (distances .entry) (times .entry))
+        (now (demand .entry)) setup (now (giver .entry)) (now (receiver .entry)) pair position best ⌝ }
 {
-    let giver = list_of(visits, lengths, pair.from);
-    let receiver = list_of(visits, lengths, pair.to);
     let visit = giver[position];
     let load = pair.load + boxes_of(demand, wide(visit));
     if load > setup.capacity {
@@ -346,6 +384,7 @@ fn offer_visit(
         times,
         giver,
         buffer,
+        head,
         pair.old_from,
         position,
     );
@@ -406,24 +445,41 @@ fn best_of_pair(
     distances: &[f64],
     times: &[f64],
     demand: &[i32],
-    visits: &[u16],
-    lengths: &[u16],
+    giver: &[u16],
+    receiver: &[u16],
     buffer: &mut [u16],
     pair: Pair,
 ) -> Choice
     requires { ⌜ Prepared setup (columnsAt (setup .l) flags service ready due penalty distances times) ⌝ }
-    requires { ⌜ Loaded (setup .l) (now demand) × Held (setup .l) (now visits) (now lengths) ⌝ }
-    requires { ⌜ 64 ≤ length (now buffer) ⌝ }
-    requires { ⌜ Known (columnsAt (setup .l) flags service ready due penalty distances times) (now demand) setup (now visits) (now lengths) pair ⌝ }
-    requires { ⌜ (pair .from < length (now lengths)) × (pair .to < length (now lengths)) × (pair .from ≢ pair .to) ⌝ }
+    requires { ⌜ Loaded (setup .l) (now demand) × (64 ≤ length (now buffer)) ⌝ }
+    requires { ⌜ TwoOf (setup .l) (now giver) (now receiver) ⌝ }
+    requires { ⌜ Known (columnsAt (setup .l) flags service ready due penalty distances times) (now demand) setup (now giver) (now receiver) pair
+        × (pair .load ≤ 63000000) ⌝ }
     ensures { λ r.
-        ⌜ BestOf (columnsAt (setup .l) (flags .entry) (service .entry) (ready .entry) (due .entry) (penalty .entry) (distances .entry) (times .entry))
-        (now (demand .entry)) setup (now (visits .entry)) (now (lengths .entry)) (pair .from) (pair .to) r ⌝ }
+        ⌜ r ≡ bestOffers (columnsAt (setup .l) (flags .entry) (service .entry) (ready .entry) (due .entry) (penalty .entry) (distances .entry) (times .entry))
+        (now (demand .entry)) setup (now (giver .entry)) (now (receiver .entry)) pair (range 0 (length (now (giver .entry)))) (nothing (bound setup)) ⌝ }
 {
-    let n = length_of(lengths, pair.from);
+    let limits = setup.limits;
+    let rest = limits.rest;
     let mut best = nothing_below(-setup.floor);
+    let mut head = at_depot(setup.depot);
     let mut position = 0;
-    while position < n {
+    while position < giver.len() {
+        head = reach(
+            setup.l,
+            flags,
+            service,
+            ready,
+            due,
+            penalty,
+            distances,
+            times,
+            rest,
+            setup.depot,
+            giver,
+            head,
+            position,
+        );
         best = offer_visit(
             setup,
             flags,
@@ -434,10 +490,11 @@ fn best_of_pair(
             distances,
             times,
             demand,
-            visits,
-            lengths,
+            giver,
+            receiver,
             buffer,
             pair,
+            head,
             position,
             best,
         );
@@ -446,8 +503,8 @@ fn best_of_pair(
     best
 }
 
-// The best move out of one list into another: none where they are one, where the giver is empty, or where one of them has no price.
-pub fn best_between(
+// The best move of two lists: none where one of them has no price.
+fn best_priced(
     setup: Setup,
     flags: &[u8],
     service: &[f64],
@@ -457,28 +514,19 @@ pub fn best_between(
     distances: &[f64],
     times: &[f64],
     demand: &[i32],
-    visits: &[u16],
-    lengths: &[u16],
+    giver: &[u16],
+    receiver: &[u16],
     buffer: &mut [u16],
     from: usize,
     to: usize,
 ) -> Choice
     requires { ⌜ Prepared setup (columnsAt (setup .l) flags service ready due penalty distances times) ⌝ }
-    requires { ⌜ Loaded (setup .l) (now demand) × Held (setup .l) (now visits) (now lengths) ⌝ }
-    requires { ⌜ 64 ≤ length (now buffer) ⌝ }
-    requires { ⌜ (from < length (now lengths)) × (to < length (now lengths)) ⌝ }
+    requires { ⌜ Loaded (setup .l) (now demand) × (64 ≤ length (now buffer)) ⌝ }
+    requires { ⌜ TwoOf (setup .l) (now giver) (now receiver) ⌝ }
     ensures { λ r.
-        ⌜ BestOf (columnsAt (setup .l) (flags .entry) (service .entry) (ready .entry) (due .entry) (penalty .entry) (distances .entry) (times .entry))
-        (now (demand .entry)) setup (now (visits .entry)) (now (lengths .entry)) from to r ⌝ }
+        ⌜ r ≡ bestPriced (columnsAt (setup .l) (flags .entry) (service .entry) (ready .entry) (due .entry) (penalty .entry) (distances .entry) (times .entry))
+        (now (demand .entry)) setup (now (giver .entry)) (now (receiver .entry)) from to ⌝ }
 {
-    if from == to {
-        return nothing_below(-setup.floor);
-    }
-    if length_of(lengths, from) == 0 {
-        return nothing_below(-setup.floor);
-    }
-    let giver = list_of(visits, lengths, from);
-    let receiver = list_of(visits, lengths, to);
     let old_from = price_of(
         setup,
         flags,
@@ -522,9 +570,60 @@ pub fn best_between(
         distances,
         times,
         demand,
-        visits,
-        lengths,
+        giver,
+        receiver,
         buffer,
         pair,
+    )
+}
+
+// The best move out of one list into another: none where they are one, or where the giver is empty.
+pub fn best_between(
+    setup: Setup,
+    flags: &[u8],
+    service: &[f64],
+    ready: &[f64],
+    due: &[f64],
+    penalty: &[f64],
+    distances: &[f64],
+    times: &[f64],
+    demand: &[i32],
+    visits: &[u16],
+    lengths: &[u16],
+    buffer: &mut [u16],
+    from: usize,
+    to: usize,
+) -> Choice
+    requires { ⌜ Prepared setup (columnsAt (setup .l) flags service ready due penalty distances times) ⌝ }
+    requires { ⌜ Loaded (setup .l) (now demand) × Held (setup .l) (now visits) (now lengths) ⌝ }
+    requires { ⌜ 64 ≤ length (now buffer) ⌝ }
+    requires { ⌜ (from < length (now lengths)) × (to < length (now lengths)) ⌝ }
+    ensures { λ r.
+        ⌜ BestOf (columnsAt (setup .l) (flags .entry) (service .entry) (ready .entry) (due .entry) (penalty .entry) (distances .entry) (times .entry))
+        (now (demand .entry)) setup (now (visits .entry)) (now (lengths .entry)) from to r ⌝ }
+{
+    if from == to {
+        return nothing_below(-setup.floor);
+    }
+    if length_of(lengths, from) == 0 {
+        return nothing_below(-setup.floor);
+    }
+    let giver = list_of(visits, lengths, from);
+    let receiver = list_of(visits, lengths, to);
+    best_priced(
+        setup,
+        flags,
+        service,
+        ready,
+        due,
+        penalty,
+        distances,
+        times,
+        demand,
+        giver,
+        receiver,
+        buffer,
+        from,
+        to,
     )
 }

@@ -5,7 +5,7 @@ use mir.Syntax.{w32}
 use mir.ValLaws.{toZ-ofZ}
 use Rattle.numbers.specs.Floor.{gainFloor}
 use Rattle.descent.specs.Engines.{run-of}
-use Rattle.exchange.specs.Exchange.{searchOf, judgeOf, nextOf}
+use Rattle.exchange.specs.Exchange.{passesOf, judgeOf}
 use Rattle.exchange.proofs.Tables.{edited-length}
 use Rattle.exchange.proofs.exchange_improve.Statement.{statement}
 use Rattle.exchange.proofs.exchange_improve.Tie as tie
@@ -51,7 +51,7 @@ same-length-2 c =
     at-run-moves .run-moves .ensures .0 .number
 
 returns : tie.Need-returns
-unfolding run-of nextOf searchOf judgeOf
+unfolding run-of passesOf judgeOf
 returns c =
     let at-run-moves = c .before .before .before .before in
     let at-boxes-in = at-run-moves .before .before .before in

@@ -38,9 +38,9 @@ returns c =
     let at-if1 = at-best-at .before in
     let at-loop = at-if1 .before .before in
     let start = at-loop .before .before .before .before .before .before .before .before .before .before in (
-      found-here _ _ (start .args .terms) _ _ (length-lists _ _) _ _ _ (at-loop .loop .inv .1 .ordered) (at-if1 .if1 .taken) (at-best-at .best-at .ensures)
+      found-here _ _ _ _ (length-lists _ _) _ _ _ (at-loop .loop .inv .1 .ordered) (at-if1 .if1 .taken) (at-best-at .best-at .ensures)
           (c .if2 .taken) ∙ at-loop .loop .inv .2,
-      apt _ _ (start .args .terms) _ _ _ _ _ _ (start .pre .1 .0) (at-loop .loop .inv .1 .ordered) (at-if1 .if1 .taken) (at-best-at .best-at .ensures),
+      apt _ _ _ _ _ _ _ _ (start .pre .1 .0) (at-loop .loop .inv .1 .ordered) (at-if1 .if1 .taken) (at-best-at .best-at .ensures),
     )
 
 place-after-requires : tie.Need-place-after-requires Inv-loop μ-loop
@@ -64,7 +64,7 @@ loop-again c =
     rw (c .place-after .ensures) (
       refl,
       still-in _ _ (at-loop .loop .inv .1 .ordered) (at-if1 .if1 .taken),
-      not-here _ _ (start .args .terms) _ _ (length-lists _ _) _ _ _ (at-loop .loop .inv .1 .ordered) (at-if1 .if1 .taken) (at-best-at .best-at .ensures)
+      not-here _ _ _ _ (length-lists _ _) _ _ _ (at-loop .loop .inv .1 .ordered) (at-if1 .if1 .taken) (at-best-at .best-at .ensures)
           (omega (arith, c .before .if2 .left))
           ∙ at-loop .loop .inv .2,
     )
@@ -73,7 +73,7 @@ returns-2 : tie.Need-returns-2 Inv-loop μ-loop
 returns-2 c =
     let at-loop = c .before .before in
     let start = at-loop .before .before .before .before .before .before .before .before .before .before in
-    (none-left _ _ (start .args .terms) _ _ (length-lists _ _) _ (at-loop .loop .inv .1) (c .if1 .left) ∙ at-loop .loop .inv .2, λ h. absurd (h refl))
+    (none-left _ _ _ _ (length-lists _ _) _ (at-loop .loop .inv .1) (c .if1 .left) ∙ at-loop .loop .inv .2, λ h. absurd (h refl))
 
 pub first-move-spec : {M : Type 1} → statement M
 first-move-spec =

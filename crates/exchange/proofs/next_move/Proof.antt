@@ -15,7 +15,7 @@ returns : tie.Need-returns
 returns c =
     let at-first-move = c .before .before in
     let start = at-first-move .before .before .before .before .before .before .before .before .before .before in (
-      is-ahead _ _ (start .args .terms) _ _ (length-lists _ _) _ _ (at-first-move .first-move .ensures .0) (c .if1 .taken),
+      is-ahead _ _ _ _ (length-lists _ _) _ _ (at-first-move .first-move .ensures .0) (c .if1 .taken),
       at-first-move .first-move .ensures .1,
     )
 
@@ -28,7 +28,7 @@ returns-2 : tie.Need-returns-2
 returns-2 c =
     let at-first-move = c .before .before .before in
     let start = at-first-move .before .before .before .before .before .before .before .before .before .before in (
-      is-anew _ _ (start .args .terms) _ _ (length-lists _ _) _ _ _ (at-first-move .first-move .ensures .0) (omega (arith, c .before .if1 .left))
+      is-anew _ _ _ _ (length-lists _ _) _ _ _ (at-first-move .first-move .ensures .0) (omega (arith, c .before .if1 .left))
           (c .first-move2 .ensures .0),
       c .first-move2 .ensures .1,
     )

@@ -123,7 +123,7 @@ loop-again c =
     let cuts = at-next-move .next-move .ensures .1 (at-if1 .if1 .left) in
     let edited = at-exchange-tails .exchange-tails .ensures in (
       rw (c .place-after .ensures, at-loop .loop .inv .4)
-          (moved-on _ _ (start .args .terms) _ _ _ _ _ _ _ _ _ (at-loop .loop .inv .0) (at-if2 .if2 .left) (at-next-move .next-move .ensures .0)
+          (moved-on _ _ _ _ _ _ _ _ _ _ _ (at-loop .loop .inv .0) (at-if2 .if2 .left) (at-next-move .next-move .ensures .0)
           (at-if1 .if1 .left) edited),
       subst (Edited _ _ _ _) (sym (edited .holds)) (edited-on _ _ _ _ _ _ _ _ (at-loop .loop .inv .1) edited),
       still-held _ _ _ _ _ _ edited (at-loop .loop .inv .2),

@@ -6,7 +6,7 @@ use mir.ValLaws.{toZ-ofZ}
 use Rattle.numbers.specs.Floor.{gainFloor}
 use Rattle.exchange.proofs.Tables.{edited-length}
 use Rattle.soft_exchange.specs.SoftExchange.{soft-exchange-run}
-use Rattle.soft_exchange.specs.Parts.{searchOf, judgeOf, nextOf}
+use Rattle.soft_tails.specs.Parts.{passesOf, judgeOf}
 use Rattle.soft_exchange.proofs.improve.Statement.{statement}
 use Rattle.soft_exchange.proofs.improve.Tie as tie
 
@@ -37,7 +37,7 @@ same-length-2 c =
     at-run-moves .run-moves .ensures .0 .number
 
 returns : tie.Need-returns
-unfolding soft-exchange-run nextOf searchOf judgeOf
+unfolding soft-exchange-run passesOf judgeOf
 returns c =
     let at-run-moves = c .before .before .before .before in
     let at-boxes-in = at-run-moves .before .before .before in

@@ -12,12 +12,11 @@ use Rattle.descent.specs.Search.{Sweep}
 use Rattle.descent.specs.Across.{Pair}
 use Rattle.loads.specs.Loads.{Held}
 use Rattle.exchange.specs.Exchange.{from, InSweep}
-use Rattle.soft_exchange.specs.Parts.{nextOf}
+use Rattle.soft_tails.specs.Parts.{nextOf}
 use Rattle.exchange.proofs.Places.{still-in, none-ahead, nothing-ahead}
 use Rattle.loads.proofs.Tables.{still-held}
 use Rattle.exchange.proofs.Tables.{edited-none, edited-length}
-use Rattle.exchange.proofs.Moves.{leads-none, leads-some}
-use Rattle.soft_exchange.proofs.Moves.{moved-on}
+use Rattle.exchange.proofs.Moves.{moved-on, leads-none, leads-some}
 use Rattle.lists.proofs.Tables.{length-lists}
 use Rattle.exchange.proofs.Running.{Going, going-starts, going-settles, going-stops}
 use Rattle.soft_exchange.proofs.run_moves.Statement.{statement}
@@ -125,7 +124,7 @@ loop-again c =
     let cuts = at-next-move .next-move .ensures .1 (at-if1 .if1 .left) in
     let edited = at-exchange-tails .exchange-tails .ensures in (
       rw (c .place-after .ensures, at-loop .loop .inv .4)
-          (moved-on _ _ (start .args .terms) _ _ _ _ _ _ _ _ _ (at-loop .loop .inv .0) (at-if2 .if2 .left) (at-next-move .next-move .ensures .0)
+          (moved-on _ _ _ _ _ _ _ _ _ _ _ (at-loop .loop .inv .0) (at-if2 .if2 .left) (at-next-move .next-move .ensures .0)
           (at-if1 .if1 .left) edited),
       subst (Edited _ _ _ _) (sym (edited .holds)) (edited-on _ _ _ _ _ _ _ _ (at-loop .loop .inv .1) edited),
       still-held _ _ _ _ _ _ edited (at-loop .loop .inv .2),

@@ -1,0 +1,128 @@
+-- One exchange more: each test that the code makes, in its order, is a part of the definition's one test. And a pair of which one list has no price has no
+-- exchange, since each asks for both prices. Assumes nothing.
+use mathlib.Core.Path.{_≡_, refl, sym, ap, _∙_}
+use mathlib.Core.Bool.{Bool, true, false, _&&_, true≢false}
+use mathlib.Core.List.{List, [], _∷_}
+use Prim.Native.Nat.{ℕ, suc, _≤_, _<_}
+use borrow.Author.Tests.{le-leb, lt-leb}
+use lib.Dec.{leb}
+use lib.IntN.{ℤ}
+use lib.ListN.{length}
+use lib.Ieee.{Float, lt}
+use lib.Ieee.Scale.{finite}
+use Rattle.numbers.specs.Operations.{_⊕_, _⊖_}
+use Rattle.tests.specs.Pick.{picked, other}
+use Rattle.evaluation.specs.Columns.{Columns}
+use Rattle.edits.specs.Total.{total}
+use Rattle.lists.specs.Edits.{joined}
+use Rattle.descent.specs.Order.{range}
+use Rattle.descent.specs.Permitted.{room}
+use Rattle.descent.proofs.Members.{and-both}
+use Rattle.loads.specs.Loads.{boxesOf}
+use Rattle.tails.specs.Best.{scan, nothing, betterBy, rowBy, bestBy}
+use Rattle.tails.specs.declared.Choice.{Choice}
+use Rattle.soft_tails.specs.Tails.{priced, change}
+use Rattle.soft_tails.specs.Parts.{costIn, measuresFor, Priced, changeOf, better, bestRow, bestOf}
+use Rattle.soft_tails.specs.declared.Terms.{Terms}
+use Rattle.soft_tails.specs.declared.Figures.{Figures}
+
+left-out : (a b : Bool) → a ≡ false → (a && b) ≡ false
+left-out false b e = refl
+left-out true b e = absurd (true≢false e)
+
+right-out : (a b : Bool) → b ≡ false → (a && b) ≡ false
+right-out false b e = refl
+right-out true b e = e
+
+-- a loop that changes nothing
+scan-same : {A B : Type 0} (f : A → B → B) → ((x : A) (b : B) → f x b ≡ b) → (xs : List A) (b : B) → scan f xs b ≡ b
+unfolding scan
+scan-same f same [] b = refl
+scan-same f same (x ∷ xs) b = ap (scan f xs) (same x b) ∙ scan-same f same xs b
+
+-- what the code computes is the definition's change
+pub same-change : (c : Columns) (t : Terms) (X Y newX newY : List ℕ) (f : Figures) → Priced c t X Y f → (x new1 new2 : Float) → new1 ≡ costIn c t newX
+    → new2 ≡ costIn c t newY → x ≡ new1 ⊕ new2 ⊖ f .cost1 ⊖ f .cost2 → x ≡ change (costIn c t) X Y newX newY
+same-change c t X Y newX newY f costs x new1 new2 e1 e2 e = rw (e, e1, e2, costs .first-cost, costs .second-cost)
+
+-- both lists have a price
+pub prices-known : (c : Columns) (t : Terms) (X Y : List ℕ) (cost1 cost2 : Float) (a b : Bool) → cost1 ≡ costIn c t X → cost2 ≡ costIn c t Y
+    → a ≡ finite cost1 → b ≡ finite cost2 → a ≡ true → b ≡ true → priced (costIn c t) X Y ≡ true
+prices-known c t X Y cost1 cost2 a b e1 e2 f1 f2 h1 h2 =
+    let one : finite (costIn c t X) ≡ true = ap finite (sym e1) ∙ sym f1 ∙ h1 in
+    let two : finite (costIn c t Y) ≡ true = ap finite (sym e2) ∙ sym f2 ∙ h2 in
+    and-both (finite (costIn c t X)) (finite (costIn c t Y)) one two
+
+module _ (c : Columns) (demand : List ℤ) (t : Terms) where
+  -- a load over the capacity, and one within it
+  over : (xs : List ℕ) (load : ℕ) → load ≡ total (boxesOf demand) xs → t .capacity < load → room (measuresFor demand t) xs ≡ false
+  over xs load e h = left-out (leb (total (boxesOf demand) xs) (t .capacity)) true (lt-leb (total (boxesOf demand) xs) (t .capacity) (rw e at h))
+
+  within : (xs : List ℕ) (load : ℕ) → load ≡ total (boxesOf demand) xs → load ≤ t .capacity → room (measuresFor demand t) xs ≡ true
+  within xs load e h = and-both (leb (total (boxesOf demand) xs) (t .capacity)) true (le-leb (total (boxesOf demand) xs) (t .capacity) (rw e at h)) refl
+
+  module _ (X Y : List ℕ) (cut1 cut2 : ℕ) (best : Choice) where
+    abbrev newX : List ℕ
+    newX = joined X cut1 Y cut2
+
+    abbrev newY : List ℕ
+    newY = joined Y cut2 X cut1
+
+    abbrev delta : Float
+    delta = change (costIn c t) X Y newX newY
+
+    abbrev rooms : Bool
+    rooms = room (measuresFor demand t) newX && room (measuresFor demand t) newY
+
+    pub stays-first-load : (load : ℕ) → load ≡ total (boxesOf demand) newX → t .capacity < load → best ≡ better c demand t X Y cut1 cut2 best
+    unfolding betterBy
+    stays-first-load load e h =
+        let out = left-out (room (measuresFor demand t) newX) (room (measuresFor demand t) newY) (over newX load e h) in
+        other _ _ _ _ (right-out (lt delta (best .delta)) _ (left-out rooms (priced (costIn c t) X Y) out)) refl
+
+    pub stays-second-load : (load : ℕ) → load ≡ total (boxesOf demand) newY → t .capacity < load → best ≡ better c demand t X Y cut1 cut2 best
+    unfolding betterBy
+    stays-second-load load e h =
+        let out = right-out (room (measuresFor demand t) newX) (room (measuresFor demand t) newY) (over newY load e h) in
+        other _ _ _ _ (right-out (lt delta (best .delta)) _ (left-out rooms (priced (costIn c t) X Y) out)) refl
+
+    stays-unpriced : priced (costIn c t) X Y ≡ false → better c demand t X Y cut1 cut2 best ≡ best
+    unfolding betterBy
+    stays-unpriced e = sym (other _ _ _ _ (right-out (lt delta (best .delta)) _ (right-out rooms (priced (costIn c t) X Y) e)) refl)
+
+    module _ (x : Float) (is-delta : x ≡ changeOf c t X Y cut1 cut2) where
+      pub stays-delta : lt x (best .delta) ≡ false → best ≡ better c demand t X Y cut1 cut2 best
+      unfolding betterBy
+      stays-delta h =
+          let out : lt delta (best .delta) ≡ false = rw is-delta at h in
+          other _ _ _ _ (left-out (lt delta (best .delta)) (rooms && priced (costIn c t) X Y) out) refl
+
+      pub taken-up : priced (costIn c t) X Y ≡ true → (load1 load2 : ℕ) → load1 ≡ total (boxesOf demand) newX → load1 ≤ t .capacity
+          → load2 ≡ total (boxesOf demand) newY → load2 ≤ t .capacity → lt x (best .delta) ≡ true
+          → record { cut1 = cut1; cut2 = cut2; delta = x } ≡ better c demand t X Y cut1 cut2 best
+      unfolding betterBy
+      taken-up both-priced load1 load2 d1 h1 d2 h2 h =
+          let under : lt delta (best .delta) ≡ true = rw is-delta at h in
+          let both = and-both (room (measuresFor demand t) newX) (room (measuresFor demand t) newY) (within newX load1 d1 h1) (within newY load2 d2 h2) in
+          let pass = and-both rooms (priced (costIn c t) X Y) both both-priced in
+          picked _ _ _ _ (and-both (lt delta (best .delta)) (rooms && priced (costIn c t) X Y) under pass)
+          (ap (λ (x : Float). record { cut1 = cut1; cut2 = cut2; delta = x }) is-delta)
+
+  module _ (X Y : List ℕ) where
+    -- a pair of which one list has no price
+    nothing-there : priced (costIn c t) X Y ≡ false → nothing (t .floor) ≡ bestOf c demand t X Y
+    unfolding bestBy rowBy
+    nothing-there e =
+        let row : (cut1 : ℕ) (best : Choice) → bestRow c demand t X Y cut1 best ≡ best =
+        λ cut1 best. scan-same (better c demand t X Y cut1) (λ cut2 so-far. stays-unpriced X Y cut1 cut2 so-far e) (range 1 (suc (length Y))) best in
+        sym (scan-same (bestRow c demand t X Y) row (range 1 (suc (length X))) (nothing (t .floor)))
+
+    pub first-unpriced : (cost1 : Float) (b : Bool) → cost1 ≡ costIn c t X → b ≡ finite cost1 → b ≡ false → nothing (t .floor) ≡ bestOf c demand t X Y
+    first-unpriced cost1 b e f h =
+        let out : finite (costIn c t X) ≡ false = ap finite (sym e) ∙ sym f ∙ h in
+        nothing-there (left-out (finite (costIn c t X)) (finite (costIn c t Y)) out)
+
+    pub second-unpriced : (cost2 : Float) (b : Bool) → cost2 ≡ costIn c t Y → b ≡ finite cost2 → b ≡ false → nothing (t .floor) ≡ bestOf c demand t X Y
+    second-unpriced cost2 b e f h =
+        let out : finite (costIn c t Y) ≡ false = ap finite (sym e) ∙ sym f ∙ h in
+        nothing-there (right-out (finite (costIn c t X)) (finite (costIn c t Y)) out)

@@ -1,0 +1,103 @@
+-- Soft tail exchange as its functions state it: what stays the same over a run, what is known of a pair, the best exchange so far, and the next move.
+-- For src/; the engine's own definition is in Tails.antt, and places and moves are those of `exchange`. Assumes nothing.
+use mathlib.Core.Path.{_≡_}
+use mathlib.Core.Bool.{Bool, _&&_}
+use mathlib.Core.Option.{Option}
+use mathlib.Core.List.{List, [], _∷_}
+use Prim.Native.Nat.{ℕ, _<_}
+use lib.IntN.{ℤ}
+use lib.ListN.{length}
+use lib.Ieee.{Float}
+use Rattle.evaluation.specs.Columns.{Columns, Formed}
+use Rattle.evaluation.specs.Route.{effectiveCost}
+use Rattle.edits.specs.Total.{total}
+use Rattle.lists.specs.Edits.{joined}
+use Rattle.descent.specs.Permitted.{Measure, room}
+use Rattle.descent.specs.Search.{Search, Judge, Sweep, taken, firstMove, next}
+use Rattle.descent.specs.Across.{Pair, Tails}
+use Rattle.loads.specs.Loads.{boxesOf, Loaded}
+use Rattle.heads.specs.Head.{Driven}
+use Rattle.heads.specs.declared.Head.{Head}
+use Rattle.tails.specs.Best.{exchanging, betterBy, rowBy, bestBy}
+use Rattle.tails.specs.declared.Choice.{Choice}
+use Rattle.soft_tails.specs.Tails.{priced, change, soft-exchange-search, soft-exchange-judge}
+use Rattle.soft_tails.specs.declared.Terms.{Terms}
+use Rattle.soft_tails.specs.declared.Figures.{Figures}
+
+-- what a list costs
+abbrev pub costIn : Columns → Terms → List ℕ → Float
+costIn c t = effectiveCost c (t .limits) (t .depot)
+
+-- the boxes against what the van holds
+abbrev pub measuresFor : List ℤ → Terms → List Measure
+measuresFor demand t = record { demand = boxesOf demand; capacity = t .capacity } ∷ []
+
+-- which exchanges pass on a day, with a van's terms
+unfoldable pub passesOf : Columns → List ℤ → Terms → List (List ℕ) → Tails → Bool
+passesOf c demand t = soft-exchange-search (measuresFor demand t) (costIn c t) .passes
+
+-- the engine's search
+abbrev pub searchOf : Columns → List ℤ → Terms → Search (List (List ℕ)) Pair Tails
+searchOf c demand t = exchanging (passesOf c demand t)
+
+-- and how it judges a candidate
+unfoldable pub judgeOf : Columns → Terms → Judge (List (List ℕ)) Tails Float
+judgeOf c t = soft-exchange-judge (costIn c t) (t .floor)
+
+-- what a run's functions ask of what stays the same
+pub record Asked (c : Columns) (demand : List ℤ) (t : Terms) : Type 0 where
+  pub formed : Formed c
+  pub loaded : Loaded (c .l) demand
+  pub depot-there : t .depot < c .l
+
+-- a head of a list, driven by the van with these terms
+abbrev pub DrivenBy : Columns → Terms → List ℕ → Head → Type 0
+DrivenBy c t = Driven c (t .limits .rest) (t .depot)
+
+-- the costs of two lists as they are
+pub record Priced (c : Columns) (t : Terms) (X Y : List ℕ) (f : Figures) : Type 0 where
+  pub first-cost : f .cost1 ≡ costIn c t X
+  pub second-cost : f .cost2 ≡ costIn c t Y
+
+-- and their loads
+pub record Figured (c : Columns) (demand : List ℤ) (t : Terms) (X Y : List ℕ) (f : Figures) : Type 0 where
+  pub first-load : f .load1 ≡ total (boxesOf demand) X
+  pub second-load : f .load2 ≡ total (boxesOf demand) Y
+  pub costs : Priced c t X Y f
+
+-- ---- the best exchange of two lists
+
+module _ (c : Columns) (t : Terms) (X Y : List ℕ) where
+  -- what an exchange changes
+  abbrev pub changeOf : ℕ → ℕ → Float
+  changeOf cut1 cut2 = change (costIn c t) X Y (joined X cut1 Y cut2) (joined Y cut2 X cut1)
+
+  module _ (demand : List ℤ) where
+    -- whether both new lists have room; both lists have a price
+    abbrev pub passBy : ℕ → ℕ → Bool
+    passBy cut1 cut2 = (room (measuresFor demand t) (joined X cut1 Y cut2) && room (measuresFor demand t) (joined Y cut2 X cut1)) && priced (costIn c t) X Y
+
+-- the best so far as in `exchange`
+module _ (c : Columns) (demand : List ℤ) (t : Terms) (X Y : List ℕ) where
+  abbrev pub better : ℕ → ℕ → Choice → Choice
+  better = betterBy (changeOf c t X Y) (passBy c t X Y demand)
+
+  abbrev pub bestRow : ℕ → Choice → Choice
+  bestRow = rowBy (changeOf c t X Y) (passBy c t X Y demand) (length Y)
+
+  abbrev pub bestOf : Choice
+  bestOf = bestBy (changeOf c t X Y) (passBy c t X Y demand) (length X) (length Y) (t .floor)
+
+-- the exchange to take at a pair
+abbrev pub takenAt : Columns → List ℤ → Terms → List (List ℕ) → Pair → Option Tails
+takenAt c demand t = taken (searchOf c demand t) (judgeOf c t)
+
+-- ---- moves
+
+-- the first move at some pairs
+abbrev pub firstAt : Columns → List ℤ → Terms → List (List ℕ) → List Pair → Option (Sweep (List (List ℕ)) Pair)
+firstAt c demand t = firstMove (searchOf c demand t) (judgeOf c t)
+
+-- the next move of a run
+abbrev pub nextOf : Columns → List ℤ → Terms → Sweep (List (List ℕ)) Pair → Option (Sweep (List (List ℕ)) Pair)
+nextOf c demand t = next (searchOf c demand t) (judgeOf c t)
