@@ -4,6 +4,7 @@ use mathlib.Core.Bool.{Bool, true, false}
 use mathlib.Core.List.{List, _++_, reverse, append-assoc, append-nil}
 use Prim.Native.Nat.{ℕ, _+_, _-_, _≤_, _<_}
 use native.Mathlib.Omega.{arith}
+use native.Mathlib.Numerals.{add-one}
 use borrow.Author.Tests.{lt-ltb, ltb-true}
 use native.Mathlib.Nat.{sub-zero}
 use lib.Dec.{ltb}
@@ -13,9 +14,10 @@ use Rattle.edits.specs.Total.{total, sums, SameVisits}
 use Rattle.edits.specs.Edits.{reversed, Appended}
 use Rattle.edits.proofs.Cuts.{cut4, to-end}
 use Rattle.edits.proofs.Kept.{same-length, same-each}
-use Rattle.edits.proofs.Chain.{appended-on, getD-reverse}
+use Rattle.edits.proofs.Chain.{appended-on, appended-whole, getD-reverse}
 use Rattle.evaluation.specs.Columns.{Visits}
-use Rattle.descent.specs.Permitted.{turn, in-order, arranged}
+use Rattle.descent.specs.Permitted.{Arrangement, turn, in-order, arranged}
+use Rattle.descent.specs.Within.{reconnect}
 use Rattle.descent.proofs.Kept.{total-arranged}
 use Rattle.layouts.specs.Layout.{layout, laid, Cut-in}
 use Rattle.layouts.specs.declared.Layout.{Layout}
@@ -98,6 +100,13 @@ module _ (from : ℕ) (list : List ℕ) (p : Layout) (w : Cut-in (length list) p
 pub front-laid : (list buffer : List ℕ) (p : Layout) → take (length list - 0) buffer ≡ drop 0 (laid list p)
     → take (length list - 0) (drop 0 buffer) ≡ laid list p
 front-laid list buffer p e = e
+
+-- the buffer's first visits overwrite the list
+pub overwritten : (list buffer : List ℕ) (p : Layout) {end : ℕ} {after : List ℕ} → Cut-in (length list) p
+    → take (length list - 0) buffer ≡ laid list p → Appended 0 (take (length list - 0) (drop 0 buffer)) list end after → after ≡ laid list p
+overwritten list buffer p w e new =
+    let long : length (take (length list - 0) buffer) ≡ length list = ap length e ∙ laid-length (length list) list p w in
+    appended-whole new long ∙ e
 
 -- ---- a list laid out, position by position
 
@@ -238,3 +247,13 @@ reversal-is list first end = rw (slice-empty end list, append-nil (reverse (slic
 -- as the code has it
 pub reversal-laid : (list : List ℕ) (first end : ℕ) (p : Layout) → p ≡ layout first end end (false, true, false) → laid list p ≡ reversed first end list
 reversal-laid list first end p e = ap (laid list) e ∙ reversal-is list first end
+
+-- ---- a reconnection
+
+pub reconnection-cut : (n i j k : ℕ) (way : Arrangement) → i < j → j < k → k < n → Cut-in n (layout (i + 1) (j + 1) (k + 1) way)
+reconnection-cut n i j k way h g l = record { b-c = omega arith; c-d = omega arith; d-n = omega arith }
+
+pub reconnection-is : (list : List ℕ) (i j k : ℕ) (way : Arrangement)
+    → laid list (layout (i + 1) (j + 1) (k + 1) way) ≡ reconnect list (record { cut = record { i = i; j = j; k = k }; way = way })
+unfolding laid
+reconnection-is list i j k way = rw (add-one i, add-one j, add-one k)

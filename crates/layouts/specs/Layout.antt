@@ -1,8 +1,8 @@
 -- A list laid out: the two pieces between its cuts take an arrangement. For the engines within a list, and their contracts. Assumes nothing.
 use Prim.Native.Nat.{ℕ, _≤_}
-use mathlib.Core.Bool.{Bool}
-use mathlib.Core.List.{List, _++_}
-use lib.ListN.{take, drop}
+use mathlib.Core.Bool.{Bool, false}
+use mathlib.Core.List.{List, _∷_, _++_}
+use lib.ListN.{take, drop, getD}
 use lib.Seq.{slice}
 use Rattle.day.specs.declared.vehicle.RouteLimits.{RouteLimits}
 use Rattle.evaluation.specs.Columns.{Columns}
@@ -10,8 +10,17 @@ use Rattle.evaluation.specs.Walk.{walk}
 use Rattle.evaluation.specs.Route.{tick, home, allowed}
 use Rattle.heads.specs.Head.{tourAt}
 use Rattle.heads.specs.declared.Head.{Head}
-use Rattle.descent.specs.Permitted.{Arrangement, arranged}
+use Rattle.descent.specs.Permitted.{Arrangement, seven, arranged}
+use Rattle.layouts.specs.declared.Way.{Way}
 use Rattle.layouts.specs.declared.Layout.{Layout}
+
+-- the Rust's patterns 1 to 7; 0 leaves the list as it is
+unfoldable pub wayOf : ℕ → Arrangement
+wayOf pattern = getD ((false, false, false) ∷ seven) pattern (false, false, false)
+
+-- an arrangement as the code has it
+abbrev pub arrangement : Way → Arrangement
+arrangement way = (way .exchanged, way .«b_turned», way .«c_turned»)
 
 -- a layout by its cuts and its arrangement
 abbrev pub layout : ℕ → ℕ → ℕ → Arrangement → Layout

@@ -5,6 +5,7 @@ use day::matrix::travel_time;
 use day::vehicle::Rest;
 use day::vehicle::RouteLimits;
 use deltas::visit_at;
+use edits::append;
 use edits::append_stretch;
 use edits::append_stretch_reversed;
 use evaluation::label::Reached;
@@ -24,7 +25,14 @@ ghost use Rattle.evaluation.specs.Route.{feasible};
 ghost use Rattle.heads.specs.Head.{Driven};
 ghost use Rattle.descent.specs.Permitted.{turn};
 ghost use Rattle.engine.specs.Engine.{passing};
-ghost use Rattle.layouts.specs.Layout.{layout, laid, Cut-in, passesFrom};
+ghost use Rattle.layouts.specs.Layout.{arrangement, wayOf, layout, laid, Cut-in, passesFrom};
+
+// How two pieces are arranged.
+pub struct Way {
+    pub exchanged: bool,
+    pub b_turned: bool,
+    pub c_turned: bool,
+}
 
 // Where the pieces B, C and D begin, and how B and C are arranged.
 pub struct Layout {
@@ -34,6 +42,71 @@ pub struct Layout {
     pub exchanged: bool,
     pub b_turned: bool,
     pub c_turned: bool,
+}
+
+// The Rust's patterns of 3-opt by their numbers, 1 to 7; 0 leaves the list as it is.
+pub fn way_of(pattern: usize) -> Way
+    requires { ⌜ pattern < 8 ⌝ }
+    ensures { λ r. ⌜ arrangement r ≡ wayOf pattern ⌝ }
+{
+    match pattern {
+        0 => Way {
+            exchanged: false,
+            b_turned: false,
+            c_turned: false,
+        },
+        1 => Way {
+            exchanged: false,
+            b_turned: false,
+            c_turned: true,
+        },
+        2 => Way {
+            exchanged: false,
+            b_turned: true,
+            c_turned: false,
+        },
+        3 => Way {
+            exchanged: false,
+            b_turned: true,
+            c_turned: true,
+        },
+        4 => Way {
+            exchanged: true,
+            b_turned: false,
+            c_turned: false,
+        },
+        5 => Way {
+            exchanged: true,
+            b_turned: true,
+            c_turned: false,
+        },
+        6 => Way {
+            exchanged: true,
+            b_turned: false,
+            c_turned: true,
+        },
+        _ => Way {
+            exchanged: true,
+            b_turned: true,
+            c_turned: true,
+        },
+    }
+}
+
+// The list cut behind its visits i, j and k, and reconnected as a pattern has it.
+pub fn reconnection(i: usize, j: usize, k: usize, pattern: usize) -> Layout
+    requires { ⌜ (i < 64) × (j < 64) × (k < 64) × (pattern < 8) ⌝ }
+    ensures { λ r. ⌜ r ≡ layout (i + 1) (j + 1) (k + 1) (wayOf pattern) ⌝ }
+{
+    let way = way_of(pattern);
+    Layout {
+        b: i + 1,
+        c: j + 1,
+        d: k + 1,
+        exchanged: way.exchanged,
+        b_turned: way.b_turned,
+        c_turned: way.c_turned,
+    }
 }
 
 // The visits from `first` up to, not including, `end` turned round: C is empty.
@@ -88,6 +161,16 @@ pub fn lay_out(buffer: &mut [u16], list: &[u16], p: Layout, from: usize)
     let b_end = append_piece(buffer, a_end, list, p.b, p.c, p.b_turned);
     let c_end = append_piece(buffer, b_end, list, p.c, p.d, p.c_turned);
     append_stretch(buffer, c_end, list, p.d, list.len());
+}
+
+// Makes the list as it is laid out: it is built in the buffer and copied back.
+pub fn rearrange(list: &mut [u16], buffer: &mut [u16], p: Layout)
+    requires { ⌜ Cut-in (length (now list)) p × (length (now list) ≤ length (now buffer)) ⌝ }
+    ensures { λ _. ⌜ now (list .exit) ≡ laid (now (list .entry)) p ⌝ }
+{
+    let n = list.len();
+    lay_out(buffer, list, p, 0);
+    append(list, 0, &buffer[0..n]);
 }
 
 // ---- driven as it is read

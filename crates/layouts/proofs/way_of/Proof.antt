@@ -3,9 +3,9 @@ use mathlib.Core.Path.{_≡_}
 use Prim.Native.Nat.{ℕ, suc, _≤_}
 use native.Mathlib.Nat.{le-antisymm, le-of-suc-le-suc}
 use native.Mathlib.Omega.{arith}
-use Rattle.three_opt.specs.ThreeOpt.{wayOf}
-use Rattle.three_opt.proofs.way_of.Statement.{statement}
-use Rattle.three_opt.proofs.way_of.Tie as tie
+use Rattle.layouts.specs.Layout.{wayOf}
+use Rattle.layouts.proofs.way_of.Statement.{statement}
+use Rattle.layouts.proofs.way_of.Tie as tie
 
 -- from n on, and not n
 past : (n p : ℕ) → n ≤ p → (p ≡ n → ⊥) → suc n ≤ p
