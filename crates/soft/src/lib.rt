@@ -1,8 +1,9 @@
 // local_search/soft.rs: the search within a list where a day has a soft window. A move that shortens a list can make its van late, and one that
 // lengthens it can save the lateness, so every neighbour is priced whole, and the one of least effective cost is taken (steepest descent).
 //
-// The Rust's closure over all neighbours is a loop over places here (neighbours.rt), each a layout of the list (layout.rt) laid out in one lent buffer. A neighbour keeps
-// the list's first visits: their head is driven once for all that share it. The best so far is kept by its numbers, and made again at the end of the pass.
+// The Rust's closure over all neighbours is a loop over places here (neighbours.rt), each a layout of the list (layout.rt) in one lent buffer. A
+// neighbour keeps the list's first visits: their head is driven once for all that share it. The best so far is kept by its numbers, and made again at
+// the end of the pass.
 pub mod layout;
 pub mod neighbours;
 

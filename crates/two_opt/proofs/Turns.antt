@@ -34,15 +34,12 @@ turned-is xs p = rw (add-one (p .last))
 pub turned-length : (xs : List ℕ) (p : Place) → p .first < p .last → length (turnedAt xs p) ≡ length xs
 turned-length xs p h = length-reversed (p .first) (p .last + 1) xs (omega arith)
 
-pub reversed-visits : (l first end : ℕ) (xs : List ℕ) → first ≤ end → Visits l xs → Visits l (reversed first end xs)
-reversed-visits l first end xs h v = record {
-  few = rw (length-reversed first end xs h) (v .few);
-  below = λ k there. ltb-true _ _ (same-each (λ visit. ltb visit l) xs (reversed first end xs) (same-reversed first end xs h)
+pub turned-visits : (l : ℕ) (xs : List ℕ) (p : Place) → p .first < p .last → Visits l xs → Visits l (turnedAt xs p)
+turned-visits l xs p h v = record {
+  few = rw (turned-length xs p h) (v .few);
+  below = λ k there. ltb-true _ _ (same-each (λ visit. ltb visit l) xs (turnedAt xs p) (same-reversed (p .first) (p .last + 1) xs (omega arith))
       (λ i below. lt-ltb _ _ (v .below i below)) k there);
 }
-
-pub turned-visits : (l : ℕ) (xs : List ℕ) (p : Place) → p .first < p .last → Visits l xs → Visits l (turnedAt xs p)
-turned-visits l xs p h v = reversed-visits l (p .first) (p .last + 1) xs (omega arith) v
 
 -- made twice, it leaves the list as it was
 pub turned-back : (xs ys zs : List ℕ) (p : Place) → p .first < p .last → p .last < length xs → ys ≡ turnedAt xs p → zs ≡ turnedAt ys p → zs ≡ xs

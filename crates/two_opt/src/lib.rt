@@ -5,12 +5,10 @@
 // the first of a new sweep. Each search equals the definition's `firstMove`, so that the chain equals its `run`.
 use day::matrix::is_symmetric;
 use day::matrix::scale;
-use day::vehicle::Rest;
 use day::vehicle::RouteLimits;
 use deltas::two_opt_delta;
 use edits::reverse;
 use engine::Ended;
-use engine::passes;
 use evaluation::route::route_checks_needed;
 use heads::Head;
 use heads::at_depot;
@@ -22,17 +20,16 @@ use numbers::gain_floor;
 ghost use mathlib.Core.Path.{_≡_};
 ghost use mathlib.Core.Bool.{true, cond};
 ghost use mathlib.Core.List.{[]};
-ghost use Prim.Native.Nat.{_<_, _≤_};
+ghost use Prim.Native.Nat.{_<_};
 ghost use lib.ListN.{length};
 ghost use Rattle.numbers.specs.Operations.{zero64};
 ghost use Rattle.day.specs.Refusal.{allPlain};
-ghost use Rattle.edits.specs.Edits.{reversed};
 ghost use Rattle.evaluation.specs.Columns.{columnsAt, Formed, Visits};
 ghost use Rattle.descent.specs.Permitted.{two-opt};
 ghost use Rattle.descent.specs.Search.{run};
 ghost use Rattle.descent.specs.Engines.{run-of};
 ghost use Rattle.deltas.specs.Judged.{float-judge};
-ghost use Rattle.engine.specs.Engine.{passing, checksOf, mapOf, endedAs};
+ghost use Rattle.engine.specs.Engine.{checksOf, mapOf, endedAs};
 ghost use Rattle.two_opt.specs.TwoOpt.{Worked, InSweep, Shared, Searched, placeAfter, from, gains, turnedAt, firstTurn, nextTurn};
 
 // The constants of a run: worked out once, before the first move.
@@ -74,53 +71,8 @@ fn place_after(n: usize, place: Place) -> Place
     }
 }
 
-// Reverses a run of visits where the result passes, and says whether it did. The list itself is what is checked, so a reversal that is refused is turned
-// back: the way where there is a break to take.
-fn reverse_if_passing(
-    terms: Terms,
-    flags: &[u8],
-    service: &[f64],
-    ready: &[f64],
-    due: &[f64],
-    penalty: &[f64],
-    distances: &[f64],
-    times: &[f64],
-    list: &mut [u16],
-    first: usize,
-    end: usize,
-) -> bool
-    requires { ⌜ Worked (columnsAt (terms .l) flags service ready due penalty distances times) terms × Visits (terms .l) (now list) ⌝ }
-    requires { ⌜ (first ≤ end) × (end ≤ length (now list)) ⌝ }
-    ensures { λ r.
-        ⌜ r ≡ passing (terms .needed)
-        (columnsAt (terms .l) (flags .entry) (service .entry) (ready .entry) (due .entry) (penalty .entry) (distances .entry) (times .entry))
-        (terms .limits) (terms .depot) (reversed first end (now (list .entry))) ⌝ }
-    ensures { λ r. ⌜ now (list .exit) ≡ cond r (reversed first end (now (list .entry))) (now (list .entry)) ⌝ }
-{
-    let limits = terms.limits;
-    reverse(list, first, end);
-    if passes(
-        terms.needed,
-        terms.l,
-        flags,
-        service,
-        ready,
-        due,
-        penalty,
-        distances,
-        times,
-        limits,
-        terms.depot,
-        list,
-    ) {
-        return true;
-    }
-    reverse(list, first, end); // refused, so turned back
-    false
-}
-
-// Reverses the visits of a place where that gains and the result passes, and says whether it did. With no break to take the result shares a head with the
-// list, and is driven from there on before it is made.
+// Reverses the visits of a place where that gains and the result passes, and says whether it did. The result shares a head with the list, and is driven
+// from there on before it is made.
 fn try_reversal(
     terms: Terms,
     flags: &[u8],
@@ -145,8 +97,6 @@ fn try_reversal(
 {
     let l = terms.l;
     let depot = terms.depot;
-    let limits = terms.limits;
-    let needed = terms.needed;
     let first = place.first;
     let last = place.last;
     let end = last + 1;
@@ -155,22 +105,8 @@ fn try_reversal(
     if !gains {
         return false;
     }
-    let rest = limits.rest;
-    if let Rest::Break(_) = rest {
-        return reverse_if_passing(
-            terms,
-            flags,
-            service,
-            ready,
-            due,
-            penalty,
-            distances,
-            times,
-            list,
-            first,
-            end,
-        );
-    }
+    let limits = terms.limits; // copied for the few that gain, not at each place
+    let needed = terms.needed;
     let turned = reversal(first, end);
     let passed = laid_passes(
         needed,

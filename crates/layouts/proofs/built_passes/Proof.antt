@@ -23,7 +23,9 @@ part-route-feasible-end c = search needs
 
 route-feasible-requires : tie.Need-route-feasible-requires
 route-feasible-requires c κs =
-    (c .before .before .before .before .before .before .before .before .before .before .before .before .before .pre .0, (c .before .before .before .before .before .before .before .before .before .before .before .before .before .pre .1 .0, rw (front-laid _ _ _ (c .before .before .before .lay-out .ensures)) (laid-visits _ _ _ _ (c .before .before .before .before .before .before .before .before .before .before .before .before .before .pre .1 .2) (c .before .before .before .before .before .before .before .before .before .before .before .before .before .pre .1 .1))))
+    let at-lay-out = c .before .before .before in
+    let start = at-lay-out .before .before .before .before .before .before .before .before .before .before in
+    (start .pre .0, (start .pre .1 .0, rw (front-laid _ _ _ (at-lay-out .lay-out .ensures)) (laid-visits _ _ _ _ (start .pre .1 .2) (start .pre .1 .1))))
 
 returns : tie.Need-returns
 returns c =

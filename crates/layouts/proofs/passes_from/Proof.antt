@@ -29,19 +29,40 @@ loop-holds : tie.Need-loop-holds Inv-loop μ-loop
 loop-holds c = (c .before .before .before .before .before .before .before .before .before .pre .1 .1 .1, refl)
 
 visit-laid-requires : tie.Need-visit-laid-requires Inv-loop μ-loop
-visit-laid-requires c κs = (c .before .before .before .before .before .before .before .before .before .before .before .pre .1 .1 .0, c .loop-test .taken)
+visit-laid-requires c κs =
+    let start = c .before .before .before .before .before .before .before .before .before .before .before in
+    (start .pre .1 .1 .0, c .loop-test .taken)
 
 get-requires : tie.Need-get-requires Inv-loop μ-loop
 get-requires c κs =
-    (c .before .before .before .before .before .before .before .before .before .before .before .before .pre .0 .tables .of-distances, c .before .before .loop .inv .0, rw (c .visit-laid .ensures) (laid-below _ (c .before .before .before .before .before .before .before .before .before .before .before .before .pre .1 .0 .1) (c .before .before .before .before .before .before .before .before .before .before .before .before .pre .1 .1 .0) (c .before .loop-test .taken)))
+    let at-loop-test = c .before in
+    let at-loop = at-loop-test .before in
+    let start = at-loop .before .before .before .before .before .before .before .before .before .before in (
+      start .pre .0 .tables .of-distances,
+      at-loop .loop .inv .0,
+      rw (c .visit-laid .ensures) (laid-below _ (start .pre .1 .0 .1) (start .pre .1 .1 .0)
+          (at-loop-test .loop-test .taken)),
+    )
 
 travel-time-requires : tie.Need-travel-time-requires Inv-loop μ-loop
 travel-time-requires c κs =
-    (c .before .before .before .before .before .before .before .before .before .before .before .before .before .pre .0 .tables, c .before .before .before .loop .inv .0, rw (c .before .visit-laid .ensures) (laid-below _ (c .before .before .before .before .before .before .before .before .before .before .before .before .before .pre .1 .0 .1) (c .before .before .before .before .before .before .before .before .before .before .before .before .before .pre .1 .1 .0) (c .before .before .loop-test .taken)))
+    let at-visit-laid = c .before in
+    let at-loop-test = at-visit-laid .before in
+    let at-loop = at-loop-test .before in
+    let start = at-loop .before .before .before .before .before .before .before .before .before .before in (
+      start .pre .0 .tables,
+      at-loop .loop .inv .0,
+      rw (at-visit-laid .visit-laid .ensures) (laid-below _ (start .pre .1 .0 .1) (start .pre .1 .1 .0)
+          (at-loop-test .loop-test .taken)),
+    )
 
 stop-of-requires : tie.Need-stop-of-requires Inv-loop μ-loop
 stop-of-requires c κs =
-    stop-in (c .before .before .before .before .before .before .before .before .before .before .before .before .before .before .pre .0) (rw (c .before .before .visit-laid .ensures) (laid-below _ (c .before .before .before .before .before .before .before .before .before .before .before .before .before .before .pre .1 .0 .1) (c .before .before .before .before .before .before .before .before .before .before .before .before .before .before .pre .1 .1 .0) (c .before .before .before .loop-test .taken)))
+    let at-visit-laid = c .before .before in
+    let at-loop-test = at-visit-laid .before in
+    let start = at-loop-test .before .before .before .before .before .before .before .before .before .before .before in
+    stop-in (start .pre .0) (rw (at-visit-laid .visit-laid .ensures) (laid-below _ (start .pre .1 .0 .1) (start .pre .1 .1 .0)
+    (at-loop-test .loop-test .taken)))
 
 serve-requires : tie.Need-serve-requires Inv-loop μ-loop
 serve-requires c κs = search needs
@@ -55,29 +76,56 @@ enum-told c = search needs
 returns : tie.Need-returns Inv-loop μ-loop
 unfolding passesFrom
 returns c =
-    misses _ (laid (c .before .before .before .before .before .before .before .before .before .before .before .before .before .before .before .before .before .before .args .list .now) (c .before .before .before .before .before .before .before .before .before .before .before .before .before .before .before .before .before .before .args .p)) _ _ (c .before .before .before .before .before .before .before .before .loop .distance) _ _ (c .before .before .before .before .before .before .visit-laid .ensures)
-    (laid-long (c .before .before .before .before .before .before .before .before .before .before .before .before .before .before .before .before .before .before .args .list .now) (c .before .before .before .before .before .before .before .before .before .before .before .before .before .before .before .before .before .before .pre .1 .1 .0) (c .before .before .before .before .before .before .before .loop-test .taken)) (c .before .before .before .before .before .before .before .before .before .before .before .before .before .before .before .before .before .before .args .limits) (c .before .before .before .before .before .before .before .before .before .before .before .before .before .before .before .before .before .before .args .depot)
-    (tick-is _ _ _ _ _ _ _ _ (c .before .before .before .before .travel-time .ensures) (c .before .before .before .stop-of .ensures) (c .before .before .serve .ensures) (c .enum-told .given .1)) (c .before .before .before .before .before .before .before .before .loop .inv .1)
+    let at-serve = c .before .before in
+    let at-stop-of = at-serve .before in
+    let at-travel-time = at-stop-of .before in
+    let at-visit-laid = at-travel-time .before .before in
+    let at-loop-test = at-visit-laid .before in
+    let at-loop = at-loop-test .before in
+    let start = at-loop .before .before .before .before .before .before .before .before .before .before in
+    misses _ (laid (start .args .list .now) (start .args .p)) _ _ (at-loop .loop .distance) _ _ (at-visit-laid .visit-laid .ensures)
+    (laid-long (start .args .list .now) (start .pre .1 .1 .0) (at-loop-test .loop-test .taken)) (start .args .limits) (start .args .depot)
+    (tick-is _ _ _ _ _ _ _ _ (at-travel-time .travel-time .ensures) (at-stop-of .stop-of .ensures) (at-serve .serve .ensures)
+    (c .enum-told .given .1)) (at-loop .loop .inv .1)
 
 add-i : tie.Need-add-i Inv-loop μ-loop
-add-i c = omega (arith, c .before .before .before .before .before .before .before .before .loop-test .taken, c .before .before .before .before .before .before .before .before .before .before .before .before .before .before .before .before .before .before .before .pre .1 .0 .1 .few)
+add-i c =
+    let at-loop-test = c .before .before .before .before .before .before .before .before in
+    let start = at-loop-test .before .before .before .before .before .before .before .before .before .before .before in
+    omega (arith, at-loop-test .loop-test .taken, start .pre .1 .0 .1 .few)
 
 loop-less : tie.Need-loop-less Inv-loop μ-loop
 loop-less c = search needs
 
 loop-again : tie.Need-loop-again Inv-loop μ-loop
-loop-again c = (
-  rw (c .before .before .before .before .before .before .before .visit-laid .ensures) (laid-below _ (c .before .before .before .before .before .before .before .before .before .before .before .before .before .before .before .before .before .before .before .pre .1 .0 .1) (c .before .before .before .before .before .before .before .before .before .before .before .before .before .before .before .before .before .before .before .pre .1 .1 .0) (c .before .before .before .before .before .before .before .before .loop-test .taken)),
-  turns _ _ _ _ _ _ _ (c .before .before .before .before .before .before .before .visit-laid .ensures) (laid-long _ (c .before .before .before .before .before .before .before .before .before .before .before .before .before .before .before .before .before .before .before .pre .1 .1 .0) (c .before .before .before .before .before .before .before .before .loop-test .taken)) _ _ (c .before .before .before .before .before .before .get .ensures)
-      (tick-is _ _ _ _ _ _ _ _ (c .before .before .before .before .before .travel-time .ensures) (c .before .before .before .before .stop-of .ensures) (c .before .before .before .serve .ensures) (c .before .reached .given .1))
-      ∙ c .before .before .before .before .before .before .before .before .before .loop .inv .1,
-)
+loop-again c =
+    let at-reached = c .before in
+    let at-serve = at-reached .before .before in
+    let at-stop-of = at-serve .before in
+    let at-travel-time = at-stop-of .before in
+    let at-get = at-travel-time .before in
+    let at-visit-laid = at-get .before in
+    let at-loop-test = at-visit-laid .before in
+    let at-loop = at-loop-test .before in
+    let start = at-loop .before .before .before .before .before .before .before .before .before .before in (
+      rw (at-visit-laid .visit-laid .ensures) (laid-below _ (start .pre .1 .0 .1) (start .pre .1 .1 .0) (at-loop-test .loop-test .taken)),
+      turns _ _ _ _ _ _ _ (at-visit-laid .visit-laid .ensures) (laid-long _ (start .pre .1 .1 .0) (at-loop-test .loop-test .taken)) _ _ (at-get .get .ensures)
+          (tick-is _ _ _ _ _ _ _ _ (at-travel-time .travel-time .ensures) (at-stop-of .stop-of .ensures) (at-serve .serve .ensures)
+          (at-reached .reached .given .1))
+          ∙ at-loop .loop .inv .1,
+    )
 
 get-requires-2 : tie.Need-get-requires-2 Inv-loop μ-loop
-get-requires-2 c κs = (c .before .before .before .before .before .before .before .before .before .before .before .pre .0 .tables .of-distances, c .before .loop .inv .0, c .before .before .before .before .before .before .before .before .before .before .before .pre .1 .0 .0)
+get-requires-2 c κs =
+    let at-loop = c .before in
+    let start = at-loop .before .before .before .before .before .before .before .before .before .before in
+    (start .pre .0 .tables .of-distances, at-loop .loop .inv .0, start .pre .1 .0 .0)
 
 travel-time-requires-2 : tie.Need-travel-time-requires-2 Inv-loop μ-loop
-travel-time-requires-2 c κs = (c .before .before .before .before .before .before .before .before .before .before .before .before .pre .0 .tables, c .before .before .loop .inv .0, c .before .before .before .before .before .before .before .before .before .before .before .before .pre .1 .0 .0)
+travel-time-requires-2 c κs =
+    let at-loop = c .before .before in
+    let start = at-loop .before .before .before .before .before .before .before .before .before .before in
+    (start .pre .0 .tables, at-loop .loop .inv .0, start .pre .1 .0 .0)
 
 allow-requires : tie.Need-allow-requires Inv-loop μ-loop
 allow-requires c κs = search needs
@@ -85,10 +133,16 @@ allow-requires c κs = search needs
 returns-2 : tie.Need-returns-2 Inv-loop μ-loop
 unfolding passesFrom
 returns-2 c =
+    let at-travel-time2 = c .before .before in
+    let at-get2 = at-travel-time2 .before in
+    let at-loop-test = at-get2 .before in
+    let at-loop = at-loop-test .before in
+    let start = at-loop .before .before .before .before .before .before .before .before .before .before in
     c .allow .ensures
     ∙ end-passes _ _ _ _ _
-    (unbroken-ends _ _ _ _ _ _ _ _ _ (laid-short _ (c .before .before .before .before .before .before .before .before .before .before .before .before .before .before .before .pre .1 .1 .0) (c .before .before .before .before .loop-test .left)) (c .before .before .before .get2 .ensures) (c .before .before .travel-time2 .ensures)
-    ∙ ap (home _ (c .before .before .before .before .before .before .before .before .before .before .before .before .before .before .before .args .depot)) (c .before .before .before .before .before .loop .inv .1))
+    (unbroken-ends _ _ _ _ _ _ _ _ _ (laid-short _ (start .pre .1 .1 .0) (at-loop-test .loop-test .left)) (at-get2 .get2 .ensures)
+    (at-travel-time2 .travel-time2 .ensures)
+    ∙ ap (home _ (start .args .depot)) (at-loop .loop .inv .1))
 
 pub passes-from-spec : {M : Type 1} → statement M
 passes-from-spec =

@@ -26,7 +26,11 @@ same-length-2 : tie.Need-same-length-2
 same-length-2 c = search needs
 
 returns : tie.Need-returns
-returns c = overwritten _ _ _ (c .before .before .before .before .before .before .before .before .before .before .before .before .before .pre .0) (c .before .before .before .before .before .before .before .before .lay-out .ensures) (c .before .before .append .ensures)
+returns c =
+    let at-append = c .before .before in
+    let at-lay-out = at-append .before .before .before .before .before .before in
+    let start = at-lay-out .before .before .before .before .before in
+    overwritten _ _ _ (start .pre .0) (at-lay-out .lay-out .ensures) (at-append .append .ensures)
 
 pub rearrange-spec : {M : Type 1} → statement M
 rearrange-spec =

@@ -15,7 +15,10 @@ visit-at-requires : tie.Need-visit-at-requires
 visit-at-requires c κs = search needs
 
 returns : tie.Need-returns
-returns c = rw (c .before .if1 .taken) (c .visit-at .ensures ∙ stretch-turned (c .before .before .before .args .list .now) _ _ _ (c .before .before .before .pre .0) (c .before .before .before .pre .1) (c .before .before .before .pre .2))
+returns c =
+    let at-if1 = c .before in
+    let start = at-if1 .before .before in
+    rw (at-if1 .if1 .taken) (c .visit-at .ensures ∙ stretch-turned (start .args .list .now) _ _ _ (start .pre .0) (start .pre .1) (start .pre .2))
 
 add-visit-at : tie.Need-add-visit-at
 add-visit-at c = search needs
@@ -24,7 +27,10 @@ visit-at-requires-2 : tie.Need-visit-at-requires-2
 visit-at-requires-2 c κs = search needs
 
 returns-2 : tie.Need-returns-2
-returns-2 c = rw (c .before .if1 .left) (c .visit-at2 .ensures ∙ stretch-straight (c .before .before .before .args .list .now) _ _ _ (c .before .before .before .pre .0) (c .before .before .before .pre .2))
+returns-2 c =
+    let at-if1 = c .before in
+    let start = at-if1 .before .before in
+    rw (at-if1 .if1 .left) (c .visit-at2 .ensures ∙ stretch-straight (start .args .list .now) _ _ _ (start .pre .0) (start .pre .2))
 
 pub visit-of-stretch-spec : {M : Type 1} → statement M
 visit-of-stretch-spec =

@@ -20,27 +20,41 @@ abbrev μ-loop : tie.MeasureT-loop
 
 cut-at-requires : tie.Need-cut-at-requires Inv-loop μ-loop
 cut-at-requires c κs =
-    let ready = c .before .before .before .before .before .before .before .before .pre .0 .0 in
-    let inside = c .before .before .before .before .before .before .before .before .pre .1 .0 in
-    ((ready .formed .tables .of-distances, ready .marked, listed ready (c .before .before .before .before .before .before .before .before .pre .0 .1)), (inside .i-first, inside .j-next, inside .k-there))
+    let start = c .before .before .before .before .before .before .before .before in
+    let ready = start .pre .0 .0 in
+    let inside = start .pre .1 .0 in
+    ((ready .formed .tables .of-distances, ready .marked, listed ready (start .pre .0 .1)), (inside .i-first, inside .j-next, inside .k-there))
 
 any-below-requires : tie.Need-any-below-requires Inv-loop μ-loop
 any-below-requires c κs =
-    let ready = c .before .before .before .before .before .before .before .before .before .before .pre .0 .0 in
-    let placed = cut-placed _ _ _ _ _ _ _ _ (c .before .cut-at .ensures) (listed ready (c .before .before .before .before .before .before .before .before .before .before .pre .0 .1)) in
+    let at-cut-at = c .before in
+    let start = at-cut-at .before .before .before .before .before .before .before .before .before in
+    let ready = start .pre .0 .0 in
+    let placed = cut-placed _ _ _ _ _ _ _ _ (at-cut-at .cut-at .ensures) (listed ready (start .pre .0 .1)) in
     (ready .formed .tables .of-distances, placed .0, placed .1, placed .2)
 
 returns : tie.Need-returns Inv-loop μ-loop
 returns c =
-    (none-below (c .before .before .before .before .before .before .before .before .before .before .before .before .args .setup) _ _ _ _ (c .before .before .before .before .before .before .before .before .before .before .before .before .pre .0 .0) (c .before .before .before .cut-at .ensures) (sym (c .before .any-below .ensures) ∙ not-true _ (c .if1 .taken)), omega arith)
+    let at-any-below = c .before in
+    let at-cut-at = at-any-below .before .before in
+    let start = at-cut-at .before .before .before .before .before .before .before .before .before in (
+      none-below (start .args .setup) _ _ _ _ (start .pre .0 .0) (at-cut-at .cut-at .ensures) (sym (at-any-below .any-below .ensures) ∙ not-true _
+          (c .if1 .taken)),
+      omega arith,
+    )
 
 loop-holds : tie.Need-loop-holds Inv-loop μ-loop
-loop-holds c = scan-start _ _ _ _ _ _ (c .before .before .before .before .before .before .before .before .before .before .before .before .pre .0 .0 .floor)
+loop-holds c =
+    let start = c .before .before .before .before .before .before .before .before .before .before .before .before in
+    scan-start _ _ _ _ _ _ (start .pre .0 .0 .floor)
 
 better-of-requires : tie.Need-better-of-requires Inv-loop μ-loop
 better-of-requires c κs =
-    let below : c .before .loop .pattern < 8 = omega (arith, c .loop-test .taken) in
-    (c .before .before .before .before .before .before .before .before .before .before .before .before .before .before .pre .0, ((c .before .before .before .before .before .before .before .before .before .before .before .before .before .before .pre .1 .0, below), (c .before .before .before .before .before .before .before .before .before .before .before .before .before .before .pre .1 .1, c .before .before .before .before .before .cut-at .ensures)))
+    let at-loop = c .before in
+    let at-cut-at = at-loop .before .before .before .before in
+    let start = at-cut-at .before .before .before .before .before .before .before .before .before in
+    let below : at-loop .loop .pattern < 8 = omega (arith, c .loop-test .taken) in
+    (start .pre .0, ((start .pre .1 .0, below), (start .pre .1 .1, at-cut-at .cut-at .ensures)))
 
 add-pattern : tie.Need-add-pattern Inv-loop μ-loop
 add-pattern c = search needs

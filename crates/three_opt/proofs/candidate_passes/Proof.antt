@@ -9,15 +9,21 @@ use Rattle.three_opt.proofs.candidate_passes.Tie as tie
 
 reconnection-requires : tie.Need-reconnection-requires
 reconnection-requires c κs =
-    let inside = c .before .before .before .before .before .before .before .before .before .pre .1 .0 .0 in
-    let few = c .before .before .before .before .before .before .before .before .before .pre .0 .1 .few in
-    (omega (arith, inside .i-first, inside .j-next, inside .k-there), omega (arith, inside .j-next, inside .k-there), omega (arith, inside .k-there), c .before .before .before .before .before .before .before .before .before .pre .1 .0 .1)
+    let start = c .before .before .before .before .before .before .before .before .before in
+    let inside = start .pre .1 .0 .0 in
+    let few = start .pre .0 .1 .few in (
+      omega (arith, inside .i-first, inside .j-next, inside .k-there),
+      omega (arith, inside .j-next, inside .k-there),
+      omega (arith, inside .k-there),
+      start .pre .1 .0 .1,
+    )
 
 laid-passes-requires : tie.Need-laid-passes-requires
 laid-passes-requires c κs =
-    let ready = c .before .before .before .before .before .before .before .before .before .before .pre .0 .0 in
+    let start = c .before .before .before .before .before .before .before .before .before .before in
+    let ready = start .pre .0 .0 in
     let is = c .reconnection .ensures in
-    (ready .formed, ((ready .depot-there, c .before .before .before .before .before .before .before .before .before .before .pre .0 .1, laid-cut _ _ _ _ (c .before .before .before .before .before .before .before .before .before .before .pre .1 .0 .0) is), (c .before .before .before .before .before .before .before .before .before .before .pre .1 .1 .0, rw is (c .before .before .before .before .before .before .before .before .before .before .pre .1 .1 .1))))
+    (ready .formed, ((ready .depot-there, start .pre .0 .1, laid-cut _ _ _ _ (start .pre .1 .0 .0) is), (start .pre .1 .1 .0, rw is (start .pre .1 .1 .1))))
 
 returns : tie.Need-returns
 returns c =

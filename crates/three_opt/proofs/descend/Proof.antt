@@ -27,7 +27,14 @@ at-depot-requires c κs = search needs
 
 loop-holds : tie.Need-loop-holds Inv-loop μ-loop
 loop-holds c =
-    (sweep-start _ _ _ _ _ (c .before .before .before .before .before .before .before .before .before .before .before .pre .1 .2), c .before .before .before .before .before .before .before .before .before .before .before .pre .1 .0, refl, refl, rw (c .at-depot .ensures) (none-shared (c .before .before .before .before .before .before .before .before .before .before .before .args .setup) _ (c .before .before .before .before .before .before .before .before .before .before .before .args .list .now) 0 (c .before .before .before .before .before .before .before .before .before .before .before .pre .0)))
+    let start = c .before .before .before .before .before .before .before .before .before .before .before in (
+      sweep-start _ _ _ _ _ (start .pre .1 .2),
+      start .pre .1 .0,
+      refl,
+      refl,
+      rw (c .at-depot .ensures) (none-shared (start .args .setup) _
+          (start .args .list .now) 0 (start .pre .0)),
+    )
 
 add-head-up-to : tie.Need-add-head-up-to Inv-loop μ-loop
 add-head-up-to c =
@@ -36,31 +43,52 @@ add-head-up-to c =
 
 head-up-to-requires : tie.Need-head-up-to-requires Inv-loop μ-loop
 head-up-to-requires c κs =
-    let inside = standing-inside _ _ (c .before .before .before .before .loop .inv .0 .standing) (c .before .before .if1 .taken) in
-    (c .before .before .before .before .before .before .before .before .before .before .before .before .before .before .before .before .pre .0 .formed, ((c .before .before .before .before .before .before .before .before .before .before .before .before .before .before .before .before .pre .0 .depot-there, c .before .before .before .before .loop .inv .1, omega (arith, inside .i-first, inside .j-next, inside .k-there)), c .before .before .before .before .loop .inv .4))
+    let at-if1 = c .before .before in
+    let at-loop = at-if1 .before .before in
+    let start = at-loop .before .before .before .before .before .before .before .before .before .before .before .before in
+    let inside = standing-inside _ _ (at-loop .loop .inv .0 .standing) (at-if1 .if1 .taken) in (
+      start .pre .0 .formed,
+      (
+        (start .pre .0 .depot-there, at-loop .loop .inv .1, omega (arith, inside .i-first, inside .j-next, inside .k-there)),
+        at-loop .loop .inv .4,
+      ),
+    )
 
 best-pattern-requires : tie.Need-best-pattern-requires Inv-loop μ-loop
 best-pattern-requires c κs =
-    ((c .before .before .before .before .before .before .before .before .before .before .before .before .before .before .before .before .before .before .pre .0, c .before .before .before .before .before .before .loop .inv .1), (standing-inside _ _ (c .before .before .before .before .before .before .loop .inv .0 .standing) (c .before .before .before .before .if1 .taken), c .before .head-up-to .ensures))
+    let at-head-up-to = c .before in
+    let at-if1 = at-head-up-to .before .before .before in
+    let at-loop = at-if1 .before .before in
+    let start = at-loop .before .before .before .before .before .before .before .before .before .before .before .before in
+    ((start .pre .0, at-loop .loop .inv .1), (standing-inside _ _ (at-loop .loop .inv .0 .standing) (at-if1 .if1 .taken), at-head-up-to .head-up-to .ensures))
 
 place-after-requires : tie.Need-place-after-requires Inv-loop μ-loop
 place-after-requires c κs =
-    (standing-inside _ _ (c .before .before .before .before .before .before .before .before .loop .inv .0 .standing) (c .before .before .before .before .before .before .if1 .taken), omega (arith, c .before .before .before .before .before .before .before .before .loop .inv .1 .few))
+    let at-if1 = c .before .before .before .before .before .before in
+    let at-loop = at-if1 .before .before in
+    (standing-inside _ _ (at-loop .loop .inv .0 .standing) (at-if1 .if1 .taken), omega (arith, at-loop .loop .inv .1 .few))
 
 loop-less : tie.Need-loop-less Inv-loop μ-loop
 loop-less c =
-    let fewer = cuts-fewer _ _ (c .before .before .before .before .before .before .before .before .before .loop .inv .0 .standing) (c .before .before .before .before .before .before .before .if1 .taken) in
+    let at-if1 = c .before .before .before .before .before .before .before in
+    let at-loop = at-if1 .before .before in
+    let fewer = cuts-fewer _ _ (at-loop .loop .inv .0 .standing) (at-if1 .if1 .taken) in
     rw (c .place-after .ensures) (omega arith)
 
 loop-again : tie.Need-loop-again Inv-loop μ-loop
-loop-again c = (
-  rw (c .place-after .ensures)
-      (sweep-passed _ _ _ _ _ _ _ _ (c .before .before .before .before .before .before .before .before .before .loop .inv .0) (c .before .before .before .before .before .before .before .if1 .taken) _ (c .before .before .best-pattern .ensures .0) (c .before .if2 .taken)),
-  c .before .before .before .before .before .before .before .before .before .loop .inv .1,
-  c .before .before .before .before .before .before .before .before .before .loop .inv .2,
-  c .before .before .before .before .before .before .before .before .before .loop .inv .3,
-  (c .before .before .before .before .head-up-to .ensures .0, rw (c .place-after .ensures) (still-behind _ _ (c .before .before .before .before .before .before .before .before .before .loop .place) (c .before .before .before .before .head-up-to .ensures .1))),
-)
+loop-again c =
+    let at-if2 = c .before in
+    let at-best-pattern = at-if2 .before in
+    let at-head-up-to = at-best-pattern .before .before in
+    let at-if1 = at-head-up-to .before .before .before in
+    let at-loop = at-if1 .before .before in (
+      rw (c .place-after .ensures)
+          (sweep-passed _ _ _ _ _ _ _ _ (at-loop .loop .inv .0) (at-if1 .if1 .taken) _ (at-best-pattern .best-pattern .ensures .0) (at-if2 .if2 .taken)),
+      at-loop .loop .inv .1,
+      at-loop .loop .inv .2,
+      at-loop .loop .inv .3,
+      (at-head-up-to .head-up-to .ensures .0, rw (c .place-after .ensures) (still-behind _ _ (at-loop .loop .place) (at-head-up-to .head-up-to .ensures .1))),
+    )
 
 same-length : tie.Need-same-length Inv-loop μ-loop
 same-length c = c .before .before .before .before .before .before .before .before .before .loop .inv .2
@@ -70,35 +98,59 @@ same-length-2 c = c .before .before .before .before .before .before .before .bef
 
 returns : tie.Need-returns Inv-loop μ-loop
 returns c =
-    sweep-stopped _ _ _ _ _ _ _ _ (c .before .before .before .before .before .before .before .before .before .loop .inv .0) (c .before .before .before .before .before .before .before .if1 .taken) _ (c .before .before .best-pattern .ensures .0) (c .before .if2 .left) (c .if3 .taken)
+    let at-if2 = c .before in
+    let at-best-pattern = at-if2 .before in
+    let at-if1 = at-best-pattern .before .before .before .before .before in
+    let at-loop = at-if1 .before .before in
+    sweep-stopped _ _ _ _ _ _ _ _ (at-loop .loop .inv .0) (at-if1 .if1 .taken) _ (at-best-pattern .best-pattern .ensures .0) (at-if2 .if2 .left)
+    (c .if3 .taken)
 
 make-move-requires : tie.Need-make-move-requires Inv-loop μ-loop
-make-move-requires c κs = (
-  (standing-inside _ _ (c .before .before .before .before .before .before .before .before .before .before .before .loop .inv .0 .standing) (c .before .before .before .before .before .before .before .before .before .if1 .taken), c .before .before .before .before .before .before .before .before .before .before .before .loop .inv .1 .few, c .before .before .before .before .best-pattern .ensures .1),
-  omega (arith, c .before .before .before .before .before .before .before .before .before .before .before .loop .inv .2, c .before .before .before .before .before .before .before .before .before .before .before .loop .inv .3, c .before .before .before .before .before .before .before .before .before .before .before .before .before .before .before .before .before .before .before .before .before .before .before .pre .1 .1),
-)
+make-move-requires c κs =
+    let at-best-pattern = c .before .before .before .before in
+    let at-if1 = at-best-pattern .before .before .before .before .before in
+    let at-loop = at-if1 .before .before in
+    let start = at-loop .before .before .before .before .before .before .before .before .before .before .before .before in (
+      (standing-inside _ _ (at-loop .loop .inv .0 .standing) (at-if1 .if1 .taken), at-loop .loop .inv .1 .few, at-best-pattern .best-pattern .ensures .1),
+      omega (arith, at-loop .loop .inv .2, at-loop .loop .inv .3, start .pre .1 .1),
+    )
 
 add-moves : tie.Need-add-moves Inv-loop μ-loop
-add-moves c = omega (arith, c .before .before .before .before .before .before .before .before .before .before .before .before .before .before .before .before .before .before .before .before .before .before .before .before .before .before .before .before .fits .limit, c .before .before .before .before .before .before .before .if3 .left)
+add-moves c =
+    let at-if3 = c .before .before .before .before .before .before .before in
+    let further = at-if3 .before .before .before .before .before .before .before .before .before .before in
+    let start = further .before .before .before .before .before .before .before .before .before .before .before in
+    omega (arith, start .fits .limit, at-if3 .if3 .left)
 
 at-depot-requires-2 : tie.Need-at-depot-requires-2 Inv-loop μ-loop
 at-depot-requires-2 c κs = search needs
 
 loop-less-2 : tie.Need-loop-less-2 Inv-loop μ-loop
 loop-less-2 c =
-    let few = few-cuts _ (c .before .before .before .before .before .before .before .before .before .before .before .before .before .before .before .before .before .loop .inv .0 .four) (c .before .before .before .before .before .before .before .before .before .before .before .before .before .before .before .before .before .loop .inv .1 .few) in
-    rw (c .before .before .before .before .before .make-move .kept .0) (omega (arith, c .before .before .before .before .before .before .before .before .if3 .left))
+    let at-make-move = c .before .before .before .before .before in
+    let at-if3 = at-make-move .before .before .before in
+    let at-loop = at-if3 .before .before .before .before .before .before .before .before .before in
+    let few = few-cuts _ (at-loop .loop .inv .0 .four) (at-loop .loop .inv .1 .few) in
+    rw (at-make-move .make-move .kept .0) (omega (arith, at-if3 .if3 .left))
 
 loop-again-2 : tie.Need-loop-again-2 Inv-loop μ-loop
-loop-again-2 c = (
-  rw (c .before .before .before .before .before .make-move .ensures)
-      (sweep-moved _ _ _ _ _ _ _ _ (c .before .before .before .before .before .before .before .before .before .before .before .before .before .before .before .before .before .loop .inv .0) (c .before .before .before .before .before .before .before .before .before .before .before .before .before .before .before .if1 .taken) _ (c .before .before .before .before .before .before .before .before .before .before .best-pattern .ensures .0) (c .before .before .before .before .before .before .before .before .before .if2 .left) (c .before .before .before .before .before .before .before .before .if3 .left)),
-  rw (c .before .before .before .before .before .make-move .ensures)
-      (visits-reconnected _ _ _ (standing-inside _ _ (c .before .before .before .before .before .before .before .before .before .before .before .before .before .before .before .before .before .loop .inv .0 .standing) (c .before .before .before .before .before .before .before .before .before .before .before .before .before .before .before .if1 .taken)) _ (c .before .before .before .before .before .before .before .before .before .before .before .before .before .before .before .before .before .loop .inv .1)),
-  c .before .before .before .before .before .make-move .kept .0 ∙ c .before .before .before .before .before .before .before .before .before .before .before .before .before .before .before .before .before .loop .inv .2,
-  c .before .before .before .before .before .make-move .kept .1 .0 ∙ c .before .before .before .before .before .before .before .before .before .before .before .before .before .before .before .before .before .loop .inv .3,
-  rw (c .at-depot2 .ensures) (none-shared (c .before .before .before .before .before .before .before .before .before .before .before .before .before .before .before .before .before .before .before .before .before .before .before .before .before .before .before .before .before .args .setup) _ (c .before .before .before .before .before .make-move .last .0) 0 (c .before .before .before .before .before .before .before .before .before .before .before .before .before .before .before .before .before .before .before .before .before .before .before .before .before .before .before .before .before .pre .0)),
-)
+loop-again-2 c =
+    let at-make-move = c .before .before .before .before .before in
+    let at-if3 = at-make-move .before .before .before in
+    let at-if2 = at-if3 .before in
+    let at-best-pattern = at-if2 .before in
+    let at-if1 = at-best-pattern .before .before .before .before .before in
+    let at-loop = at-if1 .before .before in
+    let start = at-loop .before .before .before .before .before .before .before .before .before .before .before .before in (
+      rw (at-make-move .make-move .ensures)
+          (sweep-moved _ _ _ _ _ _ _ _ (at-loop .loop .inv .0) (at-if1 .if1 .taken) _ (at-best-pattern .best-pattern .ensures .0) (at-if2 .if2 .left)
+          (at-if3 .if3 .left)),
+      rw (at-make-move .make-move .ensures)
+          (visits-reconnected _ _ _ (standing-inside _ _ (at-loop .loop .inv .0 .standing) (at-if1 .if1 .taken)) _ (at-loop .loop .inv .1)),
+      at-make-move .make-move .kept .0 ∙ at-loop .loop .inv .2,
+      at-make-move .make-move .kept .1 .0 ∙ at-loop .loop .inv .3,
+      rw (c .at-depot2 .ensures) (none-shared (start .args .setup) _ (at-make-move .make-move .last .0) 0 (start .pre .0)),
+    )
 
 same-length-3 : tie.Need-same-length-3 Inv-loop μ-loop
 same-length-3 c = c .before .before .loop .inv .2

@@ -8,12 +8,19 @@ use Rattle.three_opt.proofs.make_move.Tie as tie
 
 reconnection-requires : tie.Need-reconnection-requires
 reconnection-requires c κs =
-    let inside = c .before .before .before .before .pre .0 .0 in
-    let few = c .before .before .before .before .pre .0 .1 in
-    (omega (arith, inside .i-first, inside .j-next, inside .k-there), omega (arith, inside .j-next, inside .k-there), omega (arith, inside .k-there), c .before .before .before .before .pre .0 .2)
+    let start = c .before .before .before .before in
+    let inside = start .pre .0 .0 in
+    let few = start .pre .0 .1 in (
+      omega (arith, inside .i-first, inside .j-next, inside .k-there),
+      omega (arith, inside .j-next, inside .k-there),
+      omega (arith, inside .k-there),
+      start .pre .0 .2,
+    )
 
 rearrange-requires : tie.Need-rearrange-requires
-rearrange-requires c κs = (laid-cut _ _ _ _ (c .before .before .before .before .before .pre .0 .0) (c .reconnection .ensures), c .before .before .before .before .before .pre .1)
+rearrange-requires c κs =
+    let start = c .before .before .before .before .before in
+    (laid-cut _ _ _ _ (start .pre .0 .0) (c .reconnection .ensures), start .pre .1)
 
 same-length : tie.Need-same-length
 same-length c = search needs

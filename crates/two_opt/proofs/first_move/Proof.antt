@@ -27,43 +27,69 @@ at-depot-requires c κs = search needs
 
 loop-holds : tie.Need-loop-holds Inv-loop μ-loop
 loop-holds c =
-    (refl, refl, c .before .before .before .before .before .before .before .before .before .before .pre .1, (rw (c .at-depot .ensures) (none-shared (c .before .before .before .before .before .before .before .before .before .before .args .list .now) _ (c .before .before .before .before .before .before .before .before .before .before .pre .0 .0)), refl))
+    let start = c .before .before .before .before .before .before .before .before .before .before in
+    (refl, refl, start .pre .1, (rw (c .at-depot .ensures) (none-shared (start .args .list .now) _ (start .pre .0 .0)), refl))
 
 head-up-to-requires : tie.Need-head-up-to-requires Inv-loop μ-loop
 head-up-to-requires c κs =
-    let inv = c .before .before .before .loop .inv in
-    let there = c .before .if1 .taken in
+    let at-if1 = c .before in
+    let at-loop = at-if1 .before .before in
+    let start = at-loop .before .before .before .before .before .before .before .before .before .before .before in
+    let inv = at-loop .loop .inv in
+    let there = at-if1 .if1 .taken in
     let first = inv .2 .ordered in
-    rw (inv .0) (c .before .before .before .before .before .before .before .before .before .before .before .before .before .before .pre .0 .0 .formed, ((c .before .before .before .before .before .before .before .before .before .before .before .before .before .before .pre .0 .0 .depot-there, c .before .before .before .before .before .before .before .before .before .before .before .before .before .before .pre .0 .1, omega (arith, inv .1, there, first)), inv .3 .0))
+    rw (inv .0) (start .pre .0 .0 .formed, ((start .pre .0 .0 .depot-there, start .pre .0 .1, omega (arith, inv .1, there, first)), inv .3 .0))
 
 try-reversal-requires : tie.Need-try-reversal-requires Inv-loop μ-loop
 try-reversal-requires c κs =
-    let inv = c .before .before .before .before .before .loop .inv in
-    rw (inv .0) (c .before .before .before .before .before .before .before .before .before .before .before .before .before .before .before .before .pre .0, ((inv .2 .ordered, c .before .before .before .if1 .taken), rw (inv .0) at (c .before .head-up-to .ensures)))
+    let at-head-up-to = c .before in
+    let at-if1 = at-head-up-to .before .before in
+    let at-loop = at-if1 .before .before in
+    let start = at-loop .before .before .before .before .before .before .before .before .before .before .before in
+    let inv = at-loop .loop .inv in
+    rw (inv .0) (start .pre .0, ((inv .2 .ordered, at-if1 .if1 .taken), rw (inv .0) at (at-head-up-to .head-up-to .ensures)))
 
 same-length : tie.Need-same-length Inv-loop μ-loop
 same-length c =
-    c .before .before .before .try-reversal .kept .1 .1 .1 .1 .1 .1 .1 .1 .0 ∙ ap length (c .before .before .before .before .before .before .before .before .before .loop .inv .0)
+    let at-try-reversal = c .before .before .before in
+    let at-loop = at-try-reversal .before .before .before .before .before .before in
+    at-try-reversal .try-reversal .kept .1 .1 .1 .1 .1 .1 .1 .1 .0 ∙ ap length (at-loop .loop .inv .0)
 
 returns : tie.Need-returns Inv-loop μ-loop
 returns c =
-    let inv = c .before .before .before .before .before .before .before .before .before .loop .inv in
-    found-here _ _ _ _ _ _ (inv .0) (inv .2 .ordered) (c .before .before .before .before .before .before .before .if1 .taken) (inv .3 .1) _ (c .before .before .before .try-reversal .ensures .0) (c .before .before .before .try-reversal .ensures .1)
+    let at-try-reversal = c .before .before .before in
+    let at-if1 = at-try-reversal .before .before .before .before in
+    let at-loop = at-if1 .before .before in
+    let inv = at-loop .loop .inv in
+    found-here _ _ _ _ _ _ (inv .0) (inv .2 .ordered) (at-if1 .if1 .taken) (inv .3 .1) _ (at-try-reversal .try-reversal .ensures .0)
+    (at-try-reversal .try-reversal .ensures .1)
     (c .if2 .taken)
 
 place-after-requires : tie.Need-place-after-requires Inv-loop μ-loop
-place-after-requires c κs = (c .before .before .before .before .before .before .before .before .before .loop .inv .2 .ordered, c .before .before .before .before .before .before .before .if1 .taken)
+place-after-requires c κs =
+    let at-if1 = c .before .before .before .before .before .before .before in
+    let at-loop = at-if1 .before .before in
+    (at-loop .loop .inv .2 .ordered, at-if1 .if1 .taken)
 
 loop-less : tie.Need-loop-less Inv-loop μ-loop
-loop-less c = rw (c .place-after .ensures) (left-less _ _ (c .before .before .before .before .before .before .before .before .before .before .loop .inv .2 .ordered) (c .before .before .before .before .before .before .before .before .if1 .taken))
+loop-less c =
+    let at-if1 = c .before .before .before .before .before .before .before .before in
+    let at-loop = at-if1 .before .before in
+    rw (c .place-after .ensures) (left-less _ _ (at-loop .loop .inv .2 .ordered) (at-if1 .if1 .taken))
 
 loop-again : tie.Need-loop-again Inv-loop μ-loop
 loop-again c =
-    let inv = c .before .before .before .before .before .before .before .before .before .before .loop .inv in
-    let there = c .before .before .before .before .before .before .before .before .if1 .taken in
+    let at-if2 = c .before in
+    let at-try-reversal = at-if2 .before .before .before in
+    let at-head-up-to = at-try-reversal .before .before in
+    let at-if1 = at-head-up-to .before .before in
+    let at-loop = at-if1 .before .before in
+    let inv = at-loop .loop .inv in
+    let there = at-if1 .if1 .taken in
     let rest =
-    not-here _ _ _ _ _ _ (inv .0) (inv .2 .ordered) there (inv .3 .1) _ (c .before .before .before .before .try-reversal .ensures .0) (c .before .before .before .before .try-reversal .ensures .1) (c .before .if2 .left) in
-    let near = rw (inv .0) at (c .before .before .before .before .before .before .head-up-to .ensures) in
+    not-here _ _ _ _ _ _ (inv .0) (inv .2 .ordered) there (inv .3 .1) _ (at-try-reversal .try-reversal .ensures .0)
+    (at-try-reversal .try-reversal .ensures .1) (at-if2 .if2 .left) in
+    let near = rw (inv .0) at (at-head-up-to .head-up-to .ensures) in
     rw (c .place-after .ensures) (rest .0, refl, still-in _ _ (inv .2 .ordered) there, ((near .0, still-behind _ _ _ (near .1)), rest .1))
 
 same-length-2 : tie.Need-same-length-2 Inv-loop μ-loop

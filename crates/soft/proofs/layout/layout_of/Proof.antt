@@ -38,14 +38,18 @@ reconnection-requires c κs =
 
 returns : tie.Need-returns
 returns c =
-    rw (c .reversal .ensures, c .before .before .place .given .1) (lays-turned _ _ _ (rw (c .before .before .place .given .1) at (c .before .before .before .before .pre .1)))
+    let at-place = c .before .before in
+    let start = at-place .before .before in
+    rw (c .reversal .ensures, at-place .place .given .1) (lays-turned _ _ _ (rw (at-place .place .given .1) at (start .pre .1)))
 
 returns-2 : tie.Need-returns-2
 returns-2 c = rw (c .before .before .place2 .given .1) (c .layout-of-relocation .ensures)
 
 returns-3 : tie.Need-returns-3
 returns-3 c =
-    rw (c .reconnection .ensures, c .before .before .place3 .given .1) (lays-reconnected _ _ _ _ _ (rw (c .before .before .place3 .given .1) at (c .before .before .before .before .pre .1)))
+    let at-place3 = c .before .before in
+    let start = at-place3 .before .before in
+    rw (c .reconnection .ensures, at-place3 .place3 .given .1) (lays-reconnected _ _ _ _ _ (rw (at-place3 .place3 .given .1) at (start .pre .1)))
 
 pub layout-of-spec : {M : Type 1} → statement M
 layout-of-spec =

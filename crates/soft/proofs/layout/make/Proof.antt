@@ -17,7 +17,10 @@ same-length-2 : tie.Need-same-length-2
 same-length-2 c = search needs
 
 returns : tie.Need-returns
-returns c = c .before .before .before .before .rearrange .ensures ∙ c .before .before .before .before .before .before .before .layout-of .ensures .same _
+returns c =
+    let at-rearrange = c .before .before .before .before in
+    let at-layout-of = at-rearrange .before .before .before in
+    at-rearrange .rearrange .ensures ∙ at-layout-of .layout-of .ensures .same _
 
 pub make-spec : {M : Type 1} → statement M
 make-spec =
