@@ -26,12 +26,12 @@ use Rattle.descent.proofs.Runs.{ran, chain-map}
 use Rattle.descent.proofs.Sweeps.{next-some}
 use Rattle.fleet.specs.Fleet.{Fleet, fleetVehicle}
 use Rattle.fleet.proofs.Numbered.{found-again}
-use Rattle.cross_depot.specs.Boxes.{boxesAt}
-use Rattle.cross_depot.specs.CrossDepot.{Plan, foundIds, lentPlan, pricedAs, holds, allowed, hasPrice, first, second, exchangedBy, ofFilled, dropped}
-use Rattle.cross_depot.specs.CrossDepot.{afterMove, firstPrice, secondPrice, moved, searchOf, judgeOf, runOf, Carries, Carried}
-use Rattle.cross_depot.specs.declared.price.Price.the-variants.{Unallowed}
-use Rattle.cross_depot.specs.declared.pair.Move.{Move}
-use Rattle.cross_depot.proofs.Loads.{load-parts}
+use Rattle.cross_moves.specs.Boxes.{boxesAt}
+use Rattle.cross_moves.specs.CrossDepot.{Plan, foundIds, lentPlan, pricedAs, holds, allowed, hasPrice, first, second, exchangedBy, ofFilled, dropped}
+use Rattle.cross_moves.specs.CrossDepot.{afterMove, firstPrice, secondPrice, moved, searchOf, judgeOf, runOf, Carries, Carried}
+use Rattle.cross_moves.specs.declared.price.Price.the-variants.{Unallowed}
+use Rattle.cross_moves.specs.declared.pair.Move.{Move}
+use Rattle.cross_pairs.proofs.Loads.{load-parts}
 use Rattle.cross_depot.proofs.Sound.{TestedOrLess, move-tested}
 
 -- ---- something of every list and the id of its van

@@ -16,16 +16,16 @@ use Rattle.evaluation.specs.Columns.{Columns}
 use Rattle.descent.specs.Order.{range, each}
 use Rattle.descent.specs.Search.{ok, taken}
 use Rattle.fleet.specs.Fleet.{Fleet}
-use Rattle.cross_depot.specs.CrossDepot.{Plan, relocation, exchange, cuts, relocations, swaps, tailExchanges, pairOf, sameDepot}
-use Rattle.cross_depot.specs.CrossDepot.{betweenLists, ofPair, moves}
-use Rattle.cross_depot.specs.CrossDepot.{hasPrice, amount, firstPrice, secondPrice, searchOf, judgeOf}
-use Rattle.cross_depot.specs.Scan.{scan, decided, better, tryRelocation, tryExchange, relocateRow, exchangeRow, bestRelocation, bestSwap, bestTails}
-use Rattle.cross_depot.specs.Scan.{bestExchange, bestBetween, bestOfPair, bestFrom, bestOf, betterIn, nothing, moveOf}
-use Rattle.cross_depot.specs.declared.price.Price.{Price}
-use Rattle.cross_depot.specs.declared.price.Price.the-variants.{Unallowed, Costs}
-use Rattle.cross_depot.specs.declared.pair.Pair.{Pair}
-use Rattle.cross_depot.specs.declared.pair.Move.{Move}
-use Rattle.cross_depot.specs.declared.search.Choice.{Choice}
+use Rattle.cross_moves.specs.CrossDepot.{Plan, relocation, exchange, cuts, relocations, swaps, tailExchanges, pairOf, sameDepot}
+use Rattle.cross_moves.specs.CrossDepot.{betweenLists, ofPair, moves}
+use Rattle.cross_moves.specs.CrossDepot.{hasPrice, amount, firstPrice, secondPrice, searchOf, judgeOf}
+use Rattle.cross_pairs.specs.Scan.{scan, decided, better, tryRelocation, tryExchange, relocateRow, exchangeRow, bestRelocation, bestSwap, bestTails}
+use Rattle.cross_pairs.specs.Scan.{bestExchange, bestBetween, bestOfPair, bestFrom, bestOf, betterIn, nothing, moveOf}
+use Rattle.cross_moves.specs.declared.price.Price.{Price}
+use Rattle.cross_moves.specs.declared.price.Price.the-variants.{Unallowed, Costs}
+use Rattle.cross_moves.specs.declared.pair.Pair.{Pair}
+use Rattle.cross_moves.specs.declared.pair.Move.{Move}
+use Rattle.cross_pairs.specs.declared.search.Choice.{Choice}
 use Rattle.cross_depot.proofs.Onward.{onward, figure, Counted, onward-better, counted-better, onward-stays, onward-end}
 
 -- ---- scans of scans

@@ -9,7 +9,7 @@ use Rattle.evaluation.specs.Columns.{Columns}
 use Rattle.descent.specs.Search.{settled, stopped, next}
 use Rattle.descent.proofs.Runs.{ran}
 use Rattle.fleet.specs.Fleet.{Fleet}
-use Rattle.cross_depot.specs.CrossDepot.{Plan, searchOf, judgeOf, runOf}
+use Rattle.cross_moves.specs.CrossDepot.{Plan, searchOf, judgeOf, runOf}
 
 module _ (c : Columns) (demand : List ℤ) (fleet : Fleet) (limit : ℕ) (p : Plan) where
   -- '`stopped` only after exactly as many moves as the limit'

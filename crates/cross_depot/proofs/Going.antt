@@ -24,11 +24,12 @@ use Rattle.descent.proofs.Loops.{place-passed, place-moved, next-sweep, run-set
 use Rattle.engine.specs.Engine.{endedAs}
 use Rattle.engine.specs.declared.Ended.the-variants.{Settled, Stopped}
 use Rattle.fleet.specs.Fleet.{Fleet}
-use Rattle.cross_depot.specs.CrossDepot.{Plan, afterMove, searchOf, judgeOf, runOf, ranOf}
-use Rattle.cross_depot.specs.Scan.{Held, planOf, moveOf}
-use Rattle.cross_depot.specs.Tables.{Made, MadeIn, Chosen, Handed, crossedOf}
-use Rattle.cross_depot.specs.declared.pair.Move.{Move}
-use Rattle.cross_depot.specs.declared.search.Choice.{Choice}
+use Rattle.cross_moves.specs.CrossDepot.{Plan, afterMove, searchOf, judgeOf, runOf, ranOf, planOf}
+use Rattle.cross_pairs.specs.Scan.{Held, moveOf}
+use Rattle.cross_changes.specs.Tables.{Made}
+use Rattle.cross_depot.specs.Tables.{MadeIn, Chosen, Handed, crossedOf}
+use Rattle.cross_moves.specs.declared.pair.Move.{Move}
+use Rattle.cross_pairs.specs.declared.search.Choice.{Choice}
 use Rattle.cross_depot.specs.declared.run.Crossed.{Crossed}
 
 -- a run's outcome behind some moves

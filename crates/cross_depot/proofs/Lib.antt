@@ -1,11 +1,4 @@
-pub mod Loads
-pub mod Stretch
-pub mod Fitting
-pub mod Scanning
 pub mod Pairs
-pub mod Exchanging
-pub mod Dropping
-pub mod Making
 pub mod Onward
 pub mod Choosing
 pub mod Sound

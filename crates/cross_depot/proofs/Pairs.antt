@@ -17,10 +17,10 @@ use Rattle.lists.proofs.Tables.{at-lists, length-lists, length-list, list-at, s
 use Rattle.evaluation.specs.Columns.{Columns}
 use Rattle.descent.specs.Order.{range}
 use Rattle.fleet.specs.Fleet.{Fleet, Manned}
-use Rattle.cross_depot.specs.CrossDepot.{pairOf, sameDepot}
-use Rattle.cross_depot.specs.Scan.{Two, Held, Paired, planOf, scan, bestBetween, bestOfPair, bestFrom, bestOf}
-use Rattle.cross_depot.specs.declared.pair.Pair.{Pair}
-use Rattle.cross_depot.specs.declared.search.Choice.{Choice}
+use Rattle.cross_moves.specs.CrossDepot.{pairOf, sameDepot, planOf}
+use Rattle.cross_pairs.specs.Scan.{Two, Held, Paired, scan, bestBetween, bestOfPair, bestFrom, bestOf}
+use Rattle.cross_moves.specs.declared.pair.Pair.{Pair}
+use Rattle.cross_pairs.specs.declared.search.Choice.{Choice}
 use Rattle.fleet.proofs.Numbered.{vehicle-driven}
 
 module _ (l : ℕ) (visits lengths : List ℕ) (held : Held l visits lengths) where

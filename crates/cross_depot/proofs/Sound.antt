@@ -21,13 +21,14 @@ use Rattle.descent.specs.Search.{taken}
 use Rattle.descent.proofs.Members.{not-in, in-either, range-in, each-in, map-in}
 use Rattle.descent.proofs.Sweeps.{first-least-some}
 use Rattle.fleet.specs.Fleet.{Fleet}
-use Rattle.cross_depot.specs.CrossDepot.{Plan, relocation, exchange, cuts, relocations, swaps, tailExchanges, pairOf, sameDepot}
-use Rattle.cross_depot.specs.CrossDepot.{betweenLists, ofPair, moves, moved, searchOf, judgeOf}
-use Rattle.cross_depot.specs.Scan.{planOf, nothing, moveOf, bestOf, single}
-use Rattle.cross_depot.specs.Tables.{Makes, Chosen}
-use Rattle.cross_depot.specs.declared.pair.Move.{Move}
-use Rattle.cross_depot.specs.declared.search.Choice.{Choice}
-use Rattle.cross_depot.proofs.Scanning.{stretch-within, cuts-few}
+use Rattle.cross_moves.specs.CrossDepot.{Plan, relocation, exchange, cuts, relocations, swaps, tailExchanges, pairOf, sameDepot, planOf}
+use Rattle.cross_moves.specs.CrossDepot.{betweenLists, ofPair, moves, moved, searchOf, judgeOf}
+use Rattle.cross_pairs.specs.Scan.{nothing, moveOf, bestOf, single}
+use Rattle.cross_changes.specs.Tables.{Makes}
+use Rattle.cross_depot.specs.Tables.{Chosen}
+use Rattle.cross_moves.specs.declared.pair.Move.{Move}
+use Rattle.cross_pairs.specs.declared.search.Choice.{Choice}
+use Rattle.cross_pairs.proofs.Scanning.{stretch-within, cuts-few}
 use Rattle.cross_depot.proofs.Pairs.{depots-apart}
 use Rattle.cross_depot.proofs.Choosing.{chosen}
 

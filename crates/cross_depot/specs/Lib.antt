@@ -1,4 +1,1 @@
-pub mod Boxes
-pub mod CrossDepot
-pub mod Scan
 pub mod Tables

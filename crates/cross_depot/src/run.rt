@@ -1,10 +1,10 @@
 // A whole run of cross-depot (`cross_depot_improve` of local_search/cross_depot.rs): from the lent prices on, move after move until none gains or the limit is
 // used up.
-use crate::change::make_move;
-use crate::pair::Move;
-use crate::search::Choice;
 use crate::search::best_move;
 use crate::start::start;
+use cross_changes::make_move;
+use cross_moves::pair::Move;
+use cross_pairs::search::Choice;
 use day::matrix::scale;
 use engine::Ended;
 use numbers::gain_floor;
@@ -18,9 +18,10 @@ ghost use Rattle.edits.specs.Total.{SameVisits};
 ghost use Rattle.lists.specs.Table.{lists};
 ghost use Rattle.evaluation.specs.Columns.{columnsAt};
 ghost use Rattle.fleet.specs.Fleet.{fleetAt, Crewed, Manned};
-ghost use Rattle.cross_depot.specs.CrossDepot.{lentPlan, runOf, ranOf, crossRan, Carried};
-ghost use Rattle.cross_depot.specs.Scan.{Asked, Held, planOf, nothing};
-ghost use Rattle.cross_depot.specs.Tables.{Makes, MadeIn, Chosen, Handed, crossedOf};
+ghost use Rattle.cross_moves.specs.CrossDepot.{lentPlan, runOf, ranOf, crossRan, Carried, planOf};
+ghost use Rattle.cross_pairs.specs.Scan.{Asked, Held, nothing};
+ghost use Rattle.cross_changes.specs.Tables.{Makes};
+ghost use Rattle.cross_depot.specs.Tables.{MadeIn, Chosen, Handed, crossedOf};
 
 // How a run ended, and how many lists remain.
 pub struct Crossed {

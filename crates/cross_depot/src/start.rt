@@ -4,7 +4,7 @@ ghost use mathlib.Core.Path.{_≡_};
 ghost use Prim.Native.Nat.{_≤_, _<_};
 ghost use lib.ListN.{length};
 ghost use Rattle.fleet.specs.Fleet.{fleetAt, Fitted};
-ghost use Rattle.cross_depot.specs.CrossDepot.{foundIds, startingCosts};
+ghost use Rattle.cross_moves.specs.CrossDepot.{foundIds, startingCosts};
 
 // Puts the id of the van that is found in the place of each list's.
 fn found_ids(

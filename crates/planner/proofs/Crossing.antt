@@ -15,8 +15,8 @@ use Rattle.fleet.specs.Fleet.{Fleet, Crewed}
 use Rattle.lists.specs.Table.{lists}
 use Rattle.evaluation.specs.Columns.{columnsOf, formed}
 use Rattle.loads.proofs.Boxes.{loaded-of}
-use Rattle.cross_depot.specs.CrossDepot.{Carried}
-use Rattle.cross_depot.specs.Scan.{Asked, Held}
+use Rattle.cross_moves.specs.CrossDepot.{Carried}
+use Rattle.cross_pairs.specs.Scan.{Asked, Held}
 use Rattle.cross_depot.specs.Tables.{Handed, crossedOf}
 use Rattle.cross_depot.specs.declared.run.Crossed.{Crossed}
 use Rattle.planner.specs.Refusal.{refusalOfFleet, FineFleet}

@@ -7,7 +7,7 @@ use Rattle.day.specs.Day.{Day}
 use Rattle.fleet.specs.Fleet.{Fleet}
 use Rattle.lists.specs.Table.{lists, flat}
 use Rattle.evaluation.specs.Columns.{columnsOf}
-use Rattle.cross_depot.specs.CrossDepot.{Ran, crossRan}
+use Rattle.cross_moves.specs.CrossDepot.{Ran, crossRan}
 use Rattle.planner.specs.Refusal.{refusalOfFleet}
 use Rattle.planner.specs.Answer.{unlessRefused}
 use Rattle.planner.specs.Rearrange.{rearrangedAs, padded}

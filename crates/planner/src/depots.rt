@@ -9,7 +9,7 @@ ghost use Rattle.day.specs.Day.{dayAt};
 ghost use Rattle.edits.specs.Total.{SameVisits};
 ghost use Rattle.lists.specs.Table.{lists};
 ghost use Rattle.fleet.specs.Fleet.{fleetAt};
-ghost use Rattle.cross_depot.specs.CrossDepot.{Carried};
+ghost use Rattle.cross_moves.specs.CrossDepot.{Carried};
 ghost use Rattle.planner.specs.CrossDepot.{crossAnswer, crossVisits, crossLengths, crossIds};
 ghost use Rattle.planner.specs.Demand3.{remainingIn};
 

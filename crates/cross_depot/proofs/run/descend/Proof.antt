@@ -9,7 +9,7 @@ use lib.ListN.{length, take}
 use Rattle.edits.proofs.Kept.{same-length as kept-length}
 use Rattle.evaluation.specs.Columns.{columns}
 use Rattle.fleet.specs.Fleet.{fleetOf}
-use Rattle.cross_depot.specs.Scan.{planOf}
+use Rattle.cross_moves.specs.CrossDepot.{planOf}
 use Rattle.cross_depot.proofs.Going.{Live, Running, part, live-asks, begins, answers-settled, answers-stopped, goes-on-made}
 use Rattle.cross_depot.proofs.run.descend.Statement.{statement}
 use Rattle.cross_depot.proofs.run.descend.Tie as tie

@@ -7,8 +7,9 @@ use lib.ListN.{length}
 use Rattle.evaluation.specs.Columns.{columns}
 use Rattle.descent.specs.Order.{range}
 use Rattle.fleet.specs.Fleet.{fleetOf}
-use Rattle.cross_depot.specs.Scan.{scan, planOf, bestOfPair, bestFrom}
-use Rattle.cross_depot.proofs.Scanning.{scan-turn, scan-done}
+use Rattle.cross_pairs.specs.Scan.{scan, bestOfPair, bestFrom}
+use Rattle.cross_moves.specs.CrossDepot.{planOf}
+use Rattle.cross_pairs.proofs.Scanning.{scan-turn, scan-done}
 use Rattle.cross_depot.proofs.Pairs.{two-of, pair-driven, from-start, pair-same, pair-apart, pair-other}
 use Rattle.cross_depot.proofs.search.best_from.Statement.{statement}
 use Rattle.cross_depot.proofs.search.best_from.Tie as tie

@@ -6,8 +6,9 @@ use lib.ListN.{length}
 use Rattle.evaluation.specs.Columns.{columns}
 use Rattle.descent.specs.Order.{range}
 use Rattle.fleet.specs.Fleet.{fleetOf}
-use Rattle.cross_depot.specs.Scan.{scan, planOf, bestFrom, bestOf}
-use Rattle.cross_depot.proofs.Scanning.{scan-turn, scan-done}
+use Rattle.cross_pairs.specs.Scan.{scan, bestFrom, bestOf}
+use Rattle.cross_moves.specs.CrossDepot.{planOf}
+use Rattle.cross_pairs.proofs.Scanning.{scan-turn, scan-done}
 use Rattle.cross_depot.proofs.Pairs.{all-start}
 use Rattle.cross_depot.proofs.search.best_move.Statement.{statement}
 use Rattle.cross_depot.proofs.search.best_move.Tie as tie

@@ -1,0 +1,4 @@
+pub mod Loads
+pub mod Stretch
+pub mod Fitting
+pub mod Scanning
