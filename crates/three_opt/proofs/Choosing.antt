@@ -18,8 +18,7 @@ use Rattle.descent.specs.Search.{least, firstLeast, ok, taken}
 use Rattle.descent.specs.Within.{Reconnection}
 use Rattle.descent.proofs.Members.{T-true, true-T, and-parts, and-both}
 use Rattle.descent.proofs.Loops.{range-step, range-done, least-better, least-stays, first-found, first-passed}
-use Rattle.layouts.specs.Layout.{wayOf}
-use Rattle.three_opt.specs.ThreeOpt.{searchOf, judgeOf, cutOf, reconnection, moveOf, better}
+use Rattle.three_opt.specs.ThreeOpt.{searchOf, judgeOf, cutOf, wayOf, reconnection, moveOf, better}
 use Rattle.three_opt.specs.declared.Place.{Place}
 use Rattle.three_opt.specs.declared.Choice.{Choice}
 

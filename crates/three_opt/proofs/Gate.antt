@@ -12,8 +12,7 @@ use Rattle.descent.specs.Search.{taken}
 use Rattle.deltas.specs.Changes.{patternChange}
 use Rattle.deltas.specs.Deltas.{cutAt}
 use Rattle.deltas.specs.declared.Cut.{Cut}
-use Rattle.layouts.specs.Layout.{wayOf}
-use Rattle.three_opt.specs.ThreeOpt.{searchOf, judgeOf, Prepared, cutOf, moveOf, better}
+use Rattle.three_opt.specs.ThreeOpt.{searchOf, judgeOf, Prepared, cutOf, wayOf, moveOf, better}
 use Rattle.three_opt.specs.Below.{below, anyBelow}
 use Rattle.three_opt.specs.declared.Setup.{Setup}
 use Rattle.three_opt.specs.declared.Place.{Place}

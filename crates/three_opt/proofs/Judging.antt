@@ -14,8 +14,7 @@ use Rattle.deltas.specs.Deltas.{Listed, cutAt, threeOptDelta}
 use Rattle.deltas.specs.declared.Cut.{Cut}
 use Rattle.deltas.proofs.Stops.{around-placed, ends-placed}
 use Rattle.engine.specs.Engine.{passing}
-use Rattle.layouts.specs.Layout.{wayOf}
-use Rattle.three_opt.specs.ThreeOpt.{searchOf, judgeOf, Prepared, reconnection, better}
+use Rattle.three_opt.specs.ThreeOpt.{searchOf, judgeOf, Prepared, wayOf, reconnection, better}
 use Rattle.three_opt.specs.declared.Setup.{Setup}
 use Rattle.three_opt.specs.declared.Place.{Place}
 use Rattle.three_opt.specs.declared.Choice.{Choice}

@@ -1,11 +1,12 @@
 -- 3-opt as the code goes about it: what a run keeps at hand, the patterns by their numbers, the best pattern so far, and the place behind a place.
 -- For the contracts of src/; the engine's own definition is `three-opt` of descent. Assumes nothing.
 use mathlib.Core.Path.{_≡_}
-use mathlib.Core.Bool.{cond, _&&_}
+use mathlib.Core.Bool.{false, cond, _&&_}
 use mathlib.Core.Option.{Option, none, some}
-use mathlib.Core.List.{List, []}
-use Prim.Native.Nat.{ℕ, zero, suc, _+_, _<_, _≤_}
+use mathlib.Core.List.{List, [], _∷_}
+use Prim.Native.Nat.{ℕ, zero, suc, _+_, _<_}
 use lib.Dec.{ltb}
+use lib.ListN.{getD}
 use lib.Ieee.{Float}
 use Rattle.numbers.specs.Operations.{zero64}
 use Rattle.numbers.specs.Floor.{gainFloor}
@@ -13,18 +14,16 @@ use Rattle.day.specs.Matrix.{scaleOf}
 use Rattle.day.specs.declared.vehicle.RouteLimits.{RouteLimits}
 use Rattle.evaluation.specs.Columns.{Columns, Formed}
 use Rattle.evaluation.specs.Route.{checksNeeded}
-use Rattle.heads.specs.Head.{Driven}
-use Rattle.heads.specs.declared.Head.{Head}
-use Rattle.descent.specs.Permitted.{three-opt}
+use Rattle.descent.specs.Permitted.{Arrangement, seven, three-opt}
 use Rattle.descent.specs.Search.{Search, Judge}
 use Rattle.descent.specs.Within.{Cut, Reconnection}
 use Rattle.descent.specs.Engines.{search-of}
 use Rattle.deltas.specs.Deltas.{Marked}
 use Rattle.deltas.specs.Judged.{float-judge}
 use Rattle.engine.specs.Engine.{checksOf, mapOf}
-use Rattle.layouts.specs.Layout.{wayOf}
 use Rattle.three_opt.specs.declared.Setup.{Setup}
 use Rattle.three_opt.specs.declared.Place.{Place}
+use Rattle.three_opt.specs.declared.Way.{Way}
 use Rattle.three_opt.specs.declared.Choice.{Choice}
 
 -- the engine's search on a day, with a van's limits and depot
@@ -43,10 +42,6 @@ pub record Prepared (s : Setup) (c : Columns) : Type 0 where
   pub marked : Marked (c .l) (c .distances) (s .symmetric)
   pub needed : s .needed ≡ checksNeeded (c .flags) (s .limits)
 
--- a head of the list that reaches no further than the cut behind its visit i
-abbrev pub Shared : Setup → Columns → List ℕ → Head → ℕ → Type 0
-Shared s c xs head i = Driven c (s .limits .rest) (s .depot) xs head × (head .visits ≤ i + 1)
-
 -- ---- places and patterns
 
 -- a place of a list of n visits
@@ -58,6 +53,14 @@ pub record Inside (n : ℕ) (place : Place) : Type 0 where
 -- the place as the definition has it
 abbrev pub cutOf : Place → Cut
 cutOf place = record { i = place .i; j = place .j; k = place .k }
+
+-- the Rust's patterns 1 to 7; 0 leaves the list as it is
+unfoldable pub wayOf : ℕ → Arrangement
+wayOf pattern = getD ((false, false, false) ∷ seven) pattern (false, false, false)
+
+-- an arrangement as the code has it
+abbrev pub arrangement : Way → Arrangement
+arrangement way = (way .exchanged, way .«b_turned», way .«c_turned»)
 
 -- a pattern at a place, as a candidate
 abbrev pub reconnection : Place → ℕ → Reconnection

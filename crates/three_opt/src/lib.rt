@@ -11,27 +11,24 @@ use day::vehicle::RouteLimits;
 use deltas::Cut;
 use deltas::cut_at;
 use deltas::pattern_change;
+use edits::append_stretch;
+use edits::append_stretch_reversed;
 use engine::Ended;
+use engine::passes;
 use evaluation::route::route_checks_needed;
-use heads::Head;
-use heads::at_depot;
-use layouts::head_up_to;
-use layouts::laid_passes;
-use layouts::rearrange;
-use layouts::reconnection;
-use layouts::way_of;
 use numbers::gain_floor;
 use tests::either;
 ghost use mathlib.Core.Path.{_≡_};
 ghost use mathlib.Core.Bool.{true};
-ghost use mathlib.Core.List.{[]};
-ghost use Prim.Native.Nat.{_<_, _≤_};
-ghost use lib.ListN.{length};
+ghost use mathlib.Core.List.{[], _++_};
+ghost use Prim.Native.Nat.{_+_, _-_, _<_, _≤_};
+ghost use lib.ListN.{length, take};
+ghost use lib.Seq.{slice};
 ghost use Rattle.numbers.specs.Operations.{zero64};
 ghost use Rattle.day.specs.Matrix.{leg, Square};
 ghost use Rattle.day.specs.Refusal.{allPlain};
 ghost use Rattle.evaluation.specs.Columns.{columnsAt, Formed, Visits};
-ghost use Rattle.descent.specs.Permitted.{three-opt};
+ghost use Rattle.descent.specs.Permitted.{turn, arranged, three-opt};
 ghost use Rattle.descent.specs.Search.{taken};
 ghost use Rattle.descent.specs.Within.{reconnect};
 ghost use Rattle.descent.specs.Engines.{run-of};
@@ -39,7 +36,7 @@ ghost use Rattle.deltas.specs.Changes.{Placed};
 ghost use Rattle.deltas.specs.Deltas.{cutAt};
 ghost use Rattle.deltas.specs.Judged.{float-judge};
 ghost use Rattle.engine.specs.Engine.{passing, checksOf, mapOf, endedAs};
-ghost use Rattle.three_opt.specs.ThreeOpt.{searchOf, judgeOf, Prepared, Inside, Shared, cutOf, reconnection};
+ghost use Rattle.three_opt.specs.ThreeOpt.{searchOf, judgeOf, Prepared, Inside, cutOf, wayOf, arrangement, reconnection};
 ghost use Rattle.three_opt.specs.ThreeOpt.{moveOf, better, placeAfter};
 ghost use Rattle.three_opt.specs.Below.{anyBelow};
 
@@ -63,15 +60,132 @@ struct Place {
     k: usize,
 }
 
+// How the pieces B and C are put back.
+struct Way {
+    exchanged: bool,
+    b_turned: bool,
+    c_turned: bool,
+}
+
 // The best pattern so far with its delta; 0 is none, and its delta is minus the floor.
 struct Choice {
     pattern: usize,
     delta: f64,
 }
 
+// The Rust's patterns by their numbers.
+fn way_of(pattern: usize) -> Way
+    requires { ⌜ pattern < 8 ⌝ }
+    ensures { λ r. ⌜ arrangement r ≡ wayOf pattern ⌝ }
+{
+    match pattern {
+        0 => Way {
+            exchanged: false,
+            b_turned: false,
+            c_turned: false,
+        },
+        1 => Way {
+            exchanged: false,
+            b_turned: false,
+            c_turned: true,
+        },
+        2 => Way {
+            exchanged: false,
+            b_turned: true,
+            c_turned: false,
+        },
+        3 => Way {
+            exchanged: false,
+            b_turned: true,
+            c_turned: true,
+        },
+        4 => Way {
+            exchanged: true,
+            b_turned: false,
+            c_turned: false,
+        },
+        5 => Way {
+            exchanged: true,
+            b_turned: true,
+            c_turned: false,
+        },
+        6 => Way {
+            exchanged: true,
+            b_turned: false,
+            c_turned: true,
+        },
+        _ => Way {
+            exchanged: true,
+            b_turned: true,
+            c_turned: true,
+        },
+    }
+}
+
 // ---- a candidate
 
-// Whether the list as a pattern has it passes, driven from the end of the head that it shares with the list.
+// Appends a stretch as it is, or turned round.
+fn append_turned(
+    turned: bool,
+    buffer: &mut [u16],
+    count: usize,
+    list: &[u16],
+    from: usize,
+    to: usize,
+) -> usize
+    requires { ⌜ (from ≤ to) × (to ≤ length (now list)) ⌝ }
+    requires { ⌜ count + (to - from) ≤ length (now buffer) ⌝ }
+    ensures { λ r. ⌜ r ≡ count + (to - from) ⌝ }
+    ensures { λ r. ⌜ take r (now (buffer .exit)) ≡ take count (now (buffer .entry)) ++ turn turned (slice from to (now (list .entry))) ⌝ }
+{
+    if turned {
+        return append_stretch_reversed(buffer, count, list, from, to);
+    }
+    append_stretch(buffer, count, list, from, to)
+}
+
+// Appends the pieces B, from b to c, and C, from c to d.
+fn append_pieces(
+    way: Way,
+    buffer: &mut [u16],
+    count: usize,
+    list: &[u16],
+    b: usize,
+    c: usize,
+    d: usize,
+) -> usize
+    requires { ⌜ (b ≤ c) × (c ≤ d) × (d ≤ length (now list)) ⌝ }
+    requires { ⌜ count + (d - b) ≤ length (now buffer) ⌝ }
+    ensures { λ r. ⌜ r ≡ count + (d - b) ⌝ }
+    ensures { λ r.
+        ⌜ take r (now (buffer .exit))
+        ≡ take count (now (buffer .entry)) ++ arranged (arrangement way) (slice b c (now (list .entry))) (slice c d (now (list .entry))) ⌝ }
+{
+    if way.exchanged {
+        let middle = append_turned(way.c_turned, buffer, count, list, c, d);
+        return append_turned(way.b_turned, buffer, middle, list, b, c);
+    }
+    let middle = append_turned(way.b_turned, buffer, count, list, b, c);
+    append_turned(way.c_turned, buffer, middle, list, c, d)
+}
+
+// Builds the list as a pattern has it, at the front of the buffer.
+fn reconnected_into(buffer: &mut [u16], list: &[u16], place: Place, pattern: usize) -> usize
+    requires { ⌜ Inside (length (now list)) place × (pattern < 8) ⌝ }
+    requires { ⌜ length (now list) ≤ length (now buffer) ⌝ }
+    ensures { λ r. ⌜ r ≡ length (now (list .entry)) ⌝ }
+    ensures { λ r. ⌜ take r (now (buffer .exit)) ≡ reconnect (now (list .entry)) (reconnection place pattern) ⌝ }
+{
+    let b = place.i + 1;
+    let c = place.j + 1;
+    let d = place.k + 1;
+    let way = way_of(pattern);
+    let head = append_stretch(buffer, 0, list, 0, b);
+    let pieces = append_pieces(way, buffer, head, list, b, c, d);
+    append_stretch(buffer, pieces, list, d, list.len())
+}
+
+// Whether the list as a pattern has it passes. Where no check is needed it is not built.
 fn candidate_passes(
     setup: Setup,
     flags: &[u8],
@@ -82,22 +196,25 @@ fn candidate_passes(
     distances: &[f64],
     times: &[f64],
     list: &[u16],
-    head: Head,
+    buffer: &mut [u16],
     place: Place,
     pattern: usize,
 ) -> bool
-    requires { ⌜ Prepared setup (columnsAt (setup .l) flags service ready due penalty distances times) × Visits (setup .l) (now list) ⌝ }
+    requires { ⌜ Prepared setup (columnsAt (setup .l) flags service ready due penalty distances times) ⌝ }
+    requires { ⌜ Visits (setup .l) (now list) × (length (now list) ≤ length (now buffer)) ⌝ }
     requires { ⌜ Inside (length (now list)) place × (pattern < 8) ⌝ }
-    requires { ⌜ Shared setup (columnsAt (setup .l) flags service ready due penalty distances times) (now list) head (place .i) ⌝ }
     ensures { λ r.
         ⌜ r ≡ passing (setup .needed)
         (columnsAt (setup .l) (flags .entry) (service .entry) (ready .entry) (due .entry) (penalty .entry) (distances .entry) (times .entry))
         (setup .limits) (setup .depot)
         (reconnect (now (list .entry)) (reconnection place pattern)) ⌝ }
 {
+    if !setup.needed {
+        return true;
+    }
+    let end = reconnected_into(buffer, list, place, pattern);
     let limits = setup.limits;
-    let candidate = reconnection(place.i, place.j, place.k, pattern);
-    laid_passes(
+    passes(
         setup.needed,
         setup.l,
         flags,
@@ -109,9 +226,7 @@ fn candidate_passes(
         times,
         limits,
         setup.depot,
-        list,
-        head,
-        candidate,
+        &buffer[0..end],
     )
 }
 
@@ -126,15 +241,15 @@ fn better_of(
     distances: &[f64],
     times: &[f64],
     list: &[u16],
-    head: Head,
+    buffer: &mut [u16],
     place: Place,
     cut: Cut,
     best: Choice,
     pattern: usize,
 ) -> Choice
-    requires { ⌜ Prepared setup (columnsAt (setup .l) flags service ready due penalty distances times) × Visits (setup .l) (now list) ⌝ }
+    requires { ⌜ Prepared setup (columnsAt (setup .l) flags service ready due penalty distances times) ⌝ }
+    requires { ⌜ Visits (setup .l) (now list) × (length (now list) ≤ length (now buffer)) ⌝ }
     requires { ⌜ Inside (length (now list)) place × (pattern < 8) ⌝ }
-    requires { ⌜ Shared setup (columnsAt (setup .l) flags service ready due penalty distances times) (now list) head (place .i) ⌝ }
     requires { ⌜ cut ≡ cutAt (leg (setup .l) (now distances)) (setup .depot) (now list) (place .i) (place .j) (place .k) ⌝ }
     ensures { λ r.
         ⌜ (let c = columnsAt (setup .l) (flags .entry) (service .entry) (ready .entry) (due .entry) (penalty .entry) (distances .entry) (times .entry)
@@ -162,7 +277,7 @@ fn better_of(
         distances,
         times,
         list,
-        head,
+        buffer,
         place,
         pattern,
     ) {
@@ -198,12 +313,12 @@ fn best_pattern(
     distances: &[f64],
     times: &[f64],
     list: &[u16],
-    head: Head,
+    buffer: &mut [u16],
     place: Place,
 ) -> usize
-    requires { ⌜ Prepared setup (columnsAt (setup .l) flags service ready due penalty distances times) × Visits (setup .l) (now list) ⌝ }
+    requires { ⌜ Prepared setup (columnsAt (setup .l) flags service ready due penalty distances times) ⌝ }
+    requires { ⌜ Visits (setup .l) (now list) × (length (now list) ≤ length (now buffer)) ⌝ }
     requires { ⌜ Inside (length (now list)) place ⌝ }
-    requires { ⌜ Shared setup (columnsAt (setup .l) flags service ready due penalty distances times) (now list) head (place .i) ⌝ }
     ensures { λ r.
         ⌜ (let c = columnsAt (setup .l) (flags .entry) (service .entry) (ready .entry) (due .entry) (penalty .entry) (distances .entry) (times .entry)
         in moveOf place r ≡ taken (searchOf c (setup .limits) (setup .depot)) (judgeOf c (setup .depot)) (now (list .entry)) (cutOf place)) ⌝ }
@@ -239,7 +354,7 @@ fn best_pattern(
             distances,
             times,
             list,
-            head,
+            buffer,
             place,
             cut,
             best,
@@ -280,15 +395,12 @@ fn place_after(n: usize, place: Place) -> Place
 
 // Makes a move: the list is built in the buffer and copied back.
 fn make_move(list: &mut [u16], buffer: &mut [u16], place: Place, pattern: usize)
-    requires { ⌜ Inside (length (now list)) place × (length (now list) ≤ 63) × (pattern < 8) ⌝ }
+    requires { ⌜ Inside (length (now list)) place × (pattern < 8) ⌝ }
     requires { ⌜ length (now list) ≤ length (now buffer) ⌝ }
     ensures { λ _. ⌜ now (list .exit) ≡ reconnect (now (list .entry)) (reconnection place pattern) ⌝ }
 {
-    rearrange(
-        list,
-        buffer,
-        reconnection(place.i, place.j, place.k, pattern),
-    );
+    let end = reconnected_into(buffer, list, place, pattern);
+    append_stretch(list, 0, buffer, 0, end);
 }
 
 // Passes from place to place and makes move after move, until a sweep has found none or the limit is used up. A sweep starts again after a move, so
@@ -314,29 +426,9 @@ fn descend(
         (float-judge three-opt (mapOf (setup .l) (now (distances .entry)) (setup .depot) zero64)) limit (now (list .entry))
         in (now (list .exit) ≡ run .last .now) × (r ≡ endedAs (run .word) (run .moves))) ⌝ }
 {
-    let needed = setup.needed;
-    let limits = setup.limits;
-    let rest = limits.rest;
     let mut moves = 0;
-    let mut head = at_depot(setup.depot);
     let mut place = Place { i: 0, j: 1, k: 2 };
     while place.k < list.len() {
-        head = head_up_to(
-            needed,
-            setup.l,
-            flags,
-            service,
-            ready,
-            due,
-            penalty,
-            distances,
-            times,
-            rest,
-            setup.depot,
-            list,
-            head,
-            place.i + 1,
-        );
         let pattern = best_pattern(
             setup,
             flags,
@@ -347,7 +439,7 @@ fn descend(
             distances,
             times,
             list,
-            head,
+            buffer,
             place,
         );
         if pattern == 0 {
@@ -359,7 +451,6 @@ fn descend(
         }
         make_move(list, buffer, place, pattern);
         moves += 1;
-        head = at_depot(setup.depot);
         place = Place { i: 0, j: 1, k: 2 }; // starts again
     }
     Ended::Settled(moves)

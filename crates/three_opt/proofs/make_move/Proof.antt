@@ -1,26 +1,17 @@
--- `make_move`: the list as a pattern has it is a layout of the list, and the callee makes it.
+-- `make_move`: the list is overwritten as a whole by the list that was built, which is as long.
 use borrow.Author.Needs.{needs}
-use native.Mathlib.Omega.{arith}
-use mathlib.Core.Path.{_∙_}
-use Rattle.three_opt.proofs.Reconnected.{laid-is, laid-cut}
+use mathlib.Core.Path.{ap, _∙_}
+use lib.ListN.{length}
+use Rattle.edits.proofs.Chain.{appended-whole}
+use Rattle.three_opt.proofs.Reconnected.{length-reconnected}
 use Rattle.three_opt.proofs.make_move.Statement.{statement}
 use Rattle.three_opt.proofs.make_move.Tie as tie
 
-reconnection-requires : tie.Need-reconnection-requires
-reconnection-requires c κs =
-    let start = c .before .before .before .before in
-    let inside = start .pre .0 .0 in
-    let few = start .pre .0 .1 in (
-      omega (arith, inside .i-first, inside .j-next, inside .k-there),
-      omega (arith, inside .j-next, inside .k-there),
-      omega (arith, inside .k-there),
-      start .pre .0 .2,
-    )
+reconnected-into-requires : tie.Need-reconnected-into-requires
+reconnected-into-requires c κs = search needs
 
-rearrange-requires : tie.Need-rearrange-requires
-rearrange-requires c κs =
-    let start = c .before .before .before .before .before in
-    (laid-cut _ _ _ _ (start .pre .0 .0) (c .reconnection .ensures), start .pre .1)
+append-stretch-requires : tie.Need-append-stretch-requires
+append-stretch-requires c κs = search needs
 
 same-length : tie.Need-same-length
 same-length c = search needs
@@ -29,8 +20,13 @@ same-length-2 : tie.Need-same-length-2
 same-length-2 c = search needs
 
 returns : tie.Need-returns
-returns c = c .before .before .before .before .rearrange .ensures ∙ laid-is _ _ _ _ (c .before .before .before .before .before .reconnection .ensures)
+returns c =
+    let at-append-stretch = c .before .before in
+    let at-reconnected-into = at-append-stretch .before .before .before .before .before in
+    let start = at-reconnected-into .before .before .before .before .before in
+    let as-long = length-reconnected (start .args .list .now) (start .args .place) (start .args .pattern) (start .pre .0 .0) in
+    appended-whole (at-append-stretch .append-stretch .ensures .1) (ap length (at-reconnected-into .reconnected-into .ensures .1) ∙ as-long)
+    ∙ at-reconnected-into .reconnected-into .ensures .1
 
 pub make-move-spec : {M : Type 1} → statement M
-make-move-spec =
-    tie.close (tie.spec reconnection-requires rearrange-requires same-length same-length-2 returns)
+make-move-spec = tie.close (tie.spec reconnected-into-requires append-stretch-requires same-length same-length-2 returns)
