@@ -38,7 +38,7 @@ fn wide(v: u16) -> usize
 }
 
 // The visit at a position.
-fn visit_at(list: &[u16], k: usize) -> usize
+pub fn visit_at(list: &[u16], k: usize) -> usize
     requires { ⌜ k < length (now list) ⌝ }
     ensures { λ r. ⌜ r ≡ getD (now (list .entry)) k 0 ⌝ }
 {

@@ -1,5 +1,4 @@
 pub mod Choosing
 pub mod Moved
 pub mod Sizes
-pub mod Running
 pub mod Claimed

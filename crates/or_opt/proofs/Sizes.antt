@@ -23,7 +23,7 @@ use Rattle.or_opt.specs.declared.Best.{Best}
 use Rattle.or_opt.specs.declared.Best.the-variants.{Nothing, Move}
 use Rattle.or_opt.proofs.Choosing.{then-more}
 use Rattle.or_opt.proofs.Moved.{is-put, asked-moved}
-use Rattle.or_opt.proofs.Running.{Going, going-moves}
+use Rattle.engine.proofs.Running.{Going, going-moves}
 
 -- the last position is within the list, whichever it is
 reach : (n size : ℕ) → last-position n size ≤ n

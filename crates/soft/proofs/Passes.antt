@@ -1,16 +1,14 @@
--- A pass over the places goes through the whole enumeration, and a run of passes is the run of the definition. Assumes nothing.
+-- A pass over the places goes through the whole enumeration, and its choice is the definition's next move. Assumes nothing.
 use mathlib.Core.Path.{_≡_, refl, sym, ap, _∙_}
 use mathlib.Core.Option.{Option, none, some}
 use mathlib.Core.List.{List, [], _∷_}
-use Prim.Native.Nat.{ℕ, suc, _+_, _-_, _≤_, _<_}
+use Prim.Native.Nat.{ℕ, suc, _<_}
 use native.Mathlib.Omega.{arith}
 use lib.ListN.{length}
 use lib.Ieee.{Float}
 use Rattle.numbers.specs.Operations.{_⊖_}
-use Rattle.descent.specs.Search.{taken, firstMove, next, Sweep, Outcome, settled, stopped, run}
-use Rattle.descent.proofs.Loops.{place-passed, place-moved, next-sweep, run-settles, run-stops, run-moves}
-use Rattle.engine.specs.Engine.{endedAs}
-use Rattle.engine.specs.declared.Ended.the-variants.{Settled, Stopped}
+use Rattle.descent.specs.Search.{taken, firstMove, next, Sweep}
+use Rattle.descent.proofs.Loops.{place-passed, place-moved, next-sweep}
 use Rattle.soft.specs.Soft.{Neighbour, neighbours, made, soft-search, soft-judge}
 use Rattle.soft.specs.Places.{meant, Inside, InsideAny, rest, Follows, chosen, better, Known}
 use Rattle.soft.proofs.Choice.{pick, pick-taken, pick-turn, known-none, known-turn}
@@ -67,7 +65,7 @@ scan-ends which price cost floor xs here₀ best here e all s end =
     rw (e, all) refl in
     (last ∙ s .same ∙ whole ∙ pick-taken which price floor xs, s .known)
 
--- ---- a run
+-- ---- a move
 
 -- a list with no place ahead
 abbrev pub at : List ℕ → Sweep (List ℕ) Unit
@@ -95,49 +93,3 @@ module _ (which : Neighbourhood) (price : List ℕ → Float) (floor : Float) wh
   one-step xs found place e f =
       let takes : taken (soft-search which) (soft-judge price floor) xs tt ≡ some (meant place) = sym e ∙ ap chosen f in
       from-the-start xs ∙ place-moved (soft-search which) (soft-judge price floor) xs tt [] (meant place) takes
-
--- after some moves of a run under a limit: what is left of it ends as the whole does
-pub record Underway {S : Type 0} (step : S → Option S) (limit : ℕ) (s₀ : S) (moves : ℕ) (s : S) : Type 0 where
-  pub low : moves ≤ limit
-  pub word : run step (limit - moves) s .word ≡ run step limit s₀ .word
-  pub count : moves + run step (limit - moves) s .moves ≡ run step limit s₀ .moves
-  pub last : run step (limit - moves) s .last ≡ run step limit s₀ .last
-
-module _ {S : Type 0} (step : S → Option S) (limit : ℕ) (s₀ : S) where
-  pub run-starts : Underway step limit s₀ 0 s₀
-  run-starts =
-      let all : limit - 0 ≡ limit = omega arith in
-      record { low = omega arith; word = rw all refl; count = rw all (omega arith); last = rw all refl }
-
-  pub run-goes-on : (moves : ℕ) (s t : S) → Underway step limit s₀ moves s → step s ≡ some t → moves < limit → Underway step limit s₀ (moves + 1) t
-  run-goes-on moves s t u e h =
-      let left : limit - moves ≡ suc (limit - (moves + 1)) = omega arith in
-      let one = ap (λ (k : ℕ). run step k s) left ∙ run-moves step (limit - (moves + 1)) s t e in
-      let counts : run step (limit - moves) s .moves ≡ suc (run step (limit - (moves + 1)) t .moves) = ap (λ (o : Outcome S). o .moves) one in
-      record {
-        low = omega arith;
-        word = sym (ap (λ (o : Outcome S). o .word) one) ∙ u .word;
-        count = omega (arith, u .count);
-        last = sym (ap (λ (o : Outcome S). o .last) one) ∙ u .last;
-      }
-
-  pub run-settled : (moves : ℕ) (s : S) → Underway step limit s₀ moves s → step s ≡ none
-      → (s ≡ run step limit s₀ .last) × (Settled moves ≡ endedAs (run step limit s₀ .word) (run step limit s₀ .moves))
-  unfolding endedAs
-  run-settled moves s u e =
-      let end = run-settles step (limit - moves) s e in
-      let none-more : run step (limit - moves) s .moves ≡ 0 = ap (λ (o : Outcome S). o .moves) end in
-      let all : moves ≡ run step limit s₀ .moves = omega (arith, u .count) in
-      let how : settled ≡ run step limit s₀ .word = sym (ap (λ (o : Outcome S). o .word) end) ∙ u .word in
-      (sym (ap (λ (o : Outcome S). o .last) end) ∙ u .last, rw (← how, ← all) refl)
-
-  pub run-stopped : (moves : ℕ) (s t : S) → Underway step limit s₀ moves s → step s ≡ some t → moves ≡ limit
-      → (s ≡ run step limit s₀ .last) × (Stopped moves ≡ endedAs (run step limit s₀ .word) (run step limit s₀ .moves))
-  unfolding endedAs
-  run-stopped moves s t u e h =
-      let none-left : limit - moves ≡ 0 = omega arith in
-      let end = ap (λ (k : ℕ). run step k s) none-left ∙ run-stops step s t e in
-      let none-more : run step (limit - moves) s .moves ≡ 0 = ap (λ (o : Outcome S). o .moves) end in
-      let all : moves ≡ run step limit s₀ .moves = omega (arith, u .count) in
-      let how : stopped ≡ run step limit s₀ .word = sym (ap (λ (o : Outcome S). o .word) end) ∙ u .word in
-      (sym (ap (λ (o : Outcome S). o .last) end) ∙ u .last, rw (← how, ← all) refl)

@@ -6,11 +6,10 @@ use mathlib.Core.Bool.{true, false, cond}
 use mathlib.Core.Option.{Option, none, some}
 use mathlib.Core.List.{List, [], _∷_, _++_, map}
 use lib.Dec.{ltb}
-use lib.ListN.{take, drop, getD}
-use lib.Seq.{slice}
+use lib.ListN.{drop, getD}
 use lib.Ieee.{Float, lt}
 use Rattle.descent.specs.Order.{range, each}
-use Rattle.descent.specs.Permitted.{Arrangement, seven, arranged}
+use Rattle.descent.specs.Permitted.{Arrangement, seven}
 use Rattle.descent.specs.Within.{Piece, pieces, Cut, Reconnection}
 use Rattle.descent.proofs.Loops.{reversals-from}
 use Rattle.soft.specs.Soft.{Neighbour, reversal, relocation, reconnection, ways, to-the-end, made}
@@ -18,7 +17,8 @@ use Rattle.soft.specs.declared.neighbours.Place.{Place}
 use Rattle.soft.specs.declared.neighbours.Place.the-variants.{Turned, Moved, Reconnected}
 use Rattle.soft.specs.declared.neighbours.Found.{Found}
 use Rattle.soft.specs.declared.neighbours.Found.the-variants.{Nothing, At}
-use Rattle.soft.specs.declared.layout.Layout.{Layout}
+use Rattle.layouts.specs.Layout.{laid, Cut-in}
+use Rattle.layouts.specs.declared.Layout.{Layout}
 use Rattle.soft.specs.declared.Best.{Best}
 
 -- the way of a number, 0 to 6
@@ -99,17 +99,6 @@ pub record Follows (n : ℕ) (place : Place) (r : Found) : Type 0 where
   pub inside : InsideAny n r
 
 -- ---- a list laid out
-
--- the pieces between the cuts take an arrangement
-unfoldable pub laid : List ℕ → Layout → List ℕ
-laid list p =
-    take (p .b) list ++ arranged (p .exchanged, p .«b_turned», p .«c_turned») (slice (p .b) (p .c) list) (slice (p .c) (p .d) list) ++ drop (p .d) list
-
--- the cuts stand in order in a list of n
-pub record Cut-in (n : ℕ) (p : Layout) : Type 0 where
-  pub b-c : p .b ≤ p .c
-  pub c-d : p .c ≤ p .d
-  pub d-n : p .d ≤ n
 
 -- laid out so, a list becomes the neighbour at a place
 pub record Lays (n : ℕ) (place : Place) (p : Layout) : Type 0 where

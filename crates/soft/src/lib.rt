@@ -1,12 +1,12 @@
 // local_search/soft.rs: the search within a list where a day has a soft window. A move that shortens a list can make its van late, and one that
 // lengthens it can save the lateness, so every neighbour is priced whole, and the one of least effective cost is taken (steepest descent).
 //
-// The Rust's closure over all neighbours is a loop over places here (neighbours.rt), each laid out in one lent buffer (layout.rt). A neighbour keeps
-// the list's first visits: their head is driven once for all that share it. The best so far is kept by its numbers, and made again at the end of the pass.
+// The Rust's closure over all neighbours is a loop over places here (neighbours.rt), each a layout of the list (layout.rt) in one lent buffer. A
+// neighbour keeps the list's first visits: their head is driven once for all that share it. The best so far is kept by its numbers, and made again at
+// the end of the pass.
 pub mod layout;
 pub mod neighbours;
 
-use crate::layout::lay_out;
 use crate::layout::layout_of;
 use crate::layout::make;
 use crate::neighbours::Found;
@@ -22,6 +22,7 @@ use heads::Head;
 use heads::at_depot;
 use heads::price_from;
 use heads::reach;
+use layouts::lay_out;
 use numbers::gain_floor;
 ghost use mathlib.Core.Path.{_≡_};
 ghost use Prim.Native.Nat.{_<_, _≤_};

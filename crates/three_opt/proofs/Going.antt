@@ -1,16 +1,14 @@
--- A run that is under way: what it has come to and what it still comes to are the whole run, so the loop ends with the run's own answer.
--- Within a sweep the next move is the first from the place on: a place that has none is passed. Assumes nothing.
+-- A run that passes from place to place: within a sweep the next move is the first from the place on: a place that has none is passed. Assumes nothing.
 use mathlib.Core.Path.{_≡_, refl, sym, ap, _∙_}
-use mathlib.Core.Option.{Option, none, some}
+use mathlib.Core.Option.{none, some}
 use mathlib.Core.List.{List, []}
-use Prim.Native.Nat.{ℕ, zero, suc, _+_, _-_, _≤_, _<_}
-use native.Mathlib.Omega.{arith}
+use Prim.Native.Nat.{ℕ, zero, suc, _+_, _≤_, _<_}
 use lib.ListN.{length}
 use Rattle.day.specs.declared.vehicle.RouteLimits.{RouteLimits}
 use Rattle.evaluation.specs.Columns.{Columns}
-use Rattle.descent.specs.Search.{Sweep, Outcome, settled, stopped, taken, firstMove, next, run}
+use Rattle.descent.specs.Search.{Sweep, taken, firstMove, next}
 use Rattle.descent.specs.Within.{Cut, cuts, reconnect}
-use Rattle.descent.proofs.Loops.{place-passed, place-moved, next-sweep, run-settles, run-stops, run-moves}
+use Rattle.descent.proofs.Loops.{place-passed, place-moved, next-sweep}
 use Rattle.descent.specs.Permitted.{three-opt}
 use Rattle.descent.specs.Engines.{run-of}
 use Rattle.numbers.specs.Operations.{zero64}
@@ -18,6 +16,7 @@ use Rattle.deltas.specs.Judged.{float-judge}
 use Rattle.engine.specs.Engine.{checksOf, mapOf, endedAs}
 use Rattle.engine.specs.declared.Ended.{Ended}
 use Rattle.engine.specs.declared.Ended.the-variants.{Settled, Stopped}
+use Rattle.engine.proofs.Running.{Going, going-starts, going-settles, going-stops, going-moves}
 use Rattle.three_opt.specs.ThreeOpt.{searchOf, judgeOf, cutOf, reconnection, moveOf, placeAfter}
 use Rattle.three_opt.specs.declared.Place.{Place}
 use Rattle.three_opt.proofs.Places.{cutsFrom, Standing, cuts-start, cuts-few, standing-start, standing-inside, cuts-turn, standing-turn, cuts-end}
@@ -39,56 +38,6 @@ module _ (c : Columns) (limits : RouteLimits) (depot : ℕ) (xs : List ℕ) wher
   pub none-there : firstMove (searchOf c limits depot) (judgeOf c depot) xs [] ≡ none
   unfolding firstMove
   none-there = refl
-
--- ---- a run
-
--- a run's outcome behind some moves
-abbrev pub behind : {S : Type 0} → ℕ → Outcome S → Outcome S
-behind moves r = record { word = r .word; moves = moves + r .moves; last = r .last }
-
--- after some moves the run is at a state, with the rest of the limit left
-pub record Going {S : Type 0} (step : S → Option S) (limit : ℕ) (first : S) (moves : ℕ) (now : S) : Type 0 where
-  pub left : ℕ
-  pub whole : moves + left ≡ limit
-  pub same : behind moves (run step left now) ≡ run step limit first
-
-module _ {S : Type 0} (step : S → Option S) (limit : ℕ) (first : S) where
-  pub going-start : Going step limit first 0 first
-  going-start =
-      let r = run step limit first in
-      let none-yet : 0 + r .moves ≡ r .moves = omega arith in
-      record { left = limit; whole = omega arith; same = ap (λ (n : ℕ). record { word = r .word; moves = n; last = r .last }) none-yet }
-
-  module _ (moves : ℕ) (now : S) (going : Going step limit first moves now) where
-    pub going-settled : step now ≡ none → run step limit first ≡ record { word = settled; moves = moves; last = now }
-    going-settled e =
-        let none-more : moves + 0 ≡ moves = omega arith in
-        sym (going .same) ∙ ap (behind moves) (run-settles step (going .left) now e)
-        ∙ ap (λ (n : ℕ). record { word = settled; moves = n; last = now }) none-more
-
-    pub going-stopped : (then : S) → step now ≡ some then → limit ≤ moves
-        → run step limit first ≡ record { word = stopped; moves = moves; last = now }
-    going-stopped then e h =
-        let none-more : moves + 0 ≡ moves = omega arith in
-        let used : going .left ≡ 0 = omega (arith, going .whole) in
-        sym (going .same) ∙ ap (λ (n : ℕ). behind moves (run step n now)) used ∙ ap (behind moves) (run-stops step now then e)
-        ∙ ap (λ (n : ℕ). record { word = stopped; moves = n; last = now }) none-more
-
-    pub going-on : (then : S) → step now ≡ some then → moves < limit → Going step limit first (moves + 1) then
-    going-on then e h =
-        let fewer : ℕ = going .left - 1 in
-        let one : going .left ≡ suc fewer = omega (arith, going .whole) in
-        record {
-          left = fewer;
-          whole = omega (arith, going .whole);
-          same = shift (run step fewer then)
-              ∙ sym (ap (λ (n : ℕ). behind moves (run step n now)) one ∙ ap (behind moves) (run-moves step fewer now then e)) ∙ going .same;
-        }
-      where
-        shift : (r : Outcome S) → behind (moves + 1) r ≡ behind moves (record { word = r .word; moves = suc (r .moves); last = r .last })
-        shift r =
-            let more : moves + 1 + r .moves ≡ moves + suc (r .moves) = omega arith in
-            ap (λ (n : ℕ). record { word = r .word; moves = n; last = r .last }) more
 
 -- ---- a run that passes from place to place
 
@@ -118,7 +67,7 @@ module _ (c : Columns) (limits : RouteLimits) (depot limit : ℕ) (first : List 
   }
 
   pub sweep-start : 4 ≤ length first → Sweeping 0 first (record { i = 0; j = 1; k = 2 })
-  sweep-start h = starts 0 first h (going-start _ limit _)
+  sweep-start h = starts 0 first h (going-starts _ limit _)
 
   -- what is to be shown of a list and an answer
   abbrev pub Answered : List ℕ → Ended → Type 0
@@ -131,15 +80,13 @@ module _ (c : Columns) (limits : RouteLimits) (depot limit : ℕ) (first : List 
       → next (searchOf c limits depot) (judgeOf c depot) (record { now = xs; ahead = [] }) ≡ none → Answered xs (Settled moves)
   unfolding run-of searchOf judgeOf endedAs
   settles moves xs going e =
-      let whole = going-settled _ _ _ moves _ going e in (
-        ap (λ (r : Outcome (Sweep (List ℕ) Cut)). r .last .now) (sym whole),
-        ap (λ (r : Outcome (Sweep (List ℕ) Cut)). endedAs (r .word) (r .moves)) (sym whole),
-      )
+      let whole = going-settles _ _ _ moves _ going e in
+      (ap (λ (s : Sweep (List ℕ) Cut). s .now) (whole .0), whole .1)
 
   -- a list of fewer than 4 visits has no places
   pub few-settled : length first < 4 → Answered first (Settled 0)
   few-settled h =
-      settles 0 first (going-start _ limit _)
+      settles 0 first (going-starts _ limit _)
       (all-ahead first ∙ ap (firstMove (searchOf c limits depot) (judgeOf c depot) first) (cuts-few (length first) h) ∙ none-there c limits depot first)
 
   module _ (moves : ℕ) (xs : List ℕ) (place : Place) (s : Sweeping moves xs place) where
@@ -173,14 +120,12 @@ module _ (c : Columns) (limits : RouteLimits) (depot limit : ℕ) (first : List 
       pub sweep-stopped : (p ≡ 0 → ⊥) → limit ≤ moves → Answered xs (Stopped moves)
       unfolding run-of searchOf judgeOf endedAs
       sweep-stopped h used =
-          let whole = going-stopped _ _ _ moves _ (s .going) _ (next-move h) used in (
-            ap (λ (r : Outcome (Sweep (List ℕ) Cut)). r .last .now) (sym whole),
-            ap (λ (r : Outcome (Sweep (List ℕ) Cut)). endedAs (r .word) (r .moves)) (sym whole),
-          )
+          let whole = going-stops _ _ _ moves _ _ (s .going) used (next-move h) in
+          (ap (λ (s : Sweep (List ℕ) Cut). s .now) (whole .0), whole .1)
 
       -- it is made, and the sweep starts again
       pub sweep-moved : (p ≡ 0 → ⊥) → moves < limit → Sweeping (moves + 1) (reconnect xs (reconnection place p)) (record { i = 0; j = 1; k = 2 })
       sweep-moved h room =
           starts (moves + 1) (reconnect xs (reconnection place p))
           (rw (length-reconnected xs place p (standing-inside (length xs) place (s .standing) there)) (s .four))
-          (going-on _ limit _ moves _ (s .going) _ (next-move h) room)
+          (going-moves _ limit _ moves _ _ (s .going) room (next-move h))

@@ -1,6 +1,5 @@
 pub mod Places
 pub mod Turns
-pub mod Runs
 pub mod Tried
 pub mod Going
 pub mod Claimed

@@ -2,7 +2,7 @@
 -- Assumes nothing.
 use mathlib.Core.Path.{_≡_, refl, sym, ap, _∙_}
 use mathlib.Core.Bool.{Bool, true, false, cond}
-use mathlib.Core.List.{[], _∷_}
+use mathlib.Core.List.{List, [], _∷_}
 use Prim.Native.Nat.{ℕ, zero, suc, _+_, _-_, _<_, _≤_}
 use native.Mathlib.Numerals.{add-one}
 use native.Mathlib.Omega.{arith}
@@ -11,8 +11,12 @@ use lib.Dec.{ltb}
 use lib.ListN.{length}
 use Rattle.descent.specs.Within.{reversals}
 use Rattle.descent.proofs.Loops.{reversals-from, reversals-start, reversals-turn, reversals-next, reversals-done}
+use Rattle.evaluation.specs.Columns.{Columns}
+use Rattle.heads.specs.Head.{atDepot}
+use Rattle.heads.proofs.Heads.{depot-driven}
+use Rattle.two_opt.specs.declared.Terms.{Terms}
 use Rattle.two_opt.specs.declared.Place.{Place}
-use Rattle.two_opt.specs.TwoOpt.{InSweep, reversalAt, next-in-row, next-row, placeAfter, from}
+use Rattle.two_opt.specs.TwoOpt.{Worked, Shared, InSweep, reversalAt, next-in-row, next-row, placeAfter, from}
 
 -- behind the last place of a row comes the next row, if there is one
 row-over : (n i : ℕ) → suc i < n → reversals-from n i n ≡ reversals-from n (suc i) (suc (suc i))
@@ -66,3 +70,18 @@ none-ahead n = record { ordered = omega arith; ends = λ past. past }
 -- how many places are left
 pub left-less : (n : ℕ) (p : Place) → p .first < p .last → p .last < n → length (from n (placeAfter n p)) < length (from n p)
 left-less n p order there = rw (from-turn n p order there) (omega arith)
+
+-- ---- the head that the reversals at a place share
+
+pub none-shared : {c : Columns} {t : Terms} (xs : List ℕ) (first : ℕ) → Worked c t → Shared c t xs (atDepot (t .depot)) first
+unfolding atDepot
+none-shared xs first w = (depot-driven _ _ _ xs (w .depot-there), omega arith)
+
+-- the next place is no further to the front
+pub still-behind : (n k : ℕ) (p : Place) → k ≤ p .first → k ≤ placeAfter n p .first
+unfolding placeAfter
+still-behind n k p h = go (ltb (p .last + 1) n)
+  where
+    go : (b : Bool) → k ≤ cond b (next-in-row p) (next-row p) .first
+    go true = h
+    go false = omega arith

@@ -14,6 +14,8 @@ use Rattle.day.specs.Refusal.{allPlain}
 use Rattle.edits.specs.Edits.{reversed}
 use Rattle.evaluation.specs.Columns.{Columns, Formed}
 use Rattle.evaluation.specs.Route.{checksNeeded}
+use Rattle.heads.specs.Head.{Driven}
+use Rattle.heads.specs.declared.Head.{Head}
 use Rattle.descent.specs.Permitted.{two-opt}
 use Rattle.descent.specs.Search.{Search, Judge, Sweep, ok, firstMove, next}
 use Rattle.descent.specs.Within.{Reversal, two-opt-search}
@@ -41,6 +43,10 @@ searching c t = two-opt-search (checksOf [] c (t .limits) (t .depot))
 -- and how it judges; the fixed cost is in no delta within a list
 abbrev pub judging : Columns → Terms → Judge (List ℕ) Reversal Float
 judging c t = float-judge two-opt (mapOf (c .l) (c .distances) (t .depot) zero64)
+
+-- a head of the list that reaches no further than a place
+abbrev pub Shared : Columns → Terms → List ℕ → Head → ℕ → Type 0
+Shared c t xs head first = Driven c (t .limits .rest) (t .depot) xs head × (head .visits ≤ first)
 
 -- ---- places
 

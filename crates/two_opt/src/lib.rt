@@ -9,8 +9,12 @@ use day::vehicle::RouteLimits;
 use deltas::two_opt_delta;
 use edits::reverse;
 use engine::Ended;
-use engine::passes;
 use evaluation::route::route_checks_needed;
+use heads::Head;
+use heads::at_depot;
+use layouts::head_up_to;
+use layouts::laid_passes;
+use layouts::reversal;
 use numbers::counts_as_gain;
 use numbers::gain_floor;
 ghost use mathlib.Core.Path.{_≡_};
@@ -26,7 +30,7 @@ ghost use Rattle.descent.specs.Search.{run};
 ghost use Rattle.descent.specs.Engines.{run-of};
 ghost use Rattle.deltas.specs.Judged.{float-judge};
 ghost use Rattle.engine.specs.Engine.{checksOf, mapOf, endedAs};
-ghost use Rattle.two_opt.specs.TwoOpt.{Worked, InSweep, Searched, placeAfter, from, gains, turnedAt, firstTurn, nextTurn};
+ghost use Rattle.two_opt.specs.TwoOpt.{Worked, InSweep, Shared, Searched, placeAfter, from, gains, turnedAt, firstTurn, nextTurn};
 
 // The constants of a run: worked out once, before the first move.
 struct Terms {
@@ -67,8 +71,8 @@ fn place_after(n: usize, place: Place) -> Place
     }
 }
 
-// Reverses the visits of a place where that gains and the result passes, and says whether it did. The list itself is what is checked, so a reversal
-// that is refused is turned back.
+// Reverses the visits of a place where that gains and the result passes, and says whether it did. The result shares a head with the list, and is driven
+// from there on before it is made.
 fn try_reversal(
     terms: Terms,
     flags: &[u8],
@@ -79,10 +83,12 @@ fn try_reversal(
     distances: &[f64],
     times: &[f64],
     list: &mut [u16],
+    head: Head,
     place: Place,
 ) -> bool
     requires { ⌜ Worked (columnsAt (terms .l) flags service ready due penalty distances times) terms × Visits (terms .l) (now list) ⌝ }
     requires { ⌜ (place .first < place .last) × (place .last < length (now list)) ⌝ }
+    requires { ⌜ Shared (columnsAt (terms .l) flags service ready due penalty distances times) terms (now list) head (place .first) ⌝ }
     ensures { λ r.
         ⌜ r ≡ gains
         (columnsAt (terms .l) (flags .entry) (service .entry) (ready .entry) (due .entry) (penalty .entry) (distances .entry) (times .entry)) terms
@@ -91,17 +97,19 @@ fn try_reversal(
 {
     let l = terms.l;
     let depot = terms.depot;
-    let limits = terms.limits;
     let first = place.first;
     let last = place.last;
     let end = last + 1;
     let delta = two_opt_delta(l, distances, terms.symmetric, depot, list, first, last);
-    if !counts_as_gain(delta, terms.floor) {
+    let gains = counts_as_gain(delta, terms.floor);
+    if !gains {
         return false;
     }
-    reverse(list, first, end);
-    if passes(
-        terms.needed,
+    let limits = terms.limits; // copied for the few that gain, not at each place
+    let needed = terms.needed;
+    let turned = reversal(first, end);
+    let passed = laid_passes(
+        needed,
         l,
         flags,
         service,
@@ -113,11 +121,14 @@ fn try_reversal(
         limits,
         depot,
         list,
-    ) {
-        return true;
+        head,
+        turned,
+    );
+    if !passed {
+        return false;
     }
-    reverse(list, first, end); // refused, so turned back
-    false
+    reverse(list, first, end);
+    true
 }
 
 // Makes the first move from a place of the sweep on.
@@ -143,8 +154,27 @@ fn first_move(
         (now (list .entry)) (now (list .exit)) r ⌝ }
 {
     let n = list.len();
+    let limits = terms.limits;
+    let rest = limits.rest;
+    let mut head = at_depot(terms.depot);
     let mut place = start;
     while place.last < n {
+        head = head_up_to(
+            terms.needed,
+            terms.l,
+            flags,
+            service,
+            ready,
+            due,
+            penalty,
+            distances,
+            times,
+            rest,
+            terms.depot,
+            list,
+            head,
+            place.first,
+        );
         if try_reversal(
             terms,
             flags,
@@ -155,6 +185,7 @@ fn first_move(
             distances,
             times,
             list,
+            head,
             place,
         ) {
             return Found::At(place);

@@ -12,7 +12,7 @@ use Rattle.descent.specs.Search.{Sweep, next}
 use Rattle.descent.specs.Engines.{run-of}
 use Rattle.or_opt.specs.OrOpt.{searchOf, judgeOf, Asked, Apt, leads}
 use Rattle.or_opt.proofs.Sizes.{moved-on}
-use Rattle.or_opt.proofs.Running.{Going, going-starts, going-settles, going-stops}
+use Rattle.engine.proofs.Running.{Going, going-starts, going-settles, going-stops}
 use Rattle.or_opt.proofs.or_opt_improve.Statement.{statement}
 use Rattle.or_opt.proofs.or_opt_improve.Tie as tie
 

@@ -10,7 +10,8 @@ use Rattle.descent.specs.Search.{Sweep}
 use Rattle.soft.specs.Soft.{soft-run}
 use Rattle.soft.proofs.Choice.{known-at}
 use Rattle.soft.proofs.Layouts.{made-kept}
-use Rattle.soft.proofs.Passes.{Underway, step, at, no-step, one-step, run-starts, run-goes-on, run-settled, run-stopped}
+use Rattle.soft.proofs.Passes.{step, at, no-step, one-step}
+use Rattle.engine.proofs.Running.{Going, going-starts, going-settles, going-stops, going-moves}
 use borrow.Author.Needs.{needs}
 use Rattle.soft.proofs.descend.Statement.{statement}
 use Rattle.soft.proofs.descend.Tie as tie
@@ -18,7 +19,7 @@ use Rattle.soft.proofs.descend.Tie as tie
 abbrev Inv-loop : tie.InvT-loop
 Inv-loop l flags service ready due penalty distances times limits depot which list₀ buffer₀ floor limit moves₀ cost₀ list buffer moves cost =
     let price = effectiveCost (columns l flags service ready due penalty distances times) limits depot in
-    Underway (step which price floor) limit (at list₀) moves (at list)
+    Going (step which price floor) limit (at list₀) moves (at list)
     × (cost ≡ price list) × Visits l list × (length list ≡ length list₀) × (length buffer ≡ length buffer₀)
 
 abbrev μ-loop : tie.MeasureT-loop
@@ -33,7 +34,7 @@ effective-cost-requires c κs =
 loop-holds : tie.Need-loop-holds Inv-loop μ-loop
 loop-holds c =
     let start = c .before .before .before .before .before .before .before .before .before .before .before in
-    (run-starts _ _ _, c .effective-cost .ensures, start .pre .1 .0 .1, refl, refl)
+    (going-starts _ _ _, c .effective-cost .ensures, start .pre .1 .0 .1, refl, refl)
 
 best-neighbour-requires : tie.Need-best-neighbour-requires Inv-loop μ-loop
 best-neighbour-requires c κs =
@@ -69,7 +70,7 @@ returns c =
     let day = columns (a .l) (a .flags .now) (a .service .now) (a .ready .now) (a .due .now) (a .penalty .now) (a .distances .now) (a .times .now) in
     let price = effectiveCost day (a .limits) (a .depot) in
     let none-left = no-step (a .which) price (a .floor) (at-loop .loop .list) _ (at-best-neighbour .best-neighbour .ensures .0) (c .enum-told .given .1) in
-    let end = run-settled _ _ _ _ _ (at-loop .loop .inv .0) none-left in
+    let end = going-settles _ _ _ _ _ (at-loop .loop .inv .0) none-left in
     (ap (λ (s : Sweep (List _) Unit). s .now) (end .0), end .1)
 
 same-length-3 : tie.Need-same-length-3 Inv-loop μ-loop
@@ -94,7 +95,7 @@ returns-2 c =
     let day = columns (a .l) (a .flags .now) (a .service .now) (a .ready .now) (a .due .now) (a .penalty .now) (a .distances .now) (a .times .now) in
     let price = effectiveCost day (a .limits) (a .depot) in
     let one-left = one-step (a .which) price (a .floor) (at-loop .loop .list) _ _ (at-best-neighbour .best-neighbour .ensures .0) (at-found .found .given .1) in
-    let end = run-stopped _ _ _ _ _ _ (at-loop .loop .inv .0) one-left (c .if1 .taken) in
+    let end = going-stops _ _ _ _ _ _ (at-loop .loop .inv .0) (omega (arith, c .if1 .taken)) one-left in
     (ap (λ (s : Sweep (List _) Unit). s .now) (end .0), end .1)
 
 make-requires : tie.Need-make-requires Inv-loop μ-loop
@@ -112,13 +113,13 @@ add-moves c =
     let at-if1 = c .before .before .before .before .before .before .before in
     let at-loop = at-if1 .before .before .before .before .before .before .before .before .before in
     let start = at-loop .before .before .before .before .before .before .before .before .before .before .before .before in
-    omega (arith, at-loop .loop .inv .0 .low, at-if1 .if1 .left, start .fits .limit)
+    omega (arith, at-loop .loop .inv .0 .left, at-if1 .if1 .left, start .fits .limit)
 
 loop-less : tie.Need-loop-less Inv-loop μ-loop
 loop-less c =
     let at-if1 = c .before .before .before .before .before .before .before in
     let at-loop = at-if1 .before .before .before .before .before .before .before .before .before in
-    omega (arith, at-loop .loop .inv .0 .low, at-if1 .if1 .left)
+    omega (arith, at-loop .loop .inv .0 .left, at-if1 .if1 .left)
 
 loop-again : tie.Need-loop-again Inv-loop μ-loop
 loop-again c =
@@ -131,10 +132,10 @@ loop-again c =
     let a = start .args in
     let day = columns (a .l) (a .flags .now) (a .service .now) (a .ready .now) (a .due .now) (a .penalty .now) (a .distances .now) (a .times .now) in
     let price = effectiveCost day (a .limits) (a .depot) in
-    let room : at-loop .loop .moves < a .limit = omega (arith, at-loop .loop .inv .0 .low, at-if1 .if1 .left) in
+    let room : at-loop .loop .moves < a .limit = omega (arith, at-loop .loop .inv .0 .left, at-if1 .if1 .left) in
     let known = known-at _ _ _ _ (at-best-neighbour .best-neighbour .ensures .1) (at-found .found .given .1) in
     let move = one-step (a .which) price (a .floor) (at-loop .loop .list) _ _ (at-best-neighbour .best-neighbour .ensures .0) (at-found .found .given .1) in (
-      rw (at-make .make .ensures) (run-goes-on _ _ _ _ _ _ (at-loop .loop .inv .0) move room),
+      rw (at-make .make .ensures) (going-moves _ _ _ _ _ _ (at-loop .loop .inv .0) room move),
       rw (at-make .make .ensures) (known .1),
       rw (at-make .make .ensures) (made-kept _ _ _ (known .0) (at-loop .loop .inv .2)),
       at-make .make .kept .0 ∙ at-loop .loop .inv .3,

@@ -3,23 +3,19 @@ use borrow.Author.Needs.{needs}
 use native.Mathlib.Omega.{arith}
 use Prim.Native.Nat.{_-_}
 use mathlib.Core.Path.{_≡_, refl, sym, ap, _∙_}
-use mathlib.Core.List.{[]}
 use lib.ListN.{length}
 use Rattle.evaluation.specs.Columns.{columns, Visits}
-use Rattle.descent.specs.Search.{run}
-use Rattle.two_opt.specs.TwoOpt.{InSweep, nextTurn}
+use Rattle.two_opt.specs.TwoOpt.{InSweep}
 use Rattle.two_opt.proofs.Places.{none-ahead, still-in, from-end}
 use Rattle.two_opt.proofs.Turns.{left-as-it-was, left-turned, turned-visits, turned-back}
-use Rattle.two_opt.proofs.Runs.{begins}
-use Rattle.two_opt.proofs.Going.{rest, settles, stops, goes}
+use Rattle.two_opt.proofs.Going.{Turning, turning-starts, settles, stops, goes}
 use Rattle.two_opt.proofs.run_moves.Statement.{statement}
 use Rattle.two_opt.proofs.run_moves.Tie as tie
 
 abbrev Inv-loop : tie.InvT-loop
 Inv-loop terms flags service ready due penalty distances times list₀ limit n moves₀ ahead₀ list moves ahead =
     (n ≡ length list) × (length list ≡ length list₀) × Visits (terms .l) list × InSweep (length list) ahead
-    × (let c = columns (terms .l) flags service ready due penalty distances times in
-    rest c terms limit moves list ahead ≡ run (nextTurn c terms) limit (record { now = list₀; ahead = [] }))
+    × Turning (columns (terms .l) flags service ready due penalty distances times) terms limit list₀ moves list ahead
 
 abbrev μ-loop : tie.MeasureT-loop
 μ-loop terms flags service ready due penalty distances times list₀ limit n moves₀ ahead₀ list moves ahead = limit - moves
@@ -35,7 +31,7 @@ loop-holds : tie.Need-loop-holds Inv-loop μ-loop
 loop-holds c =
     let n = length (start c .args .list .now) in
     let nothing = from-end n _ (none-ahead n) (omega arith) in
-    (refl, refl, start c .pre .1, none-ahead n, rw nothing (begins _ _ _))
+    (refl, refl, start c .pre .1, none-ahead n, turning-starts _ _ _ _ _ nothing)
 
 next-move-requires : tie.Need-next-move-requires Inv-loop μ-loop
 next-move-requires c κs =

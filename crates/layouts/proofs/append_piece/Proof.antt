@@ -1,7 +1,7 @@
 -- `append_piece`: one arm for each case.
 use borrow.Author.Needs.{needs}
-use Rattle.soft.proofs.layout.append_piece.Statement.{statement}
-use Rattle.soft.proofs.layout.append_piece.Tie as tie
+use Rattle.layouts.proofs.append_piece.Statement.{statement}
+use Rattle.layouts.proofs.append_piece.Tie as tie
 
 append-stretch-reversed-requires : tie.Need-append-stretch-reversed-requires
 append-stretch-reversed-requires c κs = search needs

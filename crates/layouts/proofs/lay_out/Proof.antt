@@ -3,10 +3,10 @@ use native.Mathlib.Omega.{arith}
 use mathlib.Core.Path.{_≡_}
 use Prim.Native.Nat.{_-_}
 use lib.ListN.{length}
-use Rattle.soft.proofs.Layouts.{laid-straight, laid-exchanged}
+use Rattle.layouts.proofs.Layouts.{laid-straight, laid-exchanged}
 use borrow.Author.Needs.{needs}
-use Rattle.soft.proofs.layout.lay_out.Statement.{statement}
-use Rattle.soft.proofs.layout.lay_out.Tie as tie
+use Rattle.layouts.proofs.lay_out.Statement.{statement}
+use Rattle.layouts.proofs.lay_out.Tie as tie
 
 append-stretch-requires : tie.Need-append-stretch-requires
 append-stretch-requires c κs = search needs

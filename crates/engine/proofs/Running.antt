@@ -1,13 +1,14 @@
--- A run in the making: so many moves are made, and the run from here on, with what is left of the limit, ends as the whole run does. Assumes nothing.
+-- A run in the making, for the run loop of any engine: so many moves are made, and the run from here on, with what is left of the limit, ends as the
+-- whole run does. Assumes nothing.
 use mathlib.Core.Path.{_≡_, refl, sym, ap, _∙_}
 use mathlib.Core.Option.{Option, none, some}
 use Prim.Native.Nat.{ℕ, zero, suc, _+_, _≤_, _<_}
 use native.Mathlib.Omega.{arith}
 use Rattle.descent.specs.Search.{Word, settled, stopped, Outcome, run}
 use Rattle.descent.proofs.Loops.{run-settles, run-stops, run-moves}
 use Rattle.engine.specs.Engine.{endedAs}
 use Rattle.engine.specs.declared.Ended.{Ended}
 use Rattle.engine.specs.declared.Ended.the-variants.{Settled, Stopped}
 
 module _ {S : Type 0} (step : S → Option S) (limit : ℕ) (start : S) where
   pub record Going (moves : ℕ) (s : S) : Type 0 where
