@@ -27,7 +27,7 @@ use Rattle.descent.proofs.Sweeps.{next-some}
 use Rattle.fleet.specs.Fleet.{Fleet, fleetVehicle}
 use Rattle.fleet.proofs.Numbered.{found-again}
 use Rattle.cross_moves.specs.Boxes.{boxesAt}
-use Rattle.cross_moves.specs.CrossDepot.{Plan, foundIds, lentPlan, pricedAs, holds, allowed, hasPrice, first, second, exchangedBy, ofFilled, dropped}
+use Rattle.cross_moves.specs.CrossDepot.{Plan, isTested, foundIds, lentPlan, pricedAs, holds, allowed, hasPrice, first, second, exchangedBy, ofFilled, dropped}
 use Rattle.cross_moves.specs.CrossDepot.{afterMove, firstPrice, secondPrice, moved, searchOf, judgeOf, runOf, Carries, Carried}
 use Rattle.cross_moves.specs.declared.price.Price.the-variants.{Unallowed}
 use Rattle.cross_moves.specs.declared.pair.Move.{Move}
@@ -109,7 +109,7 @@ module _ (c : Columns) (demand : List ℤ) (fleet : Fleet) (lent : List (List �
 
     first-kept : TestedOrLess m → hasPrice (firstPrice c demand fleet p m) ≡ true → Kept (first (p .lists) m) (getD (p .ids) (m .one) 0)
     unfolding firstPrice
-    first-kept (inl tested) e = inl (price-holds c demand (m .tested) _ _ e tested)
+    first-kept (inl tested) e = inl (price-holds c demand (isTested m) _ _ e tested)
     first-kept (inr (ordered, none)) e =
         lighter (at (p .lists) (m .one)) (first (p .lists) m) (getD (p .ids) (m .one) 0) (loaded .1 (m .one) one-there)
         (rw (← none) (less-than-before (boxesAt demand) (at (p .lists) (m .one)) (at (p .lists) (m .other)) (m .from1) (m .to1) (m .from2) ordered))

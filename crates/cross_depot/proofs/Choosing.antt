@@ -20,7 +20,7 @@ use Rattle.cross_moves.specs.CrossDepot.{Plan, relocation, exchange, cuts, relo
 use Rattle.cross_moves.specs.CrossDepot.{betweenLists, ofPair, moves}
 use Rattle.cross_moves.specs.CrossDepot.{hasPrice, amount, firstPrice, secondPrice, searchOf, judgeOf}
 use Rattle.cross_pairs.specs.Scan.{scan, decided, better, tryRelocation, tryExchange, relocateRow, exchangeRow, bestRelocation, bestSwap, bestTails}
-use Rattle.cross_pairs.specs.Scan.{bestExchange, bestBetween, bestOfPair, bestFrom, bestOf, betterIn, nothing, moveOf}
+use Rattle.cross_pairs.specs.Scan.{bestExchange, bestBetween, bestOfPair, bestFrom, bestOf, betterIn, nothing, isFound, moveOf}
 use Rattle.cross_moves.specs.declared.price.Price.{Price}
 use Rattle.cross_moves.specs.declared.price.Price.the-variants.{Unallowed, Costs}
 use Rattle.cross_moves.specs.declared.pair.Pair.{Pair}
@@ -145,7 +145,7 @@ module _ (c : Columns) (demand : List ℤ) (fleet : Fleet) (p : Plan) where
   pub record Best (b : Choice) : Type 0 where
     pub figured : b .delta ≡ figure delta pass bound (moveOf b)
     pub counted : Counted delta pass bound (moveOf b)
-    pub costs : b .found ≡ true → (b .cost1 ≡ amount (firstPrice c demand fleet p (b .chosen))) × (b .cost2 ≡ amount (secondPrice c demand fleet p (b .chosen)))
+    pub costs : isFound b ≡ true → (b .cost1 ≡ amount (firstPrice c demand fleet p (b .chosen))) × (b .cost2 ≡ amount (secondPrice c demand fleet p (b .chosen)))
 
   -- one move more
   pub record Turned (m : Move) (ms : List Move) (best after : Choice) : Type 0 where
@@ -171,7 +171,7 @@ module _ (c : Columns) (demand : List ℤ) (fleet : Fleet) (p : Plan) where
 
     -- one that is better is the best now
     is-better : (d x y : Float) → d ≡ delta m → lt d (best .delta) ≡ true → pass m ≡ true → x ≡ amount (firstPrice c demand fleet p m)
-        → y ≡ amount (secondPrice c demand fleet p m) → Turned m ms best (record { found = true; chosen = m; delta = d; cost1 = x; cost2 = y })
+        → y ≡ amount (secondPrice c demand fleet p m) → Turned m ms best (record { found = 1; chosen = m; delta = d; cost1 = x; cost2 = y })
     unfolding moveOf figure
     is-better d x y is e passed is-x is-y =
         let near : lt (delta m) (figure delta pass bound (moveOf best)) ≡ true = rw (← is, ← good .figured) e in
@@ -201,7 +201,7 @@ module _ (c : Columns) (demand : List ℤ) (fleet : Fleet) (p : Plan) where
         d = x ⊕ y ⊖ pairOf fleet (p .ids) (p .costs) (m .one) (m .other) .before
 
         by-test : (t : Bool) → lt d (best .delta) ≡ t
-            → Turned m ms best (cond t (record { found = true; chosen = m; delta = d; cost1 = x; cost2 = y }) best)
+            → Turned m ms best (cond t (record { found = 1; chosen = m; delta = d; cost1 = x; cost2 = y }) best)
         by-test true t =
             is-better d x y (delta-is (Costs x) (Costs y) e f) t (pass-is (Costs x) (Costs y) e f) (sym (ap amount e)) (sym (ap amount f))
         by-test false t = not-less d (delta-is (Costs x) (Costs y) e f) t

@@ -25,7 +25,7 @@ use Rattle.engine.specs.Engine.{endedAs}
 use Rattle.engine.specs.declared.Ended.the-variants.{Settled, Stopped}
 use Rattle.fleet.specs.Fleet.{Fleet}
 use Rattle.cross_moves.specs.CrossDepot.{Plan, afterMove, searchOf, judgeOf, runOf, ranOf, planOf}
-use Rattle.cross_pairs.specs.Scan.{Held, moveOf}
+use Rattle.cross_pairs.specs.Scan.{Held, isFound, moveOf}
 use Rattle.cross_changes.specs.Tables.{Made}
 use Rattle.cross_depot.specs.Tables.{MadeIn, Chosen, Handed, crossedOf}
 use Rattle.cross_depot.specs.Deltas.{Kept, keptOf}
@@ -249,13 +249,13 @@ module _ (c : Columns) (demand : List ℤ) (fleet : Fleet) (visits lengths ids :
   unfolding searchOf
   fresh = next-sweep (searchOf c demand fleet) (judgeOf c demand fleet) here nowhere
 
-  pub no-next : r .found ≡ false → next (searchOf c demand fleet) (judgeOf c demand fleet) here ≡ none
+  pub no-next : isFound r ≡ false → next (searchOf c demand fleet) (judgeOf c demand fleet) here ≡ none
   unfolding moveOf
   no-next e =
       let is : moveOf r ≡ none = rw (e, moveOf) in
       fresh ∙ place-passed (searchOf c demand fleet) (judgeOf c demand fleet) (planOf visits lengths ids costs) tt [] (sym (chosen .taken-is) ∙ is) ∙ nowhere
 
-  pub a-next : r .found ≡ true → next (searchOf c demand fleet) (judgeOf c demand fleet) here
+  pub a-next : isFound r ≡ true → next (searchOf c demand fleet) (judgeOf c demand fleet) here
       ≡ some (record { now = afterMove (planOf visits lengths ids costs) (r .chosen) (r .cost1) (r .cost2); ahead = [] })
   unfolding searchOf moveOf
   a-next e =
@@ -281,21 +281,21 @@ module _ (c : Columns) (demand : List ℤ) (fleet : Fleet) (limit : ℕ) (first 
     pub chosen-now : Chosen c demand fleet visits (take n lengths) (take n ids) (take n costs) r
     chosen-now = rw (part n lengths, part n ids, part n costs) at chosen
 
-    pub answers-settled : r .found ≡ false → Answered (record { ended = Settled moves; lists = n }) number visits₀ visits lengths ids
+    pub answers-settled : isFound r ≡ false → Answered (record { ended = Settled moves; lists = n }) number visits₀ visits lengths ids
     unfolding runOf endedAs
     answers-settled e =
         let whole = going-settled _ _ _ moves _ running (no-next c demand fleet visits (take n lengths) (take n ids) (take n costs) r chosen-now e) in
         let many = lists-now l visits₀ visits lengths ids costs n number live in
         (rw (whole, many), rw whole (handed-now l visits₀ visits lengths ids costs n number live), live .same)
 
-    pub answers-stopped : r .found ≡ true → limit ≤ moves → Answered (record { ended = Stopped moves; lists = n }) number visits₀ visits lengths ids
+    pub answers-stopped : isFound r ≡ true → limit ≤ moves → Answered (record { ended = Stopped moves; lists = n }) number visits₀ visits lengths ids
     unfolding runOf endedAs
     answers-stopped e used =
         let whole = going-stopped _ _ _ moves _ running _ (a-next c demand fleet visits (take n lengths) (take n ids) (take n costs) r chosen-now e) used in
         let many = lists-now l visits₀ visits lengths ids costs n number live in
         (rw (whole, many), rw whole (handed-now l visits₀ visits lengths ids costs n number live), live .same)
 
-    pub goes-on : r .found ≡ true → moves < limit → (q : Plan)
+    pub goes-on : isFound r ≡ true → moves < limit → (q : Plan)
         → q ≡ afterMove (planOf visits (take n lengths) (take n ids) (take n costs)) (r .chosen) (r .cost1) (r .cost2)
         → Going (next (searchOf c demand fleet) (judgeOf c demand fleet)) limit (record { now = first; ahead = [] }) (moves + 1)
         (record { now = q; ahead = [] })
@@ -303,7 +303,7 @@ module _ (c : Columns) (demand : List ℤ) (fleet : Fleet) (limit : ℕ) (first 
         rw is (going-on _ _ _ moves _ running _ (a-next c demand fleet visits (take n lengths) (take n ids) (take n costs) r chosen-now e) room)
 
     -- a move that was made: the run goes on from the plan that the tables then hold
-    pub goes-on-made : r .found ≡ true → moves < limit → (visits′ lengths′ ids′ : List ℕ) (costs′ : List Float) (kept : ℕ)
+    pub goes-on-made : isFound r ≡ true → moves < limit → (visits′ lengths′ ids′ : List ℕ) (costs′ : List Float) (kept : ℕ)
         → MadeIn n (r .chosen) (r .cost1) (r .cost2) visits lengths ids costs visits′ lengths′ ids′ costs′ kept
         → length lengths′ ≡ length lengths → length ids′ ≡ length ids → length costs′ ≡ length costs
         → Going (next (searchOf c demand fleet) (judgeOf c demand fleet)) limit (record { now = first; ahead = [] }) (moves + 1)

@@ -151,7 +151,7 @@ unfolding decided joined
 tries-decided pair m Unallowed q2 = inl (λ z. refl)
 tries-decided pair m (Costs x) Unallowed = inl (λ z. refl)
 tries-decided pair m (Costs x) (Costs y) =
-    let new : Choice = record { found = true; chosen = m; delta = x ⊕ y ⊖ pair .before; cost1 = x; cost2 = y } in
+    let new : Choice = record { found = 1; chosen = m; delta = x ⊕ y ⊖ pair .before; cost1 = x; cost2 = y } in
     inr (new, λ z. refl)
 
 module _ (c : Columns) (demand : List ℤ) (fleet : Fleet) (p : Plan) where

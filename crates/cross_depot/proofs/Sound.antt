@@ -21,9 +21,9 @@ use Rattle.descent.specs.Search.{taken}
 use Rattle.descent.proofs.Members.{not-in, in-either, range-in, each-in, map-in}
 use Rattle.descent.proofs.Sweeps.{first-least-some}
 use Rattle.fleet.specs.Fleet.{Fleet}
-use Rattle.cross_moves.specs.CrossDepot.{Plan, relocation, stretchEnd, exchange, cuts, relocations, swaps, tailExchanges, pairOf, sameDepot, planOf}
+use Rattle.cross_moves.specs.CrossDepot.{Plan, isTested, relocation, stretchEnd, exchange, cuts, relocations, swaps, tailExchanges, pairOf, sameDepot, planOf}
 use Rattle.cross_moves.specs.CrossDepot.{betweenLists, ofPair, moves, moved, searchOf, judgeOf}
-use Rattle.cross_pairs.specs.Scan.{nothing, moveOf, bestOf}
+use Rattle.cross_pairs.specs.Scan.{nothing, isFound, moveOf, bestOf}
 use Rattle.cross_changes.specs.Tables.{Makes}
 use Rattle.cross_depot.specs.Tables.{Chosen}
 use Rattle.cross_moves.specs.declared.pair.Move.{Move}
@@ -53,7 +53,7 @@ cuts-few n1 n2 k = by-test (eqb k n1)
 
 -- the loads of both lists are tested, or the first takes nothing in the place of its stretch
 abbrev pub TestedOrLess : Move → Type 0
-TestedOrLess m = (m .tested ≡ true) ⊎ ((m .from1 ≤ m .to1) × (m .from2 ≡ m .to2))
+TestedOrLess m = (isTested m ≡ true) ⊎ ((m .from1 ≤ m .to1) × (m .from2 ≡ m .to2))
 
 -- a move between lists a and b of so many visits
 record Between (a b n1 n2 : ℕ) (m : Move) : Type 0 where
@@ -184,7 +184,7 @@ module _ (c : Columns) (demand : List ℤ) (fleet : Fleet) (visits lengths ids :
   unfolding taken searchOf
   of-moves m e = first-least-some _ _ (moves fleet (planOf visits lengths ids costs)) m e .0
 
-  move-is : (r : Choice) → r .found ≡ true → moveOf r ≡ some (r .chosen)
+  move-is : (r : Choice) → isFound r ≡ true → moveOf r ≡ some (r .chosen)
   unfolding moveOf
   move-is r e = rw (e, moveOf)
 

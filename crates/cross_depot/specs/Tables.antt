@@ -14,7 +14,7 @@ use Rattle.fleet.specs.Fleet.{Fleet}
 use Rattle.cross_moves.specs.CrossDepot.{Ran, planOf, afterMove, moved, searchOf, judgeOf}
 use Rattle.cross_moves.specs.declared.pair.Move.{Move}
 use Rattle.cross_changes.specs.Tables.{Makes, Made}
-use Rattle.cross_pairs.specs.Scan.{moveOf}
+use Rattle.cross_pairs.specs.Scan.{isFound, moveOf}
 use Rattle.cross_pairs.specs.declared.search.Choice.{Choice}
 use Rattle.cross_depot.specs.declared.run.Crossed.{Crossed}
 
@@ -32,8 +32,8 @@ pub record MadeIn (n : ℕ) (m : Move) (cost1 cost2 : Float) (visits lengths ids
 -- of the choice of a search: it is the definition's, and where there is a move it can be made, and its costs are those of its two lists
 pub record Chosen (c : Columns) (demand : List ℤ) (fleet : Fleet) (visits lengths ids : List ℕ) (costs : List Float) (r : Choice) : Type 0 where
   pub taken-is : moveOf r ≡ taken (searchOf c demand fleet) (judgeOf c demand fleet) (planOf visits lengths ids costs) tt
-  pub makes : r .found ≡ true → Makes visits lengths (r .chosen)
-  pub leads : r .found ≡ true
+  pub makes : isFound r ≡ true → Makes visits lengths (r .chosen)
+  pub leads : isFound r ≡ true
       → afterMove (planOf visits lengths ids costs) (r .chosen) (r .cost1) (r .cost2) ≡ moved c demand fleet (planOf visits lengths ids costs) (r .chosen)
 
 -- 01: 'Dropped places leave length 0, and vehicle id 0, at the end': the tables, of `number` lists, hold the lists handed back, and behind them nothing

@@ -259,7 +259,7 @@ fn descend(
             heads,
             tried_costs,
         );
-        if !best.found {
+        if best.found != 1 {
             return ended_with(Ended::Settled(moves), n);
         }
         if limit <= moves {

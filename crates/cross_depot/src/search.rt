@@ -28,10 +28,10 @@ fn no_choice(floor: f64) -> Choice
         other: 0,
         from2: 0,
         to2: 0,
-        tested: false,
+        tested: 0,
     };
     Choice {
-        found: false,
+        found: 0,
         chosen: none,
         delta: -floor,
         cost1: 0.0,

@@ -100,9 +100,13 @@ amount (Costs x) = x
 abbrev pub replaced : List ℕ → ℕ → ℕ → List ℕ → List ℕ
 replaced list from to part = take from list ++ part ++ drop to list
 
+-- the load of the first list is tested
+abbrev pub isTested : Move → Bool
+isTested m = eqb (m .tested) 1
+
 -- 'The customer at `pos` of `a` goes to position `at` of `b`'; the list that it leaves isn't tested for its load
 abbrev pub relocation : ℕ → ℕ → ℕ → ℕ → Move
-relocation a b position place = record { one = a; from1 = position; to1 = position + 1; other = b; from2 = place; to2 = place; tested = false }
+relocation a b position place = record { one = a; from1 = position; to1 = position + 1; other = b; from2 = place; to2 = place; tested = 0 }
 
 -- where a stretch of a swap or of a tail exchange ends: behind its one visit, or at the list's end
 abbrev pub stretchEnd : Bool → ℕ → ℕ → ℕ
@@ -112,7 +116,7 @@ stretchEnd false n k = k + 1
 -- 'The customer at `pa` of `a` and the one at `pb` of `b` change places', or `a` keeps its first `i` customers, `b` its first `j`, and the rest change places
 abbrev pub exchange : Bool → ℕ → ℕ → ℕ → ℕ → ℕ → ℕ → Move
 exchange tails a b n1 n2 k1 k2 =
-    record { one = a; from1 = k1; to1 = stretchEnd tails n1 k1; other = b; from2 = k2; to2 = stretchEnd tails n2 k2; tested = true }
+    record { one = a; from1 = k1; to1 = stretchEnd tails n1 k1; other = b; from2 = k2; to2 = stretchEnd tails n2 k2; tested = 1 }
 
 -- `for pos in 0..n1`, `for at in 0..=n2`
 unfoldable pub relocations : ℕ → ℕ → ℕ → ℕ → List Move
@@ -200,7 +204,7 @@ module _ (fleet : Fleet) (p : Plan) where
 module _ (c : Columns) (demand : List ℤ) (fleet : Fleet) where
   -- what each of the two lists costs then, if its van allows it
   unfoldable pub firstPrice : Plan → Move → Price
-  firstPrice p m = allowed c demand (m .tested) (fleetVehicle fleet (getD (p .ids) (m .one) 0)) (first (p .lists) m)
+  firstPrice p m = allowed c demand (isTested m) (fleetVehicle fleet (getD (p .ids) (m .one) 0)) (first (p .lists) m)
 
   unfoldable pub secondPrice : Plan → Move → Price
   secondPrice p m = allowed c demand true (fleetVehicle fleet (getD (p .ids) (m .other) 0)) (second (p .lists) m)

@@ -17,7 +17,7 @@ pub struct Pair {
 }
 
 // List `one` gives the visits from `from1` up to `to1`, list `other` those from `from2` up to `to2`, and each stretch goes where the other was.
-// `tested` says whether the load of list `one` has to be within its van's capacity.
+// `tested` is 1 where the load of list `one` has to be within its van's capacity, else 0: a whole word, so that copies of a move move no padding.
 pub struct Move {
     pub one: usize,
     pub from1: usize,
@@ -25,7 +25,7 @@ pub struct Move {
     pub other: usize,
     pub from2: usize,
     pub to2: usize,
-    pub tested: bool,
+    pub tested: usize,
 }
 
 // Lists a and b, with their vans and what they cost together.

@@ -7,7 +7,7 @@ use native.Mathlib.Omega.{arith}
 use borrow.Author.Tests.{eqb-true, eqb-false}
 use lib.Dec.{eqb}
 use lib.ListN.{length}
-use Rattle.cross_moves.specs.CrossDepot.{relocation, exchange, cuts}
+use Rattle.cross_moves.specs.CrossDepot.{isTested, cuts}
 use Rattle.cross_moves.specs.declared.pair.Pair.{Pair}
 use Rattle.cross_moves.specs.declared.pair.Move.{Move}
 use Rattle.cross_rows.specs.Row.{fromAt, toAt, Rowed}
@@ -31,7 +31,7 @@ row-stretches Relocation pair n1 n2 k j = record { from1-is = omega arith; to1-i
 row-stretches Swap pair n1 n2 k j = record { from1-is = omega arith; to1-is = omega arith; from2-is = omega arith; to2-is = omega arith }
 row-stretches Tails pair n1 n2 k j = record { from1-is = omega arith; to1-is = omega arith; from2-is = omega arith; to2-is = omega arith }
 
-pub move-tested : (kind : Kind) (pair : Pair) (n1 n2 k j : ℕ) → moveAt kind pair n1 n2 k j .tested ≡ testedIn kind
+pub move-tested : (kind : Kind) (pair : Pair) (n1 n2 k j : ℕ) → isTested (moveAt kind pair n1 n2 k j) ≡ testedIn kind
 unfolding testedIn moveAt
 move-tested Relocation pair n1 n2 k j = refl
 move-tested Swap pair n1 n2 k j = refl

@@ -17,7 +17,7 @@ use Rattle.tests.specs.Pick.{picked, other}
 use Rattle.evaluation.specs.Columns.{Columns}
 use Rattle.descent.specs.Order.{range}
 use Rattle.descent.proofs.Loops.{range-step, range-done}
-use Rattle.cross_moves.specs.CrossDepot.{holds, pricedAs, allowed, amount, replaced, relocation}
+use Rattle.cross_moves.specs.CrossDepot.{holds, pricedAs, allowed, isTested, amount, replaced, relocation}
 use Rattle.cross_moves.specs.declared.price.Price.{Price}
 use Rattle.cross_moves.specs.declared.price.Price.the-variants.{Unallowed, Costs}
 use Rattle.cross_moves.specs.declared.pair.Pair.{Pair}
@@ -93,7 +93,7 @@ extending-turns xs from ys j so-far h = record {
 -- what both costs make of the best so far
 abbrev told : Pair → Move → Float → Float → Choice → Choice
 told pair m x y best =
-    cond (lt (x ⊕ y ⊖ pair .before) (best .delta)) (record { found = true; chosen = m; delta = x ⊕ y ⊖ pair .before; cost1 = x; cost2 = y }) best
+    cond (lt (x ⊕ y ⊖ pair .before) (best .delta)) (record { found = 1; chosen = m; delta = x ⊕ y ⊖ pair .before; cost1 = x; cost2 = y }) best
 
 told-lost1 : (pair : Pair) (m : Move) (x y : Float) (best : Choice) → lt x (inf false) ≡ false → best ≡ told pair m x y best
 told-lost1 pair m x y best h = other (lt (x ⊕ y ⊖ pair .before) (best .delta)) _ _ _ (first-lost x y (pair .before) (best .delta) h) refl
@@ -155,7 +155,7 @@ module _ (c : Columns) (demand : List ℤ) (pair : Pair) (X Y : List ℕ) (m : M
   -- what the tables say of a move: its first cost, and with that its second
   pub cost1-of : Float
   cost1-of =
-      costUnless c (pair .van1) (markOf (m .tested) (holds demand (pair .van1) (made1 X Y m)) (holds demand (pair .van2) (made2 X Y m))) (made1 X Y m)
+      costUnless c (pair .van1) (markOf (isTested m) (holds demand (pair .van1) (made1 X Y m)) (holds demand (pair .van2) (made2 X Y m))) (made1 X Y m)
 
   pub cost2-of : Float
   cost2-of = costUnless c (pair .van2) cost1-of (made2 X Y m)
@@ -163,7 +163,7 @@ module _ (c : Columns) (demand : List ℤ) (pair : Pair) (X Y : List ℕ) (m : M
   pub better-told : (best : Choice) → better c demand pair X Y m best ≡ told pair m cost1-of cost2-of best
   unfolding better allowed markOf costUnless cost1-of cost2-of
   better-told best =
-      open-told pair m (not (m .tested) || holds demand (pair .van1) (made1 X Y m)) (holds demand (pair .van2) (made2 X Y m))
+      open-told pair m (not (isTested m) || holds demand (pair .van1) (made1 X Y m)) (holds demand (pair .van2) (made2 X Y m))
       (pricedAs c (pair .van1) (made1 X Y m)) (pricedAs c (pair .van2) (made2 X Y m)) best
 
 -- ---- marks

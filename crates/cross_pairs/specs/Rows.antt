@@ -53,7 +53,7 @@ leastOf before count costs1 costs2 most =
 unfoldable pub chosenBy : Kind → Pair → ℕ → ℕ → ℕ → ℕ → List Float → List Float → Least → Choice → Choice
 chosenBy kind pair n1 n2 k count costs1 costs2 least best =
     cond (eqb (least .at) count) best (record {
-      found = true;
+      found = 1;
       chosen = moveAt kind pair n1 n2 k (least .at);
       delta = least .delta;
       cost1 = getD costs1 (least .at) nan;

@@ -5,7 +5,7 @@ use mathlib.Core.Bool.{Bool, true, false, cond}
 use mathlib.Core.Option.{Option, none, some}
 use mathlib.Core.List.{List, [], _∷_}
 use Prim.Native.Nat.{ℕ, _+_, _≤_, _<_}
-use lib.Dec.{ltb}
+use lib.Dec.{eqb, ltb}
 use lib.IntN.{ℤ}
 use lib.ListN.{length, getD}
 use lib.Seq.{slice}
@@ -17,7 +17,7 @@ use Rattle.evaluation.specs.Columns.{Columns, Formed}
 use Rattle.descent.specs.Order.{range}
 use Rattle.cross_moves.specs.Boxes.{Loaded, Prefixed}
 use Rattle.fleet.specs.Fleet.{Fleet, Driven}
-use Rattle.cross_moves.specs.CrossDepot.{Plan, allowed, replaced, relocation, exchange, cuts, pairOf, sameDepot}
+use Rattle.cross_moves.specs.CrossDepot.{Plan, allowed, isTested, replaced, relocation, exchange, cuts, pairOf, sameDepot}
 use Rattle.cross_moves.specs.declared.price.Price.{Price}
 use Rattle.cross_moves.specs.declared.price.Price.the-variants.{Unallowed, Costs}
 use Rattle.cross_moves.specs.declared.pair.Pair.{Pair}
@@ -78,12 +78,12 @@ unfoldable pub decided : Pair → Move → Price → Price → Choice → Choice
 decided pair m Unallowed q best = best
 decided pair m (Costs x) Unallowed best = best
 decided pair m (Costs x) (Costs y) best =
-    cond (lt (x ⊕ y ⊖ pair .before) (best .delta)) (record { found = true; chosen = m; delta = x ⊕ y ⊖ pair .before; cost1 = x; cost2 = y }) best
+    cond (lt (x ⊕ y ⊖ pair .before) (best .delta)) (record { found = 1; chosen = m; delta = x ⊕ y ⊖ pair .before; cost1 = x; cost2 = y }) best
 
 module _ (c : Columns) (demand : List ℤ) (pair : Pair) (X Y : List ℕ) where
   -- the prices of the two lists that a move makes
   abbrev pub price1 : Move → Price
-  price1 m = allowed c demand (m .tested) (pair .van1) (made1 X Y m)
+  price1 m = allowed c demand (isTested m) (pair .van1) (made1 X Y m)
 
   abbrev pub price2 : Move → Price
   price2 m = allowed c demand true (pair .van2) (made2 X Y m)
@@ -150,13 +150,17 @@ betterIn c demand fleet p m =
 -- no move so far: a delta has to be below minus the floor
 abbrev pub nothing : Float → Choice
 nothing floor = record {
-  found = false;
-  chosen = record { one = 0; from1 = 0; to1 = 0; other = 0; from2 = 0; to2 = 0; tested = false };
+  found = 0;
+  chosen = record { one = 0; from1 = 0; to1 = 0; other = 0; from2 = 0; to2 = 0; tested = 0 };
   delta = neg floor;
   cost1 = zero64;
   cost2 = zero64;
 }
 
+-- a move is found
+abbrev pub isFound : Choice → Bool
+isFound b = eqb (b .found) 1
+
 -- the move that a choice says
 unfoldable pub moveOf : Choice → Option Move
-moveOf b = elim (b .found) [ true ↦ some (b .chosen) | false ↦ none ]
+moveOf b = elim (isFound b) [ true ↦ some (b .chosen) | false ↦ none ]

@@ -130,7 +130,7 @@ pub fn move_of(kind: Kind, pair: Pair, n1: usize, n2: usize, k1: usize, k2: usiz
             other: pair.other,
             from2: k2,
             to2: k2,
-            tested: false,
+            tested: 0,
         },
         Kind::Swap => Move {
             one: pair.one,
@@ -139,7 +139,7 @@ pub fn move_of(kind: Kind, pair: Pair, n1: usize, n2: usize, k1: usize, k2: usiz
             other: pair.other,
             from2: k2,
             to2: k2 + 1,
-            tested: true,
+            tested: 1,
         },
         Kind::Tails => Move {
             one: pair.one,
@@ -148,7 +148,7 @@ pub fn move_of(kind: Kind, pair: Pair, n1: usize, n2: usize, k1: usize, k2: usiz
             other: pair.other,
             from2: k2,
             to2: n2,
-            tested: true,
+            tested: 1,
         },
     }
 }

@@ -28,9 +28,10 @@ ghost use Rattle.cross_pairs.specs.Kinds.{rowsIn};
 ghost use Rattle.cross_pairs.specs.Scan.{Asked, Paired, Ready, Roomy, bestBetween};
 ghost use Rattle.cross_pairs.specs.Rows.{markOf, Marked, Extended, lesserOf, leastOf, chosenBy, bestOfRow, bestOfKind};
 
-// The best move so far, with its delta and what its two lists cost; while none is found, the delta is minus the floor.
+// The best move so far, with its delta and what its two lists cost. `found` is 1 where there is one, a whole word as in `Move`; else it is 0, and the delta is
+// minus the floor.
 pub struct Choice {
-    pub found: bool,
+    pub found: usize,
     pub chosen: Move,
     pub delta: f64,
     pub cost1: f64,
@@ -178,7 +179,7 @@ fn choose(
     }
     let chosen = move_of(kind, pair, n1, n2, k, at);
     Choice {
-        found: true,
+        found: 1,
         chosen,
         delta: least.delta,
         cost1: costs1[at],

@@ -1,7 +1,7 @@
 -- `descend`: the moves made and the run that is left are the whole run, the first n entries of the tables are the plan, and the table of least deltas has the
 -- pairs of old lists; proofs/Going.antt has the start, the turn and the two ends.
 use borrow.Author.Needs.{needs}
-use borrow.Author.Tests.{not-true, not-false}
+use borrow.Author.Tests.{eq-eqb, ne-eqb}
 use mathlib.Core.Path.{_≡_, refl, sym, _∙_}
 use Prim.Native.Nat.{_-_}
 use native.Mathlib.Omega.{arith}
@@ -180,7 +180,7 @@ returns c =
     let at-loop = at-next-move .before .before .before .before .before .before .before .before .before .before .before .before in
     rw (c .ended-with .ensures)
     (answers-settled _ _ _ _ _ _ _ _ _ _ _ _ _ _ (at-loop .loop .inv .1) (at-loop .loop .inv .0) _ (at-next-move .next-move .ensures .0)
-    (not-true _ (c .before .if1 .taken)))
+    (ne-eqb _ _ (c .before .if1 .taken)))
 
 ended-with-requires-2 : tie.Need-ended-with-requires-2 Inv-loop μ-loop
 ended-with-requires-2 c κs = search needs
@@ -257,7 +257,7 @@ returns-2 c =
     let at-loop = at-next-move .before .before .before .before .before .before .before .before .before .before .before .before in
     rw (c .ended-with2 .ensures)
     (answers-stopped _ _ _ _ _ _ _ _ _ _ _ _ _ _ (at-loop .loop .inv .1) (at-loop .loop .inv .0) _ (at-next-move .next-move .ensures .0)
-    (not-false _ (c .before .before .if1 .left)) (c .before .if2 .taken))
+    (eq-eqb _ _ (c .before .before .if1 .left)) (c .before .if2 .taken))
 
 make-best-requires : tie.Need-make-best-requires Inv-loop μ-loop
 make-best-requires c κs =
@@ -265,7 +265,7 @@ make-best-requires c κs =
     let at-next-move = at-if1 .before .before .before .before .before .before .before .before .before .before in
     let at-loop = at-next-move .before .before .before .before .before .before .before .before .before .before .before .before in
     let live = at-loop .loop .inv .1 in
-    let makes = at-next-move .next-move .ensures .0 .makes (not-false _ (at-if1 .if1 .left)) in (
+    let makes = at-next-move .next-move .ensures .0 .makes (eq-eqb _ _ (at-if1 .if1 .left)) in (
       (rw (part _ (at-loop .loop .lengths)) at makes, omega (arith, live .few, live .many-lengths)),
       (live .many-ids ∙ sym (live .many-lengths), live .many-costs ∙ sym (live .many-lengths)),
     )
@@ -296,7 +296,7 @@ loop-again c =
     let at-loop = at-next-move .before .before .before .before .before .before .before .before .before .before .before .before in
     let kept = at-next-move .next-move .kept .1 .1 .1 .1 .1 .1 .1 .1 .1 .1 .1 .1 .1 .1 .1 .1 .1 .1 .1 .1 .1 .1 .1 .1 .1 .1 .1 .1 in
     let on = goes-on-made _ _ _ _ _ _ _ _ _ _ _ _ _ _ (at-loop .loop .inv .1) (at-loop .loop .inv .0) _ (at-next-move .next-move .ensures .0)
-    (not-false _ (at-if1 .if1 .left)) (at-if2 .if2 .left) _ _ _ _ _
+    (eq-eqb _ _ (at-if1 .if1 .left)) (at-if2 .if2 .left) _ _ _ _ _
     (at-make-best .make-best .ensures) (at-make-best .make-best .kept .1 .0) (at-make-best .make-best .kept .1 .1 .0)
     (at-make-best .make-best .kept .1 .1 .1 .0) in (
       on .0,
