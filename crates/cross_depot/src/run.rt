@@ -68,7 +68,7 @@ fn next_move(
     requires { ⌜ Manned l (fleetAt «van_ids» depots capacities «distance_costs» «fixed_costs» «van_flags» «max_distances» «max_durations»
         earliest latest durations) ⌝ }
     requires { ⌜ Held l (now visits) (now lengths) × (length (now ids) ≡ length (now lengths)) × (length (now costs) ≡ length (now lengths)) ⌝ }
-    requires { ⌜ (length (now sums) ≡ 256) × (length (now heads) ≡ 1024) × (length (now «tried_costs») ≡ 192) ⌝ }
+    requires { ⌜ (length (now sums) ≡ 128) × (length (now heads) ≡ 512) × (length (now «tried_costs») ≡ 64) ⌝ }
     requires { ⌜ length (now deltas) ≡ 256 ⌝ }
     requires { ⌜ Kept
         (columnsAt l flags service ready due penalty distances times) (now demand)
@@ -206,7 +206,7 @@ fn descend(
     requires { ⌜ Manned l (fleetAt «van_ids» depots capacities «distance_costs» «fixed_costs» «van_flags» «max_distances» «max_durations»
         earliest latest durations) ⌝ }
     requires { ⌜ Held l (now visits) (now lengths) × (length (now ids) ≡ length (now lengths)) × (length (now costs) ≡ length (now lengths)) ⌝ }
-    requires { ⌜ (length (now sums) ≡ 256) × (length (now heads) ≡ 1024) × (length (now «tried_costs») ≡ 192) ⌝ }
+    requires { ⌜ (length (now sums) ≡ 128) × (length (now heads) ≡ 512) × (length (now «tried_costs») ≡ 64) ⌝ }
     requires { ⌜ length (now deltas) ≡ 256 ⌝ }
     ensures { λ r.
         ⌜ (let ran = ranOf (runOf
@@ -336,9 +336,9 @@ fn descend_from(
         costs,
     );
     let mut deltas = [0.0; 256];
-    let mut sums = [0usize; 256];
-    let mut heads = [0.0; 1024];
-    let mut tried_costs = [0.0; 192];
+    let mut sums = [0usize; 128];
+    let mut heads = [0.0; 512];
+    let mut tried_costs = [0.0; 64];
     descend(
         l,
         flags,

@@ -101,7 +101,7 @@ fn best_of_pair(
         earliest latest durations) ⌝ }
     requires { ⌜ Held l (now visits) (now lengths) × (length (now ids) ≡ length (now lengths)) × (length (now costs) ≡ length (now lengths)) ⌝ }
     requires { ⌜ (a < length (now lengths)) × (b < length (now lengths)) ⌝ }
-    requires { ⌜ (length (now sums) ≡ 256) × (length (now heads) ≡ 1024) × (length (now «tried_costs») ≡ 192) ⌝ }
+    requires { ⌜ (length (now sums) ≡ 128) × (length (now heads) ≡ 512) × (length (now «tried_costs») ≡ 64) ⌝ }
     ensures { λ r.
         ⌜ r ≡ bestOfPair
         (columnsAt l (flags .entry) (service .entry) (ready .entry) (due .entry) (penalty .entry) (distances .entry) (times .entry))
@@ -195,7 +195,7 @@ fn after_pair(
         earliest latest durations) ⌝ }
     requires { ⌜ Held l (now visits) (now lengths) × (length (now ids) ≡ length (now lengths)) × (length (now costs) ≡ length (now lengths)) ⌝ }
     requires { ⌜ (a < length (now lengths)) × (b < length (now lengths)) ⌝ }
-    requires { ⌜ (length (now sums) ≡ 256) × (length (now heads) ≡ 1024) × (length (now «tried_costs») ≡ 192) ⌝ }
+    requires { ⌜ (length (now sums) ≡ 128) × (length (now heads) ≡ 512) × (length (now «tried_costs») ≡ 64) ⌝ }
     requires { ⌜ (length (now deltas) ≡ 256) × Sunk floor best ⌝ }
     requires { ⌜ Kept
         (columnsAt l flags service ready due penalty distances times) (now demand)
@@ -300,7 +300,7 @@ fn best_from(
         earliest latest durations) ⌝ }
     requires { ⌜ Held l (now visits) (now lengths) × (length (now ids) ≡ length (now lengths)) × (length (now costs) ≡ length (now lengths)) ⌝ }
     requires { ⌜ a < length (now lengths) ⌝ }
-    requires { ⌜ (length (now sums) ≡ 256) × (length (now heads) ≡ 1024) × (length (now «tried_costs») ≡ 192) ⌝ }
+    requires { ⌜ (length (now sums) ≡ 128) × (length (now heads) ≡ 512) × (length (now «tried_costs») ≡ 64) ⌝ }
     requires { ⌜ (length (now deltas) ≡ 256) × Sunk floor best ⌝ }
     requires { ⌜ Kept
         (columnsAt l flags service ready due penalty distances times) (now demand)
@@ -406,7 +406,7 @@ pub fn best_move(
     requires { ⌜ Manned l (fleetAt «van_ids» depots capacities «distance_costs» «fixed_costs» «van_flags» «max_distances» «max_durations»
         earliest latest durations) ⌝ }
     requires { ⌜ Held l (now visits) (now lengths) × (length (now ids) ≡ length (now lengths)) × (length (now costs) ≡ length (now lengths)) ⌝ }
-    requires { ⌜ (length (now sums) ≡ 256) × (length (now heads) ≡ 1024) × (length (now «tried_costs») ≡ 192) ⌝ }
+    requires { ⌜ (length (now sums) ≡ 128) × (length (now heads) ≡ 512) × (length (now «tried_costs») ≡ 64) ⌝ }
     requires { ⌜ length (now deltas) ≡ 256 ⌝ }
     requires { ⌜ Kept
         (columnsAt l flags service ready due penalty distances times) (now demand)

@@ -6,13 +6,14 @@ use mathlib.Core.List.{List, [], _∷_}
 use Prim.Native.Nat.{ℕ, zero, suc, _+_, _≤_, _<_}
 use native.Mathlib.Numerals.{add-one}
 use native.Mathlib.Omega.{arith}
-use borrow.Author.Tests.{ltb-true, ltb-false, eq-eqb, ne-eqb, eqb-true, eqb-false}
+use borrow.Author.Tests.{ltb-true, ltb-false, eq-eqb, ne-eqb, eqb-true, eqb-false, not-true}
 use lib.Dec.{eqb, ltb}
 use lib.IntN.{ℤ}
 use lib.ListN.{length, getD, set, length-set}
 use lib.Seq.{slice, slice-empty, getD-set-same, getD-set-other}
 use lib.Ieee.{Float, nan, inf, lt}
 use Rattle.numbers.specs.Operations.{_⊕_, _⊖_, zero64}
+use Rattle.tests.specs.All.{all-at}
 use Rattle.tests.specs.Pick.{picked, other}
 use Rattle.evaluation.specs.Columns.{Columns}
 use Rattle.descent.specs.Order.{range}
@@ -27,7 +28,7 @@ use Rattle.cross_rows.specs.declared.row.Stretch.{Stretch}
 use Rattle.cross_rows.specs.Row.{fromAt, toAt, changed, costUnless, Rowed}
 use Rattle.cross_pairs.specs.Kinds.{testedIn, moveAt, rowOf, rowsIn}
 use Rattle.cross_pairs.specs.Scan.{scan, made1, made2, decided, price1, price2, better}
-use Rattle.cross_pairs.specs.Rows.{markOf, Marked, Extended, lesserOf, deltaAt, leastOf, chosenBy, bestOfRow}
+use Rattle.cross_pairs.specs.Rows.{markOf, Marked, allShut, Extended, lesserOf, deltaAt, leastOf, chosenBy, bestOfRow}
 use Rattle.cross_pairs.specs.declared.kind.Kind.{Kind}
 use Rattle.cross_pairs.specs.declared.kind.Kind.the-variants.{Relocation, Swap, Tails}
 use Rattle.cross_pairs.specs.declared.kind.Row.{Row}
@@ -336,6 +337,48 @@ module _ {c : Columns} {demand : List ℤ} {pair : Pair} {X Y : List ℕ} {kind 
       (λ j. better c demand pair X Y (moveAt kind pair (length X) (length Y) k j))
       (λ j h b. rw (first-is j h, second-is j h) (better-told c demand pair X Y (moveAt kind pair (length X) (length Y) k j) b))
       least e
+
+-- ---- a row without an open move
+
+-- a loop that leaves the value as it is
+scan-stays : {B : Type 0} (f : ℕ → B → B) (left k n : ℕ) (b : B) → n ≡ k + left → ((j : ℕ) → j < n → f j b ≡ b) → scan f (range k n) b ≡ b
+scan-stays f zero k n b e h = scan-done f k n b (omega (arith, e))
+scan-stays f (suc left) k n b e h =
+    let more : k < n = omega (arith, e) in
+    sym (scan-turn f k n b b more (sym (h k more))) ∙ scan-stays f left (k + 1) n b (omega (arith, e)) h
+
+module _ (c : Columns) (demand : List ℤ) (pair : Pair) (X Y : List ℕ) (kind : Kind) (k : ℕ) (marks : List Float) (row : Row)
+    (is : row ≡ rowOf kind (length X) (length Y) k) (tested : Bool) (tests : tested ≡ testedIn kind)
+    (marked-by : Marked demand (pair .van1) (pair .van2) X Y tested (row .own) (row .others) (row .distinct) marks) where
+  -- the first cost of a move that is shut
+  shut-first : (j : ℕ) → j < row .distinct → allShut marks (row .distinct) ≡ true
+      → lt (cost1-of c demand pair X Y (moveAt kind pair (length X) (length Y) k j)) (inf false) ≡ false
+  unfolding cost1-of costUnless
+  shut-first j h shut =
+      let same = row-stretches kind pair (length X) (length Y) k j in
+      let mark = rw (tests, is, same .from1-is, same .to1-is, same .from2-is, same .to2-is) at (marked-by .mark-at j h) in
+      let lost = not-true (lt (getD marks j nan) (inf false)) (all-at (λ i. not (lt (getD marks i nan) (inf false))) (row .distinct) j h shut) in
+      rw (move-tested kind pair (length X) (length Y) k j, ← mark, lost) infinite-lost
+
+  -- and of every move of the row
+  shut-at : allShut marks (row .distinct) ≡ true → (j : ℕ) → j < rowOf kind (length X) (length Y) k .count
+      → lt (cost1-of c demand pair X Y (moveAt kind pair (length X) (length Y) k j)) (inf false) ≡ false
+  shut-at shut j h = by-test (ltb j (rowOf kind (length X) (length Y) k .distinct)) refl
+    where
+      by-test : (b : Bool) → ltb j (rowOf kind (length X) (length Y) k .distinct) ≡ b
+          → lt (cost1-of c demand pair X Y (moveAt kind pair (length X) (length Y) k j)) (inf false) ≡ false
+      by-test true e = shut-first j (rw is (ltb-true _ _ e)) shut
+      by-test false e =
+          let first = distinct-first c demand pair X Y kind (length X) (length Y) k j (ltb-false _ _ e) h in
+          rw (← first .1) (shut-first 0 (rw is (first .0)) shut)
+
+  pub row-shut : allShut marks (row .distinct) ≡ true → (best : Choice) → best ≡ bestOfRow c demand pair X Y kind k best
+  unfolding bestOfRow
+  row-shut shut best =
+      let count = rowOf kind (length X) (length Y) k .count in
+      sym (scan-stays (λ j. better c demand pair X Y (moveAt kind pair (length X) (length Y) k j)) count 0 count best (omega arith)
+      (λ j h. better-told c demand pair X Y (moveAt kind pair (length X) (length Y) k j) best
+      ∙ sym (told-lost1 pair (moveAt kind pair (length X) (length Y) k j) _ _ best (shut-at shut j h))))
 
 -- ---- a row worked out
 

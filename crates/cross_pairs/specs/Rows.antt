@@ -8,6 +8,7 @@ use lib.IntN.{ℤ}
 use lib.ListN.{length, getD}
 use lib.Ieee.{Float, nan, inf, lt}
 use Rattle.numbers.specs.Operations.{_⊕_, _⊖_, zero64}
+use Rattle.tests.specs.All.{allBelow}
 use Rattle.evaluation.specs.Columns.{Columns}
 use Rattle.descent.specs.Order.{range}
 use Rattle.day.specs.declared.vehicle.Van.{Van}
@@ -30,6 +31,10 @@ markOf tested first second = cond ((not tested || first) && second) zero64 (inf 
 pub record Marked (demand : List ℤ) (van1 van2 : Van) (X Y : List ℕ) (tested : Bool) (own others : Stretch) (count : ℕ) (marks : List Float) : Type 0 where
   pub mark-at : (j : ℕ) → j < count → getD marks j nan
       ≡ markOf tested (holds demand van1 (changed X own Y others j)) (holds demand van2 (changed Y others X own j))
+
+-- none of the first `count` moves is open
+abbrev pub allShut : List Float → ℕ → Bool
+allShut marks count = allBelow (λ k. not (lt (getD marks k nan) (inf false))) count
 
 -- a table whose entries from `from` on, up to `count`, are now its first entry
 pub record Extended (xs ys : List Float) (from count : ℕ) : Type 0 where

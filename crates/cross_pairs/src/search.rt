@@ -26,7 +26,7 @@ ghost use Rattle.cross_moves.specs.Boxes.{Loaded, Prefixed};
 ghost use Rattle.cross_rows.specs.Row.{Two, Rowed};
 ghost use Rattle.cross_pairs.specs.Kinds.{rowsIn};
 ghost use Rattle.cross_pairs.specs.Scan.{Asked, Paired, Ready, Roomy, bestBetween};
-ghost use Rattle.cross_pairs.specs.Rows.{markOf, Marked, Extended, lesserOf, leastOf, chosenBy, bestOfRow, bestOfKind};
+ghost use Rattle.cross_pairs.specs.Rows.{markOf, Marked, allShut, Extended, lesserOf, leastOf, chosenBy, bestOfRow, bestOfKind};
 
 // The best move so far, with its delta and what its two lists cost. `found` is 1 where there is one, a whole word as in `Move`; else it is 0, and the delta is
 // minus the floor.
@@ -114,6 +114,21 @@ fn mark_row(
         marks[j] = mark(tested, first, second);
         j += 1;
     }
+}
+
+// Whether none of the first `count` moves is open.
+fn is_shut(marks: &[f64], count: usize) -> bool
+    requires { ⌜ (length (now marks) ≡ 64) × (count ≤ 64) ⌝ }
+    ensures { λ r. ⌜ r ≡ allShut (now (marks .entry)) count ⌝ }
+{
+    let mut k = 0;
+    while k < count {
+        if marks[k] < infinite() {
+            return false;
+        }
+        k += 1;
+    }
+    true
 }
 
 // ---- the least of a row
@@ -242,6 +257,9 @@ fn best_of_row(
         distinct,
         costs2,
     );
+    if is_shut(costs2, distinct) {
+        return best;
+    }
     row_costs(
         l,
         flags,
@@ -476,7 +494,7 @@ fn best_of_kinds(
 
 // The prefix loads of two lists, in the first and the second 64 entries of the table.
 fn prefix_both(l: usize, demand: &[i32], one: &[u16], other: &[u16], sums: &mut [usize])
-    requires { ⌜ Loaded l (now demand) × Two l (now one) (now other) × (length (now sums) ≡ 256) ⌝ }
+    requires { ⌜ Loaded l (now demand) × Two l (now one) (now other) × (length (now sums) ≡ 128) ⌝ }
     ensures { λ _.
         ⌜ Prefixed (now (demand .entry)) (now (one .entry)) (take 64 (now (sums .exit)))
         × Prefixed (now (demand .entry)) (now (other .entry)) (take 64 (drop 64 (now (sums .exit)))) ⌝ }
@@ -507,7 +525,7 @@ fn heads_of_both(
     heads: &mut [f64],
 ) -> Reach
     requires { ⌜ Formed (columnsAt l flags service ready due penalty distances times) × Paired l pair × Two l (now one) (now other) ⌝ }
-    requires { ⌜ length (now heads) ≡ 1024 ⌝ }
+    requires { ⌜ length (now heads) ≡ 512 ⌝ }
     ensures { λ r.
         ⌜ (let c = columnsAt l (flags .entry) (service .entry) (ready .entry) (due .entry) (penalty .entry) (distances .entry) (times .entry) in
         Kept c (pair .van1 .depot) (now (one .entry)) (take 256 (now (heads .exit))) (r .one)
@@ -567,7 +585,7 @@ pub fn between_lists(
     best: Choice,
 ) -> Choice
     requires { ⌜ Asked (columnsAt l flags service ready due penalty distances times) (now demand) × Paired l pair × Two l (now one) (now other) ⌝ }
-    requires { ⌜ (length (now sums) ≡ 256) × (length (now heads) ≡ 1024) × (length (now costs) ≡ 192) ⌝ }
+    requires { ⌜ (length (now sums) ≡ 128) × (length (now heads) ≡ 512) × (length (now costs) ≡ 64) ⌝ }
     ensures { λ r.
         ⌜ r ≡ bestBetween
         (columnsAt l (flags .entry) (service .entry) (ready .entry) (due .entry) (penalty .entry) (distances .entry) (times .entry))
