@@ -348,15 +348,16 @@ scan-stays f (suc left) k n b e h =
     sym (scan-turn f k n b b more (sym (h k more))) ∙ scan-stays f left (k + 1) n b (omega (arith, e)) h
 
 module _ (c : Columns) (demand : List ℤ) (pair : Pair) (X Y : List ℕ) (kind : Kind) (k : ℕ) (marks : List Float) (row : Row)
-    (is : row ≡ rowOf kind (length X) (length Y) k) (tested : Bool) (tests : tested ≡ testedIn kind)
-    (marked-by : Marked demand (pair .van1) (pair .van2) X Y tested (row .own) (row .others) (row .distinct) marks) where
+    (is : row ≡ rowOf kind (length X) (length Y) k) (van1 van2 : Van) (is1 : van1 ≡ pair .van1) (is2 : van2 ≡ pair .van2)
+    (tested : Bool) (tests : tested ≡ testedIn kind)
+    (marked-by : Marked demand van1 van2 X Y tested (row .own) (row .others) (row .distinct) marks) where
   -- the first cost of a move that is shut
   shut-first : (j : ℕ) → j < row .distinct → allShut marks (row .distinct) ≡ true
       → lt (cost1-of c demand pair X Y (moveAt kind pair (length X) (length Y) k j)) (inf false) ≡ false
   unfolding cost1-of costUnless
   shut-first j h shut =
       let same = row-stretches kind pair (length X) (length Y) k j in
-      let mark = rw (tests, is, same .from1-is, same .to1-is, same .from2-is, same .to2-is) at (marked-by .mark-at j h) in
+      let mark = rw (is1, is2, tests, is, same .from1-is, same .to1-is, same .from2-is, same .to2-is) at (marked-by .mark-at j h) in
       let lost = not-true (lt (getD marks j nan) (inf false)) (all-at (λ i. not (lt (getD marks i nan) (inf false))) (row .distinct) j h shut) in
       rw (move-tested kind pair (length X) (length Y) k j, ← mark, lost) infinite-lost
 
@@ -384,17 +385,17 @@ module _ (c : Columns) (demand : List ℤ) (pair : Pair) (X Y : List ℕ) (kind 
 
 module _ (c : Columns) (demand : List ℤ) (pair : Pair) (X Y : List ℕ) (kind : Kind) (k : ℕ) (marks some costs1 costs2 : List Float) (row : Row)
     (is : row ≡ rowOf kind (length X) (length Y) k) where
-  pub tabled : (tested : Bool) → tested ≡ testedIn kind
-      → Marked demand (pair .van1) (pair .van2) X Y tested (row .own) (row .others) (row .distinct) marks
-      → ((j : ℕ) → j < row .distinct → getD some j nan ≡ costUnless c (pair .van1) (getD marks j nan) (changed X (row .own) Y (row .others) j))
+  pub tabled : (van1 van2 : Van) → van1 ≡ pair .van1 → van2 ≡ pair .van2 → (tested : Bool) → tested ≡ testedIn kind
+      → Marked demand van1 van2 X Y tested (row .own) (row .others) (row .distinct) marks
+      → ((j : ℕ) → j < row .distinct → getD some j nan ≡ costUnless c van1 (getD marks j nan) (changed X (row .own) Y (row .others) j))
       → Extended some costs1 (row .distinct) (row .count)
-      → ((j : ℕ) → j < row .count → getD costs2 j nan ≡ costUnless c (pair .van2) (getD costs1 j nan) (changed Y (row .others) X (row .own) j))
+      → ((j : ℕ) → j < row .count → getD costs2 j nan ≡ costUnless c van2 (getD costs1 j nan) (changed Y (row .others) X (row .own) j))
       → Tabled c demand pair X Y kind k marks some costs1 costs2
-  tabled tested e marked-by some-by extended-by costs2-by = record {
-    marks-are = rw (e, is) at (marked-by .mark-at);
-    some-are = rw is at some-by;
+  tabled van1 van2 is1 is2 tested e marked-by some-by extended-by costs2-by = record {
+    marks-are = rw (is1, is2, e, is) at (marked-by .mark-at);
+    some-are = rw (is1, is) at some-by;
     extended = rw is at extended-by;
-    costs2-are = rw is at costs2-by;
+    costs2-are = rw (is2, is) at costs2-by;
   }
 
   module _ (t : Tabled c demand pair X Y kind k marks some costs1 costs2) (best : Choice) (least : Least)

@@ -13,6 +13,7 @@ use cross_rows::row::Stretch;
 use cross_rows::row::end_at;
 use cross_rows::row::row_costs;
 use cross_rows::row::start_at;
+use day::vehicle::Van;
 use heads::fill_heads;
 use numbers::infinite;
 use tests::both;
@@ -22,6 +23,7 @@ ghost use Prim.Native.Nat.{_≤_, _<_};
 ghost use lib.ListN.{length, take, drop};
 ghost use Rattle.evaluation.specs.Columns.{columnsAt, Formed};
 ghost use Rattle.heads.specs.Kept.{Kept};
+ghost use Rattle.fleet.specs.Fleet.{Driven};
 ghost use Rattle.cross_moves.specs.Boxes.{Loaded, Prefixed};
 ghost use Rattle.cross_rows.specs.Row.{Two, Rowed};
 ghost use Rattle.cross_pairs.specs.Kinds.{rowsIn};
@@ -60,7 +62,8 @@ fn mark(tested: bool, first: bool, second: bool) -> f64
 fn mark_row(
     l: usize,
     demand: &[i32],
-    pair: Pair,
+    van1: Van,
+    van2: Van,
     one: &[u16],
     other: &[u16],
     loads1: &[usize],
@@ -71,14 +74,12 @@ fn mark_row(
     count: usize,
     marks: &mut [f64],
 )
-    requires { ⌜ Loaded l (now demand) × Paired l pair × Two l (now one) (now other) ⌝ }
+    requires { ⌜ Loaded l (now demand) × (Driven l van1 × Driven l van2) × Two l (now one) (now other) ⌝ }
     requires { ⌜ Prefixed (now demand) (now one) (now loads1) × Prefixed (now demand) (now other) (now loads2) ⌝ }
     requires { ⌜ Rowed (length (now one)) (length (now other)) own others count × (length (now marks) ≡ 64) ⌝ }
     ensures { λ _.
-        ⌜ Marked (now (demand .entry)) (pair .van1) (pair .van2) (now (one .entry)) (now (other .entry)) tested own others count (now (marks .exit)) ⌝ }
+        ⌜ Marked (now (demand .entry)) van1 van2 (now (one .entry)) (now (other .entry)) tested own others count (now (marks .exit)) ⌝ }
 {
-    let van1 = pair.van1;
-    let van2 = pair.van2;
     let mut j = 0;
     while j < count {
         let from1 = start_at(own, j);
@@ -216,6 +217,8 @@ fn best_of_row(
     distances: &[f64],
     times: &[f64],
     pair: Pair,
+    van1: Van,
+    van2: Van,
     one: &[u16],
     other: &[u16],
     loads1: &[usize],
@@ -232,7 +235,7 @@ fn best_of_row(
 ) -> Choice
     requires { ⌜ Ready (columnsAt l flags service ready due penalty distances times) (now demand) pair (now one) (now other) (now loads1) (now loads2)
         (now heads1) (now heads2) reached1 reached2 ⌝ }
-    requires { ⌜ Roomy (now costs1) (now costs2) × (k < rowsIn kind (length (now one))) ⌝ }
+    requires { ⌜ Roomy (now costs1) (now costs2) × (k < rowsIn kind (length (now one))) × (van1 ≡ pair .van1) × (van2 ≡ pair .van2) ⌝ }
     ensures { λ r.
         ⌜ r ≡ bestOfRow
         (columnsAt l (flags .entry) (service .entry) (ready .entry) (due .entry) (penalty .entry) (distances .entry) (times .entry))
@@ -246,7 +249,8 @@ fn best_of_row(
     mark_row(
         l,
         demand,
-        pair,
+        van1,
+        van2,
         one,
         other,
         loads1,
@@ -269,7 +273,7 @@ fn best_of_row(
         penalty,
         distances,
         times,
-        pair.van1,
+        van1,
         heads1,
         reached1,
         one,
@@ -290,7 +294,7 @@ fn best_of_row(
         penalty,
         distances,
         times,
-        pair.van2,
+        van2,
         heads2,
         reached2,
         other,
@@ -349,6 +353,8 @@ fn best_of_kind(
         (columnsAt l (flags .entry) (service .entry) (ready .entry) (due .entry) (penalty .entry) (distances .entry) (times .entry))
         (now (demand .entry)) pair (now (one .entry)) (now (other .entry)) kind best ⌝ }
 {
+    let van1 = pair.van1;
+    let van2 = pair.van2;
     let rows = rows_of(kind, one.len());
     let mut found = best;
     let mut k = 0;
@@ -364,6 +370,8 @@ fn best_of_kind(
             distances,
             times,
             pair,
+            van1,
+            van2,
             one,
             other,
             loads1,

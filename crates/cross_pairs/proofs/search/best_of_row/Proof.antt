@@ -31,7 +31,7 @@ mark-row-requires c κs =
     let one = start .args .one .now in
     let other = start .args .other .now in
     let some = row-some _ (length one) (length other) _ _ (at-row-of .row-of .ensures) few (start .pre .1 .1) in (
-      (start .pre .0 .asked .loaded, start .pre .0 .paired, start .pre .0 .two),
+      (start .pre .0 .asked .loaded, (rw (start .pre .1 .2) (start .pre .0 .paired .driven1), rw (start .pre .1 .3) (start .pre .0 .paired .driven2)), start .pre .0 .two),
       ((start .pre .0 .prefixed1, start .pre .0 .prefixed2), (some, start .pre .1 .0 .costs2-long)),
     )
 
@@ -45,13 +45,13 @@ is-shut-requires c κs =
     let one = start .args .one .now in
     let other = start .args .other .now in
     let some = row-some _ (length one) (length other) _ _ (at-row-of .row-of .ensures) few (start .pre .1 .1) in
-    let marks-kept = at-mark-row .mark-row .kept .1 .1 .1 .1 .1 .1 .1 .1 .1 .1 .1 .0 in
+    let marks-kept = at-mark-row .mark-row .kept .1 .1 .1 .1 .1 .1 .1 .1 .1 .1 .1 .1 .0 in
     (marks-kept ∙ start .pre .1 .0 .costs2-long, some .few)
 
 same-length : tie.Need-same-length
 same-length c =
     let at-mark-row = c .before .before .before .before .before in
-    at-mark-row .mark-row .kept .1 .1 .1 .1 .1 .1 .1 .1 .1 .1 .1 .0
+    at-mark-row .mark-row .kept .1 .1 .1 .1 .1 .1 .1 .1 .1 .1 .1 .1 .0
 
 returns : tie.Need-returns
 returns c =
@@ -64,7 +64,7 @@ returns c =
     let few = start .pre .0 .two .few in
     let one = start .args .one .now in
     let other = start .args .other .now in
-    row-shut _ (start .args .demand .now) (start .args .pair) one other (start .args .kind) (start .args .k) _ _ (at-row-of .row-of .ensures) _ (at-is-tested .is-tested .ensures) (at-mark-row .mark-row .ensures)
+    row-shut _ (start .args .demand .now) (start .args .pair) one other (start .args .kind) (start .args .k) _ _ (at-row-of .row-of .ensures) _ _ (start .pre .1 .2) (start .pre .1 .3) _ (at-is-tested .is-tested .ensures) (at-mark-row .mark-row .ensures)
     (sym (at-is-shut .is-shut .ensures) ∙ c .if1 .taken) (start .args .best)
 
 row-costs-requires : tie.Need-row-costs-requires
@@ -77,9 +77,9 @@ row-costs-requires c κs =
     let one = start .args .one .now in
     let other = start .args .other .now in
     let some = row-some _ (length one) (length other) _ _ (at-row-of .row-of .ensures) few (start .pre .1 .1) in
-    let marks-kept = at-mark-row .mark-row .kept .1 .1 .1 .1 .1 .1 .1 .1 .1 .1 .1 .0 in (
-      (start .pre .0 .asked .formed, start .pre .0 .paired .driven1, start .pre .0 .two),
-      ((start .pre .0 .kept1, some), (marks-kept ∙ start .pre .1 .0 .costs2-long, start .pre .1 .0 .costs1-long)),
+    let marks-kept = at-mark-row .mark-row .kept .1 .1 .1 .1 .1 .1 .1 .1 .1 .1 .1 .1 .0 in (
+      (start .pre .0 .asked .formed, rw (start .pre .1 .2) (start .pre .0 .paired .driven1), start .pre .0 .two),
+      ((rw (start .pre .1 .2) (start .pre .0 .kept1), some), (marks-kept ∙ start .pre .1 .0 .costs2-long, start .pre .1 .0 .costs1-long)),
     )
 
 extend-requires : tie.Need-extend-requires
@@ -108,9 +108,9 @@ row-costs-requires-2 c κs =
     let other = start .args .other .now in
     let lies = row-lies _ (length one) (length other) _ _ (at-row-of .row-of .ensures) few (start .pre .1 .1) in
     let some-kept = at-row-costs .row-costs .kept .1 .1 .1 .1 .1 .1 .1 .1 .1 .1 .1 .1 .1 .1 .1 .1 .1 .0 in
-    let marks-kept = at-mark-row .mark-row .kept .1 .1 .1 .1 .1 .1 .1 .1 .1 .1 .1 .0 in (
-      (start .pre .0 .asked .formed, start .pre .0 .paired .driven2, two-turned _ _ _ (start .pre .0 .two)),
-      ((start .pre .0 .kept2, row-turned lies), (at-extend .extend .kept .0 ∙ some-kept ∙ start .pre .1 .0 .costs1-long, marks-kept ∙ start .pre .1 .0 .costs2-long)),
+    let marks-kept = at-mark-row .mark-row .kept .1 .1 .1 .1 .1 .1 .1 .1 .1 .1 .1 .1 .0 in (
+      (start .pre .0 .asked .formed, rw (start .pre .1 .3) (start .pre .0 .paired .driven2), two-turned _ _ _ (start .pre .0 .two)),
+      ((rw (start .pre .1 .3) (start .pre .0 .kept2), row-turned lies), (at-extend .extend .kept .0 ∙ some-kept ∙ start .pre .1 .0 .costs1-long, marks-kept ∙ start .pre .1 .0 .costs2-long)),
     )
 
 least-of-requires : tie.Need-least-of-requires
@@ -127,7 +127,7 @@ least-of-requires c κs =
     let other = start .args .other .now in
     let lies = row-lies _ (length one) (length other) _ _ (at-row-of .row-of .ensures) few (start .pre .1 .1) in
     let some-kept = at-row-costs .row-costs .kept .1 .1 .1 .1 .1 .1 .1 .1 .1 .1 .1 .1 .1 .1 .1 .1 .1 .0 in
-    let marks-kept = at-mark-row .mark-row .kept .1 .1 .1 .1 .1 .1 .1 .1 .1 .1 .1 .0 in
+    let marks-kept = at-mark-row .mark-row .kept .1 .1 .1 .1 .1 .1 .1 .1 .1 .1 .1 .1 .0 in
     let costs2-kept = at-row-costs2 .row-costs2 .kept .1 .1 .1 .1 .1 .1 .1 .1 .1 .1 .1 .1 .1 .1 .1 .1 .1 .0 in
     (at-extend .extend .kept .0 ∙ some-kept ∙ start .pre .1 .0 .costs1-long, costs2-kept ∙ marks-kept ∙ start .pre .1 .0 .costs2-long, lies .few)
 
@@ -147,9 +147,9 @@ choose-requires c κs =
     let other = start .args .other .now in
     let lies = row-lies _ (length one) (length other) _ _ (at-row-of .row-of .ensures) few (start .pre .1 .1) in
     let some-kept = at-row-costs .row-costs .kept .1 .1 .1 .1 .1 .1 .1 .1 .1 .1 .1 .1 .1 .1 .1 .1 .1 .0 in
-    let marks-kept = at-mark-row .mark-row .kept .1 .1 .1 .1 .1 .1 .1 .1 .1 .1 .1 .0 in
+    let marks-kept = at-mark-row .mark-row .kept .1 .1 .1 .1 .1 .1 .1 .1 .1 .1 .1 .1 .0 in
     let costs2-kept = at-row-costs2 .row-costs2 .kept .1 .1 .1 .1 .1 .1 .1 .1 .1 .1 .1 .1 .1 .1 .1 .1 .1 .0 in
-    let whole = tabled _ (start .args .demand .now) (start .args .pair) one other (start .args .kind) (start .args .k) _ _ _ _ _ (at-row-of .row-of .ensures) _ (at-is-tested .is-tested .ensures)
+    let whole = tabled _ (start .args .demand .now) (start .args .pair) one other (start .args .kind) (start .args .k) _ _ _ _ _ (at-row-of .row-of .ensures) _ _ (start .pre .1 .2) (start .pre .1 .3) _ (at-is-tested .is-tested .ensures)
     (at-mark-row .mark-row .ensures) (at-row-costs .row-costs .ensures) (at-extend .extend .ensures) (at-row-costs2 .row-costs2 .ensures) in (
       omega (arith, rows-few (start .args .kind) (length one), start .pre .1 .1, few),
       least-few _ (start .args .demand .now) (start .args .pair) one other (start .args .kind) (start .args .k) _ _ _ _ _ (at-row-of .row-of .ensures) whole (start .args .best) _
@@ -170,7 +170,7 @@ same-length-3 c =
     let at-row-costs2 = c .before .before .before .before .before .before .before .before in
     let further = at-row-costs2 .before .before .before .before .before .before .before .before .before .before in
     let at-mark-row = further .before .before .before .before .before .before .before in
-    let marks-kept = at-mark-row .mark-row .kept .1 .1 .1 .1 .1 .1 .1 .1 .1 .1 .1 .0 in
+    let marks-kept = at-mark-row .mark-row .kept .1 .1 .1 .1 .1 .1 .1 .1 .1 .1 .1 .1 .0 in
     let costs2-kept = at-row-costs2 .row-costs2 .kept .1 .1 .1 .1 .1 .1 .1 .1 .1 .1 .1 .1 .1 .1 .1 .1 .1 .0 in
     costs2-kept ∙ marks-kept
 
@@ -188,7 +188,7 @@ returns-2 c =
     let few = start .pre .0 .two .few in
     let one = start .args .one .now in
     let other = start .args .other .now in
-    let whole = tabled _ (start .args .demand .now) (start .args .pair) one other (start .args .kind) (start .args .k) _ _ _ _ _ (at-row-of .row-of .ensures) _ (at-is-tested .is-tested .ensures)
+    let whole = tabled _ (start .args .demand .now) (start .args .pair) one other (start .args .kind) (start .args .k) _ _ _ _ _ (at-row-of .row-of .ensures) _ _ (start .pre .1 .2) (start .pre .1 .3) _ (at-is-tested .is-tested .ensures)
     (at-mark-row .mark-row .ensures) (at-row-costs .row-costs .ensures) (at-extend .extend .ensures) (at-row-costs2 .row-costs2 .ensures) in
     row-answers _ (start .args .demand .now) (start .args .pair) one other (start .args .kind) (start .args .k) _ _ _ _ _ (at-row-of .row-of .ensures) whole (start .args .best) _
     (at-least-of .least-of .ensures) _ (c .choose .ensures)
