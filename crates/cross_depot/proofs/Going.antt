@@ -28,11 +28,11 @@ use Rattle.cross_moves.specs.CrossDepot.{Plan, afterMove, searchOf, judgeOf, ru
 use Rattle.cross_pairs.specs.Scan.{Held, isFound, moveOf}
 use Rattle.cross_changes.specs.Tables.{Made}
 use Rattle.cross_depot.specs.Tables.{MadeIn, Chosen, Handed, crossedOf}
-use Rattle.cross_depot.specs.Deltas.{Kept, keptOf}
+use Rattle.cross_search.specs.Deltas.{Kept, keptOf}
 use Rattle.cross_moves.specs.declared.pair.Move.{Move}
 use Rattle.cross_pairs.specs.declared.search.Choice.{Choice}
-use Rattle.cross_depot.specs.declared.run.Crossed.{Crossed}
-use Rattle.cross_depot.proofs.Keeping.{kept-moved}
+use Rattle.cross_depot.specs.declared.Crossed.{Crossed}
+use Rattle.cross_search.proofs.Keeping.{kept-moved}
 
 -- a run's outcome behind some moves
 abbrev behind : {S : Type 0} → ℕ → Outcome S → Outcome S

@@ -1,11 +1,5 @@
-pub mod Pairs
-pub mod Onward
-pub mod Choosing
-pub mod Joining
-pub mod Keeping
 pub mod Sound
 pub mod Going
-pub mod Starting
 pub mod Ends
 pub mod Carrying
 pub mod Answering

@@ -28,8 +28,8 @@ use Rattle.cross_changes.specs.Tables.{Makes}
 use Rattle.cross_depot.specs.Tables.{Chosen}
 use Rattle.cross_moves.specs.declared.pair.Move.{Move}
 use Rattle.cross_pairs.specs.declared.search.Choice.{Choice}
-use Rattle.cross_depot.proofs.Pairs.{depots-apart}
-use Rattle.cross_depot.proofs.Choosing.{chosen}
+use Rattle.cross_search.proofs.Pairs.{depots-apart}
+use Rattle.cross_search.proofs.Choosing.{chosen}
 
 -- ---- stretches and cuts
 

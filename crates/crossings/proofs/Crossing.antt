@@ -19,7 +19,7 @@ use Rattle.loads.proofs.Boxes.{loaded-of}
 use Rattle.cross_moves.specs.CrossDepot.{Carried, crossRan}
 use Rattle.cross_pairs.specs.Scan.{Asked, Held}
 use Rattle.cross_depot.specs.Tables.{Handed, crossedOf}
-use Rattle.cross_depot.specs.declared.run.Crossed.{Crossed}
+use Rattle.cross_depot.specs.declared.Crossed.{Crossed}
 use Rattle.refusals.specs.Refusal.{refusalOfFleet, FineFleet}
 use Rattle.refusals.specs.Answered.{refused-by, answered}
 use Rattle.rearrangements.specs.Rearrange.{rearrangedOf, padded, remainingIn}

@@ -88,7 +88,7 @@ pub fn cross_depot_improve(
     if refused != 0 {
         return Rearranged::Refused(refused);
     }
-    let crossed = cross_depot::run::improve(
+    let crossed = cross_depot::improve(
         l,
         flags,
         demand,

@@ -1,0 +1,5 @@
+pub mod Pairs
+pub mod Onward
+pub mod Choosing
+pub mod Joining
+pub mod Keeping
