@@ -31,7 +31,7 @@ use Rattle.cross_moves.specs.CrossDepot.{Plan, isTested, foundIds, lentPlan, pr
 use Rattle.cross_moves.specs.CrossDepot.{afterMove, firstPrice, secondPrice, moved, searchOf, judgeOf, runOf, Carries, Carried}
 use Rattle.cross_moves.specs.declared.price.Price.the-variants.{Unallowed}
 use Rattle.cross_moves.specs.declared.pair.Move.{Move}
-use Rattle.cross_pairs.proofs.Loads.{load-parts}
+use Rattle.cross_kinds.proofs.Loads.{load-parts}
 use Rattle.cross_depot.proofs.Sound.{TestedOrLess, move-tested}
 
 -- ---- something of every list and the id of its van

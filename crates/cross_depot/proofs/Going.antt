@@ -25,12 +25,12 @@ use Rattle.engine.specs.Engine.{endedAs}
 use Rattle.engine.specs.declared.Ended.the-variants.{Settled, Stopped}
 use Rattle.fleet.specs.Fleet.{Fleet}
 use Rattle.cross_moves.specs.CrossDepot.{Plan, afterMove, searchOf, judgeOf, runOf, ranOf, planOf}
-use Rattle.cross_pairs.specs.Scan.{Held, isFound, moveOf}
+use Rattle.cross_choices.specs.Scan.{Held, isFound, moveOf}
 use Rattle.cross_changes.specs.Tables.{Made}
 use Rattle.cross_depot.specs.Tables.{MadeIn, Chosen, Handed, crossedOf}
 use Rattle.cross_search.specs.Deltas.{Kept, keptOf}
 use Rattle.cross_moves.specs.declared.pair.Move.{Move}
-use Rattle.cross_pairs.specs.declared.search.Choice.{Choice}
+use Rattle.cross_choices.specs.declared.Choice.{Choice}
 use Rattle.cross_depot.specs.declared.Crossed.{Crossed}
 use Rattle.cross_search.proofs.Keeping.{kept-moved}
 

@@ -23,11 +23,11 @@ use Rattle.descent.proofs.Sweeps.{first-least-some}
 use Rattle.fleet.specs.Fleet.{Fleet}
 use Rattle.cross_moves.specs.CrossDepot.{Plan, isTested, relocation, stretchEnd, exchange, cuts, relocations, swaps, tailExchanges, pairOf, sameDepot, planOf}
 use Rattle.cross_moves.specs.CrossDepot.{betweenLists, ofPair, moves, moved, searchOf, judgeOf}
-use Rattle.cross_pairs.specs.Scan.{nothing, isFound, moveOf, bestOf}
+use Rattle.cross_choices.specs.Scan.{nothing, isFound, moveOf, bestOf}
 use Rattle.cross_changes.specs.Tables.{Makes}
 use Rattle.cross_depot.specs.Tables.{Chosen}
 use Rattle.cross_moves.specs.declared.pair.Move.{Move}
-use Rattle.cross_pairs.specs.declared.search.Choice.{Choice}
+use Rattle.cross_choices.specs.declared.Choice.{Choice}
 use Rattle.cross_search.proofs.Pairs.{depots-apart}
 use Rattle.cross_search.proofs.Choosing.{chosen}
 

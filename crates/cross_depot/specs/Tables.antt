@@ -14,8 +14,8 @@ use Rattle.fleet.specs.Fleet.{Fleet}
 use Rattle.cross_moves.specs.CrossDepot.{Ran, planOf, afterMove, moved, searchOf, judgeOf}
 use Rattle.cross_moves.specs.declared.pair.Move.{Move}
 use Rattle.cross_changes.specs.Tables.{Makes, Made}
-use Rattle.cross_pairs.specs.Scan.{isFound, moveOf}
-use Rattle.cross_pairs.specs.declared.search.Choice.{Choice}
+use Rattle.cross_choices.specs.Scan.{isFound, moveOf}
+use Rattle.cross_choices.specs.declared.Choice.{Choice}
 use Rattle.cross_depot.specs.declared.Crossed.{Crossed}
 
 -- a move made in the first n lists of the tables: what stands behind them stays as it is

@@ -2,7 +2,7 @@
 // lent prices on, the greatest gain over relocations, swaps and tail exchanges of every pair of lists, the first found of equals, until none gains or the limit
 // is used up; every list is priced with its own van.
 use cross_changes::make_move;
-use cross_pairs::search::Choice;
+use cross_choices::Choice;
 use cross_search::best_move;
 use cross_starts::start;
 use day::matrix::scale;
@@ -19,7 +19,7 @@ ghost use Rattle.lists.specs.Table.{lists};
 ghost use Rattle.evaluation.specs.Columns.{columnsAt};
 ghost use Rattle.fleet.specs.Fleet.{fleetAt, Crewed, Manned};
 ghost use Rattle.cross_moves.specs.CrossDepot.{lentPlan, runOf, ranOf, crossRan, Carried, planOf};
-ghost use Rattle.cross_pairs.specs.Scan.{Asked, Held};
+ghost use Rattle.cross_choices.specs.Scan.{Asked, Held};
 ghost use Rattle.cross_changes.specs.Tables.{Makes};
 ghost use Rattle.cross_search.specs.Deltas.{Kept, keptOf};
 ghost use Rattle.cross_depot.specs.Tables.{MadeIn, Chosen, Handed, crossedOf};

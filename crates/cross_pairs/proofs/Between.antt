@@ -1,5 +1,5 @@
 -- The kinds of moves one after another are the definition's relocations, swaps and tail exchanges. Assumes nothing.
-use mathlib.Core.Path.{_≡_, refl, sym, ap, _∙_}
+use mathlib.Core.Path.{_≡_, refl, ap, _∙_}
 use mathlib.Core.List.{List, _++_}
 use Prim.Native.Nat.{ℕ, _+_, _≤_, _<_}
 use native.Mathlib.Omega.{arith}
@@ -14,12 +14,12 @@ use Rattle.tests.specs.Pick.{picked, other}
 use Rattle.evaluation.specs.Columns.{Columns}
 use Rattle.cross_moves.specs.declared.pair.Pair.{Pair}
 use Rattle.heads.specs.Kept.{Kept}
-use Rattle.cross_pairs.specs.Kinds.{moveAt, rowOf, rowsIn}
-use Rattle.cross_pairs.specs.Scan.{Roomy, tryRelocation, tryExchange, relocateRow, exchangeRow}
-use Rattle.cross_pairs.specs.Scan.{bestRelocation, bestSwap, bestTails, bestExchange, bestBetween}
-use Rattle.cross_pairs.specs.Rows.{bestOfRow, bestOfKind}
-use Rattle.cross_pairs.specs.declared.kind.Kind.the-variants.{Relocation, Swap, Tails}
-use Rattle.cross_pairs.specs.declared.search.Choice.{Choice}
+use Rattle.cross_kinds.specs.Kinds.{moveAt, rowOf, rowsIn}
+use Rattle.cross_choices.specs.Scan.{Roomy, tryRelocation, tryExchange, relocateRow, exchangeRow}
+use Rattle.cross_choices.specs.Scan.{bestRelocation, bestSwap, bestTails, bestExchange, bestBetween}
+use Rattle.cross_choices.specs.Rows.{bestOfRow, bestOfKind}
+use Rattle.cross_kinds.specs.declared.kind.Kind.the-variants.{Relocation, Swap, Tails}
+use Rattle.cross_choices.specs.declared.Choice.{Choice}
 
 -- the tables of a row keep their lengths
 pub roomy-kept : {costs1 costs2 costs1′ costs2′ : List Float} → Roomy costs1 costs2 → length costs1′ ≡ length costs1 → length costs2′ ≡ length costs2

@@ -4,30 +4,13 @@ use mathlib.Core.Path.{_≡_}
 use mathlib.Core.Bool.{false, cond}
 use mathlib.Core.List.{List}
 use Prim.Native.Nat.{ℕ, _+_, _*_, _≤_, _<_}
-use lib.ListN.{length, getD}
+use lib.ListN.{getD}
 use lib.Seq.{slice}
 use lib.Ieee.{Float, nan, inf, lt}
-use Rattle.numbers.specs.Operations.{_⊕_}
-use Rattle.day.specs.Vehicle.{routeCost, limitsOf, allows}
 use Rattle.day.specs.declared.vehicle.Van.{Van}
-use Rattle.day.specs.declared.vehicle.RouteLimits.{RouteLimits}
-use Rattle.day.specs.declared.vehicle.Rest.the-variants.{NoBreak}
 use Rattle.evaluation.specs.Columns.{Columns}
-use Rattle.evaluation.specs.Walk.{walk}
-use Rattle.evaluation.specs.Route.{tick, home, evaluated}
-use Rattle.evaluation.specs.declared.label.Label.{Label}
-use Rattle.heads.specs.Head.{tourAt}
-use Rattle.heads.specs.declared.Head.{Head}
-use Rattle.cross_moves.specs.CrossDepot.{priceOf, pricedAs, amount, replaced}
-use Rattle.cross_moves.specs.declared.price.Price.{Price}
-use Rattle.cross_moves.specs.declared.price.Price.the-variants.{Unallowed, Costs}
-use Rattle.cross_rows.specs.declared.row.Stretch.{Stretch}
-
--- of two lists of the tables
-pub record Two (l : ℕ) (X Y : List ℕ) : Type 0 where
-  pub one-below : (k : ℕ) → k < length X → getD X k 0 < l
-  pub other-below : (k : ℕ) → k < length Y → getD Y k 0 < l
-  pub few : length X + length Y ≤ 63
+use Rattle.cross_moves.specs.CrossDepot.{pricedAs, amount, replaced}
+use Rattle.cross_rows.specs.declared.Stretch.{Stretch}
 
 -- where the stretch of candidate j begins
 abbrev pub fromAt : Stretch → ℕ → ℕ
@@ -59,20 +42,3 @@ pub record Rowed (n m : ℕ) (own others : Stretch) (count : ℕ) : Type 0 where
   pub within : (j : ℕ) → j < count → toAt own j ≤ n
   pub others-ordered : (j : ℕ) → j < count → fromAt others j ≤ toAt others j
   pub others-within : (j : ℕ) → j < count → toAt others j ≤ m
-
--- ---- with no break to take
-
--- the van's limits, and no break among them
-pub record Unbroken (van : Van) (limits : RouteLimits) : Type 0 where
-  pub limits-are : limits ≡ limitsOf van
-  pub no-break : limits .rest ≡ NoBreak
-
--- what a list costs that ends with this label
-unfoldable pub endedPrice : Van → RouteLimits → Label → Float → Float → Price
-endedPrice van limits label distance back =
-    cond (allows limits distance (label .time ⊕ back)) (Costs (routeCost van (distance ⊕ label .«lateness_cost»))) Unallowed
-
--- what a list costs whose head is driven, with a part and then the tail behind it
-unfoldable pub priceOn : Columns → Van → RouteLimits → Head → List ℕ → List ℕ → Price
-priceOn c van limits head part tail =
-    priceOf van (evaluated limits (home c (van .depot) (walk c (tick c) (walk c (tick c) (tourAt head) part) tail)))

@@ -19,13 +19,13 @@ use Rattle.fleet.specs.Fleet.{Fleet}
 use Rattle.cross_moves.specs.CrossDepot.{Plan, relocation, exchange, cuts, relocations, swaps, tailExchanges, pairOf, sameDepot}
 use Rattle.cross_moves.specs.CrossDepot.{betweenLists, ofPair, moves}
 use Rattle.cross_moves.specs.CrossDepot.{hasPrice, amount, firstPrice, secondPrice, searchOf, judgeOf}
-use Rattle.cross_pairs.specs.Scan.{scan, decided, better, tryRelocation, tryExchange, relocateRow, exchangeRow, bestRelocation, bestSwap, bestTails}
-use Rattle.cross_pairs.specs.Scan.{bestExchange, bestBetween, bestOfPair, bestFrom, bestOf, betterIn, nothing, isFound, moveOf}
+use Rattle.cross_choices.specs.Scan.{scan, decided, better, tryRelocation, tryExchange, relocateRow, exchangeRow, bestRelocation, bestSwap, bestTails}
+use Rattle.cross_choices.specs.Scan.{bestExchange, bestBetween, bestOfPair, bestFrom, bestOf, betterIn, nothing, isFound, moveOf}
 use Rattle.cross_moves.specs.declared.price.Price.{Price}
 use Rattle.cross_moves.specs.declared.price.Price.the-variants.{Unallowed, Costs}
 use Rattle.cross_moves.specs.declared.pair.Pair.{Pair}
 use Rattle.cross_moves.specs.declared.pair.Move.{Move}
-use Rattle.cross_pairs.specs.declared.search.Choice.{Choice}
+use Rattle.cross_choices.specs.declared.Choice.{Choice}
 use Rattle.cross_search.proofs.Onward.{onward, figure, Counted, onward-better, counted-better, onward-stays, onward-end}
 
 -- ---- scans of scans

@@ -23,8 +23,8 @@ use Rattle.fleet.specs.Fleet.{Fleet, fleetVehicle}
 use Rattle.cross_moves.specs.CrossDepot.{Plan, pairOf, sameDepot, exchangedBy, ofFilled, dropped, afterMove, first, second, planOf}
 use Rattle.cross_moves.specs.declared.pair.Pair.{Pair}
 use Rattle.cross_moves.specs.declared.pair.Move.{Move}
-use Rattle.cross_pairs.specs.Scan.{nothing, bestBetween, bestOfPair}
-use Rattle.cross_pairs.specs.declared.search.Choice.{Choice}
+use Rattle.cross_choices.specs.Scan.{nothing, bestBetween, bestOfPair}
+use Rattle.cross_choices.specs.declared.Choice.{Choice}
 use Rattle.cross_search.specs.Deltas.{isOld, keptOf, leastOf, Sunk, Kept}
 use Rattle.cross_search.proofs.Joining.{pair-skipped}
 

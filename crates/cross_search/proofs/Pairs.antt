@@ -20,10 +20,10 @@ use Rattle.descent.specs.Order.{range}
 use Rattle.descent.proofs.Loops.{range-step, range-done}
 use Rattle.fleet.specs.Fleet.{Fleet, Manned}
 use Rattle.cross_moves.specs.CrossDepot.{pairOf, sameDepot, planOf}
-use Rattle.cross_rows.specs.Row.{Two}
-use Rattle.cross_pairs.specs.Scan.{Held, Paired, scan, bestBetween, bestOfPair, bestFrom, bestOf}
+use Rattle.cross_prices.specs.Candidate.{Two}
+use Rattle.cross_choices.specs.Scan.{Held, Paired, scan, bestBetween, bestOfPair, bestFrom, bestOf}
 use Rattle.cross_moves.specs.declared.pair.Pair.{Pair}
-use Rattle.cross_pairs.specs.declared.search.Choice.{Choice}
+use Rattle.cross_choices.specs.declared.Choice.{Choice}
 use Rattle.fleet.proofs.Numbered.{vehicle-driven}
 
 -- ---- a loop

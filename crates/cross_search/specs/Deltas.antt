@@ -12,8 +12,8 @@ use lib.Ieee.{Float, nan, lt, neg}
 use Rattle.evaluation.specs.Columns.{Columns}
 use Rattle.fleet.specs.Fleet.{Fleet}
 use Rattle.cross_moves.specs.CrossDepot.{Plan}
-use Rattle.cross_pairs.specs.Scan.{nothing, bestOfPair}
-use Rattle.cross_pairs.specs.declared.search.Choice.{Choice}
+use Rattle.cross_choices.specs.Scan.{nothing, bestOfPair}
+use Rattle.cross_choices.specs.declared.Choice.{Choice}
 
 -- the better of two choices, the first of equals
 unfoldable pub joined : Choice → Choice → Choice

@@ -1,10 +1,10 @@
 // The best move over all pairs of lists of different depots (`best_move` of local_search/cross_depot.rs). The least delta of each pair is kept over a run,
 // and a pair whose two lists are as they were is searched again only where its delta is below the best so far.
+use cross_choices::Choice;
 use cross_moves::pair::Move;
 use cross_moves::pair::is_same_depot;
 use cross_moves::pair::pair_at;
-use cross_pairs::search::Choice;
-use cross_pairs::search::between_lists;
+use cross_pairs::between_lists;
 use lists::list_of;
 use tests::both;
 ghost use mathlib.Core.Path.{_≡_};
@@ -13,7 +13,7 @@ ghost use Prim.Native.Nat.{_+_, _*_, _≤_, _<_};
 ghost use lib.ListN.{length, set};
 ghost use Rattle.evaluation.specs.Columns.{columnsAt};
 ghost use Rattle.cross_moves.specs.CrossDepot.{planOf};
-ghost use Rattle.cross_pairs.specs.Scan.{Asked, Held, nothing, bestOfPair, bestFrom, bestOf};
+ghost use Rattle.cross_choices.specs.Scan.{Asked, Held, nothing, bestOfPair, bestFrom, bestOf};
 ghost use Rattle.fleet.specs.Fleet.{fleetAt, Manned};
 ghost use Rattle.cross_search.specs.Deltas.{isOld, joined, leastOf, Sunk, Kept};
 

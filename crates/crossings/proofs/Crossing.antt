@@ -17,7 +17,7 @@ use Rattle.lists.specs.Table.{lists}
 use Rattle.evaluation.specs.Columns.{columnsOf, formed}
 use Rattle.loads.proofs.Boxes.{loaded-of}
 use Rattle.cross_moves.specs.CrossDepot.{Carried, crossRan}
-use Rattle.cross_pairs.specs.Scan.{Asked, Held}
+use Rattle.cross_choices.specs.Scan.{Asked, Held}
 use Rattle.cross_depot.specs.Tables.{Handed, crossedOf}
 use Rattle.cross_depot.specs.declared.Crossed.{Crossed}
 use Rattle.refusals.specs.Refusal.{refusalOfFleet, FineFleet}

@@ -4,7 +4,7 @@ use borrow.Author.Tests.{not-true}
 use mathlib.Core.Path.{sym, ap, _∙_}
 use native.Mathlib.Omega.{arith}
 use Rattle.descent.proofs.Members.{and-parts}
-use Rattle.cross_pairs.specs.Scan.{bestOfPair}
+use Rattle.cross_choices.specs.Scan.{bestOfPair}
 use Rattle.cross_search.proofs.Joining.{pair-searched, least-is}
 use Rattle.cross_search.proofs.Keeping.{pair-left}
 use Rattle.cross_search.proofs.after_pair.Statement.{statement}

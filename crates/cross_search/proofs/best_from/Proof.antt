@@ -6,7 +6,7 @@ use lib.ListN.{length}
 use Rattle.evaluation.specs.Columns.{columns}
 use Rattle.descent.specs.Order.{range}
 use Rattle.fleet.specs.Fleet.{fleetOf}
-use Rattle.cross_pairs.specs.Scan.{scan, bestOfPair, bestFrom}
+use Rattle.cross_choices.specs.Scan.{scan, bestOfPair, bestFrom}
 use Rattle.cross_moves.specs.CrossDepot.{planOf}
 use Rattle.cross_search.specs.Deltas.{Sunk, Kept}
 use Rattle.cross_search.proofs.Pairs.{from-start, scan-turn, scan-done}

@@ -1,0 +1,116 @@
+-- A list with a stretch of another in the place of its own: its visits are visits of the two, so that each is a location and they are at most 63; and what
+-- the van's answers make of its price. Assumes nothing.
+use mathlib.Core.Path.{_≡_, refl, ap, _∙_}
+use mathlib.Core.Logic.{_≢_}
+use mathlib.Core.Bool.{Bool, true, false, cond, not, _||_}
+use mathlib.Core.List.{List, [], _∷_, _++_}
+use Prim.Native.Nat.{ℕ, _+_, _-_, _≤_, _<_}
+use native.Mathlib.Omega.{arith}
+use borrow.Author.Tests.{lt-leb}
+use lib.IntN.{ℤ}
+use lib.ListN.{length, getD, take, drop, length-append, length-drop}
+use lib.Seq.{slice, length-take-le, length-slice}
+use Rattle.numbers.specs.Operations.{zero64}
+use Rattle.day.specs.Vehicle.{limitsOf}
+use Rattle.day.specs.declared.vehicle.Van.{Van}
+use Rattle.day.specs.declared.vehicle.RouteLimits.{RouteLimits}
+use Rattle.edits.specs.Total.{total, bit, total-append, total-none}
+use Rattle.edits.proofs.Cuts.{cut, to-end, lent}
+use Rattle.evaluation.specs.Columns.{Columns, Visits}
+use Rattle.evaluation.specs.Route.{eval}
+use Rattle.evaluation.specs.declared.route.Evaluation.{Evaluation}
+use Rattle.descent.proofs.Below.{over, Below, below-at}
+use Rattle.cross_moves.specs.CrossDepot.{priceOf, pricedAs, holds, allowed, replaced}
+use Rattle.cross_prices.specs.Candidate.{Two}
+use Rattle.cross_moves.specs.declared.price.Price.{Price}
+use Rattle.cross_moves.specs.declared.price.Price.the-variants.{Unallowed, Costs}
+
+below-all : (l : ℕ) (xs : List ℕ) → ((k : ℕ) → k < length xs → getD xs k 0 < l) → Below l xs
+below-all l xs h = total-none (over l) xs 0 (λ k there. ap bit (lt-leb l (getD xs k 0) (h k there)))
+
+pub two-turned : (l : ℕ) (X Y : List ℕ) → Two l X Y → Two l Y X
+two-turned l X Y two = record { one-below = two .other-below; other-below = two .one-below; few = omega (arith, two .few) }
+
+-- a list cut in three
+pub in-three : (f : ℕ → ℕ) (xs : List ℕ) (from to : ℕ) → from ≤ to
+    → total f (take from xs) + total f (slice from to xs) + total f (drop to xs) ≡ total f xs
+in-three f xs from to h =
+    let whole = ap (total f) (cut xs from to h) in
+    let two = total-append f (take from xs ++ slice from to xs) (drop to xs) in
+    let one = total-append f (take from xs) (slice from to xs) in
+    omega arith
+
+-- what a stretch that is replaced takes away, and what comes
+pub total-replaced : (f : ℕ → ℕ) (xs : List ℕ) (from to : ℕ) (part : List ℕ) → from ≤ to
+    → total f (replaced xs from to part) + total f (slice from to xs) ≡ total f xs + total f part
+total-replaced f xs from to part h =
+    let parts = in-three f xs from to h in
+    let two = total-append f (take from xs ++ part) (drop to xs) in
+    let one = total-append f (take from xs) part in
+    omega arith
+
+pub length-replaced : (xs : List ℕ) (from to : ℕ) (part : List ℕ) → from ≤ to → to ≤ length xs
+    → length (replaced xs from to part) ≡ from + length part + (length xs - to)
+length-replaced xs from to part h k = simp (length-append, length-drop) (omega (arith, length-take-le from xs (omega arith)))
+
+module _ (l : ℕ) (X Y : List ℕ) (two : Two l X Y) (from to from2 to2 : ℕ) (ordered : from ≤ to) (within : to ≤ length X) (ordered2 : from2 ≤ to2)
+    (within2 : to2 ≤ length Y) where
+  pub visits-replaced : Visits l (replaced X from to (slice from2 to2 Y))
+  visits-replaced =
+      let x = below-all l X (two .one-below) in
+      let y = below-all l Y (two .other-below) in
+      let ys = in-three (over l) Y from2 to2 ordered2 in
+      let new = total-replaced (over l) X from to (slice from2 to2 Y) ordered in
+      let none : Below l (replaced X from to (slice from2 to2 Y)) = omega arith in
+      record {
+        few = omega (arith, length-replaced X from to (slice from2 to2 Y) ordered within, length-slice from2 to2 Y within2, two .few);
+        below = λ k h. below-at l (replaced X from to (slice from2 to2 Y)) k 0 none h;
+      }
+
+-- the parts appended are the list
+pub built : (X part : List ℕ) (from to : ℕ) {head middle all : List ℕ} → head ≡ slice 0 from X → middle ≡ head ++ part
+    → all ≡ middle ++ slice to (length X) X → all ≡ replaced X from to part
+built X part from to e f g = rw (g, f, e, to-end to X)
+
+-- a buffer's front, lent
+pub front : (end : ℕ) (buffer ys : List ℕ) → take end buffer ≡ ys → take (end - 0) (drop 0 buffer) ≡ ys
+front end buffer ys e = lent 0 end buffer (omega arith) ∙ e
+
+-- ---- prices
+
+module _ (c : Columns) (van : Van) (list : List ℕ) where
+  pub priced-none : length list ≡ 0 → Costs zero64 ≡ pricedAs c van list
+  unfolding pricedAs
+  priced-none h = by-list list h
+    where
+      by-list : (xs : List ℕ) → length xs ≡ 0 → Costs zero64 ≡ pricedAs c van xs
+      by-list [] h = refl
+      by-list (x ∷ xs) h = absurd (omega arith)
+
+  pub priced-some : (evaluation : Evaluation) (limits : RouteLimits) (r : Price) → length list ≢ 0 → limits ≡ limitsOf van
+      → evaluation ≡ eval c limits (van .depot) list → r ≡ priceOf van evaluation → r ≡ pricedAs c van list
+  unfolding pricedAs
+  priced-some evaluation limits r o is-limits is-eval is = by-list list o (is ∙ ap (priceOf van) (rw is-limits at is-eval))
+    where
+      by-list : (xs : List ℕ) → length xs ≢ 0 → r ≡ priceOf van (eval c (limitsOf van) (van .depot) xs) → r ≡ pricedAs c van xs
+      by-list [] o e = absurd (o refl)
+      by-list (x ∷ xs) o e = e
+
+module _ (c : Columns) (demand : List ℤ) (tested : Bool) (van : Van) (list : List ℕ) where
+  -- a load that is tested, and is over the capacity
+  pub allowed-over : tested ≡ true → holds demand van list ≡ false → allowed c demand tested van list ≡ Unallowed
+  unfolding allowed
+  allowed-over e h = rw (e, h) refl
+
+  -- a load within the capacity, tested or not
+  pub allowed-held : holds demand van list ≡ true → pricedAs c van list ≡ allowed c demand tested van list
+  unfolding allowed
+  allowed-held h = rw h (by-test tested)
+    where
+      by-test : (t : Bool) → pricedAs c van list ≡ cond (not t || true) (pricedAs c van list) Unallowed
+      by-test true = refl
+      by-test false = refl
+
+pub allowed-untested : (c : Columns) (demand : List ℤ) (van : Van) (list : List ℕ) → pricedAs c van list ≡ allowed c demand false van list
+unfolding allowed
+allowed-untested c demand van list = refl
