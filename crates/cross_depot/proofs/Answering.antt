@@ -19,9 +19,9 @@ use Rattle.engine.specs.Engine.{endedAs}
 use Rattle.engine.specs.declared.Ended.the-variants.{Settled}
 use Rattle.fleet.specs.Fleet.{Fleet}
 use Rattle.cross_moves.specs.CrossDepot.{lentPlan, runOf, ranOf, crossRan, Carried}
-use Rattle.cross_depot.specs.Tables.{Handed, crossedOf}
-use Rattle.cross_depot.specs.declared.Crossed.{Crossed}
-use Rattle.cross_depot.proofs.Going.{Answered}
+use Rattle.cross_runs.specs.Tables.{Handed, crossedOf}
+use Rattle.cross_runs.specs.declared.Crossed.{Crossed}
+use Rattle.cross_runs.proofs.Going.{Answered}
 use Rattle.cross_depot.proofs.Carrying.{carried-as-given, carried-by-run}
 
 -- where the search is made there is a van

@@ -1,5 +1,3 @@
-pub mod Sound
-pub mod Going
-pub mod Ends
 pub mod Carrying
 pub mod Answering
+pub mod Ends

@@ -18,8 +18,8 @@ use Rattle.evaluation.specs.Columns.{columnsOf, formed}
 use Rattle.loads.proofs.Boxes.{loaded-of}
 use Rattle.cross_moves.specs.CrossDepot.{Carried, crossRan}
 use Rattle.cross_choices.specs.Scan.{Asked, Held}
-use Rattle.cross_depot.specs.Tables.{Handed, crossedOf}
-use Rattle.cross_depot.specs.declared.Crossed.{Crossed}
+use Rattle.cross_runs.specs.Tables.{Handed, crossedOf}
+use Rattle.cross_runs.specs.declared.Crossed.{Crossed}
 use Rattle.refusals.specs.Refusal.{refusalOfFleet, FineFleet}
 use Rattle.refusals.specs.Answered.{refused-by, answered}
 use Rattle.rearrangements.specs.Rearrange.{rearrangedOf, padded, remainingIn}

@@ -1,9 +1,9 @@
 -- `make_best`: the move is made in the first n entries, and the others are as they were.
 use borrow.Author.Needs.{needs}
 use native.Mathlib.Omega.{arith}
-use Rattle.cross_depot.proofs.Going.{part, parts-even, made-in}
-use Rattle.cross_depot.proofs.make_best.Statement.{statement}
-use Rattle.cross_depot.proofs.make_best.Tie as tie
+use Rattle.cross_runs.proofs.Going.{part, parts-even, made-in}
+use Rattle.cross_runs.proofs.make_best.Statement.{statement}
+use Rattle.cross_runs.proofs.make_best.Tie as tie
 
 sub-make-move : tie.Need-sub-make-move
 sub-make-move c = search needs

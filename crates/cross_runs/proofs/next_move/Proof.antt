@@ -1,9 +1,9 @@
 -- `next_move`: the scan over all pairs from nothing on is the definition's choice, and its move can be made.
 use borrow.Author.Needs.{needs}
 use mathlib.Core.Path.{refl}
-use Rattle.cross_depot.proofs.Sound.{choice-is}
-use Rattle.cross_depot.proofs.next_move.Statement.{statement}
-use Rattle.cross_depot.proofs.next_move.Tie as tie
+use Rattle.cross_runs.proofs.Sound.{choice-is}
+use Rattle.cross_runs.proofs.next_move.Statement.{statement}
+use Rattle.cross_runs.proofs.next_move.Tie as tie
 
 best-move-requires : tie.Need-best-move-requires
 best-move-requires c κs =

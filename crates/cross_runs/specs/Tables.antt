@@ -16,7 +16,7 @@ use Rattle.cross_moves.specs.declared.pair.Move.{Move}
 use Rattle.cross_changes.specs.Tables.{Makes, Made}
 use Rattle.cross_choices.specs.Scan.{isFound, moveOf}
 use Rattle.cross_choices.specs.declared.Choice.{Choice}
-use Rattle.cross_depot.specs.declared.Crossed.{Crossed}
+use Rattle.cross_runs.specs.declared.Crossed.{Crossed}
 
 -- a move made in the first n lists of the tables: what stands behind them stays as it is
 pub record MadeIn (n : ℕ) (m : Move) (cost1 cost2 : Float) (visits lengths ids : List ℕ) (costs : List Float) (visits′ lengths′ ids′ : List ℕ)

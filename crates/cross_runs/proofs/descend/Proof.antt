@@ -12,9 +12,9 @@ use Rattle.fleet.specs.Fleet.{fleetOf}
 use Rattle.cross_moves.specs.CrossDepot.{planOf}
 use Rattle.cross_search.specs.Deltas.{Kept}
 use Rattle.cross_search.proofs.Keeping.{kept-start}
-use Rattle.cross_depot.proofs.Going.{Live, Running, part, live-asks, kept-part, begins, answers-settled, answers-stopped, goes-on-made, still-kept}
-use Rattle.cross_depot.proofs.descend.Statement.{statement}
-use Rattle.cross_depot.proofs.descend.Tie as tie
+use Rattle.cross_runs.proofs.Going.{Live, Running, part, live-asks, kept-part, begins, answers-settled, answers-stopped, goes-on-made, still-kept}
+use Rattle.cross_runs.proofs.descend.Statement.{statement}
+use Rattle.cross_runs.proofs.descend.Tie as tie
 
 abbrev Inv-loop : tie.InvT-loop
 Inv-loop l flags demand service ready due penalty distances times van-ids depots capacities distance-costs fixed-costs van-flags max-distances

@@ -25,7 +25,7 @@ use Rattle.cross_moves.specs.CrossDepot.{Plan, isTested, relocation, stretchEnd
 use Rattle.cross_moves.specs.CrossDepot.{betweenLists, ofPair, moves, moved, searchOf, judgeOf}
 use Rattle.cross_choices.specs.Scan.{nothing, isFound, moveOf, bestOf}
 use Rattle.cross_changes.specs.Tables.{Makes}
-use Rattle.cross_depot.specs.Tables.{Chosen}
+use Rattle.cross_runs.specs.Tables.{Chosen}
 use Rattle.cross_moves.specs.declared.pair.Move.{Move}
 use Rattle.cross_choices.specs.declared.Choice.{Choice}
 use Rattle.cross_search.proofs.Pairs.{depots-apart}
