@@ -12,7 +12,7 @@ ghost use mathlib.Core.List.{[], _∷_};
 ghost use Prim.Native.Nat.{_+_, _<_, _≤_};
 ghost use lib.ListN.{length, take};
 ghost use Rattle.edits.specs.Total.{total};
-ghost use Rattle.lists.specs.Edits.{joined};
+ghost use Rattle.list_changes.specs.Edits.{joined};
 ghost use Rattle.evaluation.specs.Columns.{columnsAt, Formed};
 ghost use Rattle.engine.specs.Engine.{passing};
 ghost use Rattle.loads.specs.Loads.{boxesOf};
