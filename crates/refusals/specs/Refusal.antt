@@ -13,8 +13,8 @@ use Rattle.day.specs.Day.{Day}
 use Rattle.day.specs.Matrix.{Square}
 use Rattle.day.specs.Customer.{numDepots}
 use Rattle.day.specs.Refusal.{allPlain}
-use Rattle.day_refusals.specs.Order.{dayRefusal, vanRefusal}
-use Rattle.day_refusals.specs.Order.{DayFine, VanFine, day-fine, van-fine}
+use Rattle.day_refusals.specs.Order.{dayRefusal, DayFine, day-fine}
+use Rattle.van_refusals.specs.Order.{vanRefusal, VanFine, van-fine}
 use Rattle.day.specs.declared.vehicle.Van.{Van}
 use Rattle.lists.specs.Fine.{TableFine, ListsFine}
 use Rattle.list_refusals.specs.Refused.{tableRefusal, listsRefusal}
