@@ -9,7 +9,7 @@ use native.Mathlib.Omega.{arith}
 use lib.ListN.{length, getD, set, take, drop, replicate, length-append, length-replicate, length-set}
 use lib.Seq.{take-suc, drop-cons, set-at, take-at, drop-at, take-length, drop-length, append-snoc, set-append-seam, getD-at, length-take-le}
 use Rattle.lists.specs.Table.{lists}
-use Rattle.lists.specs.Edits.{nonzero}
+use Rattle.list_changes.specs.Edits.{nonzero}
 use Rattle.cross_moves.specs.CrossDepot.{ofFilled}
 use Rattle.cross_changes.specs.Tables.{packedBy, keptIf, counted}
 

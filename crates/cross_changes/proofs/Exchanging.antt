@@ -7,9 +7,9 @@ use native.Mathlib.Omega.{arith}
 use lib.ListN.{length, getD, set, take, drop, length-set, length-append, length-drop}
 use lib.Seq.{slice, take-append-le, drop-append-le, take-take, length-take-le, getD-set-same, getD-set-other, set-set, set-comm}
 use Rattle.lists.specs.Table.{Laid, lists, listOf}
-use Rattle.lists.specs.Edits.{at, joined, tailsExchanged, Cuts, Edited}
+use Rattle.list_changes.specs.Edits.{at, joined, tailsExchanged, Cuts, Edited}
 use Rattle.lists.proofs.Tables.{at-lists, length-lists, length-list}
-use Rattle.lists.proofs.Edited.{edited-on}
+use Rattle.list_changes.proofs.Edited.{edited-on}
 use Rattle.cross_moves.specs.CrossDepot.{replaced, first, second, exchangedBy}
 use Rattle.cross_changes.specs.Tables.{Makes, turned}
 use Rattle.cross_moves.specs.declared.pair.Move.{Move}

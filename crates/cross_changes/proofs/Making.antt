@@ -8,9 +8,9 @@ use lib.Seq.{take-at, drop-at}
 use lib.Ieee.{Float}
 use Rattle.numbers.specs.Operations.{zero64}
 use Rattle.lists.specs.Table.{Laid, lists, lengthsOf}
-use Rattle.lists.specs.Edits.{Edited, filled, nonzero, packed}
+use Rattle.list_changes.specs.Edits.{Edited, filled, nonzero, packed}
 use Rattle.lists.proofs.Tables.{lengths-lists}
-use Rattle.lists.proofs.Packing.{packed-first, nonzero-le, sum-nonzero, length-packed}
+use Rattle.list_changes.proofs.Packing.{packed-first, nonzero-le, sum-nonzero, length-packed}
 use Rattle.cross_moves.specs.CrossDepot.{Plan, ofFilled, exchangedBy, dropped, afterMove, planOf}
 use Rattle.cross_changes.specs.Tables.{packedBy, Made}
 use Rattle.cross_moves.specs.declared.pair.Move.{Move}

@@ -1,13 +1,13 @@
 // What a move makes of the tables: the two lists change in place, and the lists that are then empty are dropped.
 use cross_moves::pair::Move;
-use lists::drop_empty;
-use lists::exchange_tails;
+use list_changes::drop_empty;
+use list_changes::exchange_tails;
 ghost use mathlib.Core.Path.{_≡_};
 ghost use Prim.Native.Nat.{_≤_, _<_};
 ghost use lib.ListN.{length, set};
 ghost use Rattle.numbers.specs.Operations.{zero64};
 ghost use Rattle.lists.specs.Table.{lists};
-ghost use Rattle.lists.specs.Edits.{Edited};
+ghost use Rattle.list_changes.specs.Edits.{Edited};
 ghost use Rattle.cross_moves.specs.CrossDepot.{exchangedBy, planOf};
 ghost use Rattle.cross_changes.specs.Tables.{Makes, turned, packedBy, keptIf, counted, Made};
 

@@ -12,7 +12,7 @@ use lib.Seq.{slice}
 use lib.Ieee.{Float, lt, neg}
 use Rattle.numbers.specs.Operations.{_⊕_, _⊖_, zero64}
 use Rattle.lists.specs.Table.{Laid}
-use Rattle.lists.specs.Edits.{at}
+use Rattle.list_changes.specs.Edits.{at}
 use Rattle.evaluation.specs.Columns.{Columns, Formed}
 use Rattle.descent.specs.Order.{range}
 use Rattle.cross_moves.specs.Boxes.{Loaded, Prefixed}

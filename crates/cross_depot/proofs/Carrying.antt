@@ -17,7 +17,7 @@ use lib.Ieee.{Float}
 use Rattle.day.specs.declared.vehicle.Van.{Van}
 use Rattle.edits.specs.Total.{total, total-append}
 use Rattle.lists.specs.Table.{lengthsOf}
-use Rattle.lists.specs.Edits.{at, filled}
+use Rattle.list_changes.specs.Edits.{at, filled}
 use Rattle.evaluation.specs.Columns.{Columns}
 use Rattle.descent.specs.Order.{here}
 use Rattle.descent.specs.Search.{Sweep, ok, next}

@@ -1,6 +1,6 @@
 // Two lists of the plan, and a move between them.
 use day::vehicle::Van;
-use fleet::vehicle::fleet_vehicle;
+use vehicles::fleet_vehicle;
 ghost use mathlib.Core.Path.{_≡_};
 ghost use Prim.Native.Nat.{_≤_, _<_};
 ghost use lib.ListN.{length};

@@ -13,7 +13,7 @@ use lib.Ieee.{Float}
 use Rattle.numbers.specs.Floor.{gainFloor}
 use Rattle.day.specs.Matrix.{scaleOf}
 use Rattle.lists.specs.Table.{Laid, lists}
-use Rattle.lists.specs.Edits.{at}
+use Rattle.list_changes.specs.Edits.{at}
 use Rattle.lists.proofs.Tables.{at-lists, length-lists, length-list}
 use Rattle.evaluation.specs.Columns.{Columns}
 use Rattle.descent.specs.Order.{_∈_, range, each}

@@ -15,7 +15,7 @@ use lib.Ieee.{Float, nan, lt}
 use Rattle.numbers.specs.Operations.{_⊕_}
 use Rattle.tests.specs.Pick.{picked, other}
 use Rattle.lists.specs.Table.{lengthsOf}
-use Rattle.lists.specs.Edits.{at, filled}
+use Rattle.list_changes.specs.Edits.{at, filled}
 use Rattle.lists.proofs.Tables.{length-lists}
 use Rattle.evaluation.specs.Columns.{Columns}
 use Rattle.descent.proofs.Members.{and-parts}

@@ -1,5 +1,5 @@
 // The start of a run: the van of each list, and what each list costs by the price that is lent.
-use fleet::vehicle::fleet_vehicle;
+use vehicles::fleet_vehicle;
 ghost use mathlib.Core.Path.{_≡_};
 ghost use Prim.Native.Nat.{_≤_, _<_};
 ghost use lib.ListN.{length};

@@ -1,15 +1,13 @@
--- 'A value whose flag is off is never read': days and vans that differ only in such values have the same refusal, since they meet the same tests.
+-- 'A value whose flag is off is never read': days that differ only in such values have the same refusal, since they meet the same tests.
 use Prim.Native.Nat.{ℕ}
 use mathlib.Core.Path.{_≡_}
 use mathlib.Core.List.{List}
 use lib.IntN.{ℤ}
 use lib.Ieee.{Float}
 use Rattle.day.specs.Day.{dayOf}
-use Rattle.day.specs.Refusal.{vanOk}
-use Rattle.day.specs.Unread.{SameColumns, SameVan}
-use Rattle.day.specs.declared.vehicle.Van.{Van}
-use Rattle.day.proofs.Unread.{lengths-same, locations-same, windows-same, limits-same}
-use Rattle.day_refusals.specs.Order.{contentsRefusal, dayRefusal, vanRefusal}
+use Rattle.day.specs.Unread.{SameColumns}
+use Rattle.day.proofs.Unread.{lengths-same, locations-same, windows-same}
+use Rattle.day_refusals.specs.Order.{contentsRefusal, dayRefusal}
 
 -- the same refusal of the day
 pub same-refusal : (flags : List ℕ) (ready due penalty ready′ due′ penalty′ : List Float) → SameColumns flags ready due penalty ready′ due′ penalty′
@@ -23,9 +21,3 @@ same-refusal flags ready due penalty ready′ due′ penalty′ same l demand se
       locations-same flags ready due penalty ready′ due′ penalty′ same l demand service,
       windows-same flags ready due penalty ready′ due′ penalty′ same l,
     )
-
--- the same refusal of the van
-pub same-van-refusal : (v w : Van) → SameVan v w → (flags : List ℕ) → vanRefusal flags v ≡ vanRefusal flags w
-unfolding vanRefusal vanOk
-same-van-refusal v w same flags =
-    rw (limits-same v w same, same .depot, same .capacity, same .cost-per-distance, same .fixed-cost)

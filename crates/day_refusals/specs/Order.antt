@@ -1,15 +1,12 @@
--- The order of refusals 1 to 7, and what a day and a van that are not refused tell. Assumes nothing.
-use Prim.Native.Nat.{ℕ, _<_, _≤_}
+-- The order of refusals 1 to 5, and what a day that is not refused tells. Assumes nothing.
+use Prim.Native.Nat.{ℕ, _≤_}
 use mathlib.Core.Path.{_≡_}
-use mathlib.Core.List.{List}
 use mathlib.Core.Bool.{true, _&&_}
-use borrow.Author.Tests.{ltb-true}
 use Rattle.tests.specs.All.{unless, passed, and-first, and-second}
 use Rattle.day.specs.Day.{Day}
 use Rattle.day.specs.Customer.{numDepots}
-use Rattle.day.specs.Refusal.{sizeOk, lengthsOk, allPlain, locationsOk, depotsLead, windowsOk, isDepot, vanOk}
+use Rattle.day.specs.Refusal.{sizeOk, lengthsOk, allPlain, locationsOk, depotsLead, windowsOk}
 use Rattle.day.specs.Fine.{Shaped, shaped, depots-within}
-use Rattle.day.specs.declared.vehicle.Van.{Van}
 
 -- ---- 'The order is by number'
 
@@ -24,10 +21,6 @@ contentsRefusal d =
 unfoldable pub dayRefusal : Day → ℕ
 dayRefusal d = unless (sizeOk (d .l)) 1 (unless (lengthsOk d) 2 (contentsRefusal d))
 
--- the first of 6 and 7 that the van meets, and 0 where it meets none
-unfoldable pub vanRefusal : List ℕ → Van → ℕ
-vanRefusal flags v = unless (isDepot flags (v .depot)) 6 (unless (vanOk v) 7 0)
-
 -- what a day that is not refused tells
 pub record DayFine (d : Day) : Type 0 where
   pub shaped : Shaped d
@@ -37,11 +30,6 @@ pub record DayFine (d : Day) : Type 0 where
   pub lead : depotsLead (d .flags) ≡ true
   pub windows : windowsOk (d .l) (d .flags) (d .ready) (d .due) ≡ true
   pub depots : numDepots (d .flags) ≤ d .l
-
--- what a van that is not refused tells
-pub record VanFine (flags : List ℕ) (v : Van) : Type 0 where
-  pub depot : v .depot < numDepots flags
-  pub van : vanOk v ≡ true
 
 -- ---- laws
 
@@ -65,11 +53,3 @@ day-fine d h =
       windows = five .0;
       depots = rw (← s .flags) (depots-within (d .flags) (rw (s .flags) (s .some)));
     }
-
--- a van that is not refused is fine
-pub van-fine : (flags : List ℕ) (v : Van) → vanRefusal flags v ≡ 0 → VanFine flags v
-unfolding vanRefusal isDepot
-van-fine flags v h =
-    let six = passed _ _ _ h tt in
-    let seven = passed _ _ _ (six .1) tt in
-    record { depot = ltb-true _ _ (six .0); van = seven .0 }

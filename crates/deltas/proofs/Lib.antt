@@ -2,5 +2,4 @@ pub mod Stops
 pub mod Legs
 pub mod Exact
 pub mod Shortcut
-pub mod Turning
 pub mod Days

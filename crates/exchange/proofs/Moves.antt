@@ -8,7 +8,7 @@ use Prim.Native.Nat.{ℕ, zero, suc, _+_, _≤_, _<_}
 use lib.ListN.{length}
 use lib.Ieee.{Float}
 use Rattle.lists.specs.Table.{lists}
-use Rattle.lists.specs.Edits.{Edited, Cuts, tailsExchanged}
+use Rattle.list_changes.specs.Edits.{Edited, Cuts, tailsExchanged}
 use Rattle.lists.proofs.Tables.{length-lists}
 use Rattle.descent.specs.Search.{Search, Judge, Sweep, ok, taken, firstMove, next}
 use Rattle.descent.specs.Across.{Pair, Tails, tail-cuts}

@@ -8,7 +8,7 @@ use lib.ListN.{length, getD}
 use Rattle.edits.specs.Total.{total, total-cong, total-one}
 use Rattle.edits.proofs.Kept.{same-length}
 use Rattle.lists.specs.Table.{Laid, lists, listOf}
-use Rattle.lists.specs.Edits.{Edited}
+use Rattle.list_changes.specs.Edits.{Edited}
 use Rattle.lists.proofs.Tables.{at-lists, length-list, start-later, start-within, total-lists}
 use Rattle.deltas.specs.Judged.{Lent}
 use Rattle.loads.specs.Loads.{Held}

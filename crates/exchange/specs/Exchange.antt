@@ -11,7 +11,7 @@ use lib.ListN.{length}
 use lib.Ieee.{Float}
 use Rattle.numbers.specs.Operations.{zero64}
 use Rattle.evaluation.specs.Columns.{Columns}
-use Rattle.lists.specs.Edits.{tailsExchanged, Cuts}
+use Rattle.list_changes.specs.Edits.{tailsExchanged, Cuts}
 use Rattle.descent.specs.Order.{range, each}
 use Rattle.descent.specs.Permitted.{tail-exchange}
 use Rattle.descent.specs.Search.{Search, Judge, Sweep, taken, firstMove, next}

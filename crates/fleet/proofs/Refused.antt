@@ -6,7 +6,7 @@ use mathlib.Core.List.{List}
 use lib.ListN.{length, getD}
 use Rattle.tests.specs.All.{allBelow, pass}
 use Rattle.day.specs.Refusal.{isDepot, vanOk}
-use Rattle.day_refusals.specs.Order.{vanRefusal}
+use Rattle.van_refusals.specs.Order.{vanRefusal}
 use Rattle.day.specs.declared.vehicle.Van.{Van}
 use Rattle.fleet.specs.Fleet.{Fleet, vanAt, Fitted}
 use Rattle.fleet.specs.Refusal.{depotsOk}

@@ -10,7 +10,7 @@ use lib.ListN.{length}
 use lib.Ieee.{Float}
 use Rattle.tests.specs.All.{allBelow, unless, passed, and-first, and-second, all-at}
 use Rattle.day.specs.Refusal.{columnOk, allPlain, isDepot, vanOk}
-use Rattle.day_refusals.specs.Order.{VanFine}
+use Rattle.van_refusals.specs.Order.{VanFine}
 use Rattle.fleet.specs.Fleet.{Fleet, vanAt, Fitted}
 
 -- ---- 11 | fleet | over 16 vans, or list columns not one entry a list

@@ -3,7 +3,7 @@
 // places but those at the change stay what they were.
 //
 // Two lent tables hold it, 1,024 figures and 1,024 places, at 16 times the visit plus the list; a figure that is not finite says nothing.
-use deltas::insertion_delta;
+use deltas_across::insertion_delta;
 use numbers::is_finite;
 use numbers::unknown;
 ghost use mathlib.Core.Path.{_≡_};

@@ -1,3 +1,2 @@
 pub mod Table
-pub mod Refused
-pub mod Edits
+pub mod Fine

@@ -16,7 +16,7 @@ use lib.Seq.{take-suc}
 use Rattle.tests.specs.All.{all-at, and-first, and-second}
 use Rattle.day.specs.Refusal.{demandOk, capacityOk, locationOk, locationsOk}
 use Rattle.edits.specs.Total.{total, total-append}
-use Rattle.lists.specs.Edits.{joined}
+use Rattle.list_changes.specs.Edits.{joined}
 use Rattle.loads.specs.Loads.{boxesOf, Loaded}
 
 -- ---- numbers of boxes

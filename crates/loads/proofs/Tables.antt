@@ -11,8 +11,8 @@ use lib.Dec.{ltb}
 use lib.ListN.{getD}
 use Rattle.edits.proofs.Kept.{same-each, same-length}
 use Rattle.lists.specs.Table.{listOf}
-use Rattle.lists.specs.Edits.{Edited}
-use Rattle.lists.specs.Refused.{TableFine}
+use Rattle.list_changes.specs.Edits.{Edited}
+use Rattle.lists.specs.Fine.{TableFine}
 use Rattle.lists.proofs.Tables.{length-list, list-at, start-later, start-within}
 use Rattle.evaluation.specs.Columns.{Visits}
 use Rattle.loads.specs.Loads.{Held}

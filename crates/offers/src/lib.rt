@@ -5,8 +5,8 @@
 // The Rust collects the moves that gain, sorts them and takes the first that passes; here the best so far is kept, and a candidate is checked only where
 // it is better.
 use day::vehicle::RouteLimits;
-use deltas::insertion_delta;
-use deltas::removal_delta;
+use deltas_across::insertion_delta;
+use deltas_across::removal_delta;
 use edits::append_one;
 use edits::append_stretch;
 use engine::passes;

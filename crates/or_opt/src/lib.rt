@@ -5,8 +5,8 @@
 // shows that the rest equals the whole. The Rust's one test against the best so far is the definition's two, as what is below the best also counts.
 use day::matrix::scale;
 use day::vehicle::RouteLimits;
-use deltas::piece_insertion;
-use deltas::removal_gain;
+use deltas_within::piece_insertion;
+use deltas_within::removal_gain;
 use edits::append;
 use edits::move_piece;
 use engine::Ended;

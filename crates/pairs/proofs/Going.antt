@@ -8,7 +8,7 @@ use Prim.Native.Nat.{ℕ, suc, _+_, _-_, _≤_, _<_}
 use native.Mathlib.Omega.{arith}
 use lib.Ieee.{Float}
 use Rattle.lists.specs.Table.{Laid, lists}
-use Rattle.lists.specs.Edits.{Edited, relocated}
+use Rattle.list_changes.specs.Edits.{Edited, relocated}
 use Rattle.descent.specs.Search.{Search, Judge, Outcome, settled, stopped, taken, next, run}
 use Rattle.descent.specs.Across.{Relocation}
 use Rattle.descent.proofs.Loops.{run-settles, run-stops, run-moves}

@@ -11,7 +11,7 @@ use lib.ListN.{length, set}
 use lib.Seq.{getD-set-other}
 use lib.Ieee.{Float, lt}
 use Rattle.lists.specs.Table.{Laid, lists}
-use Rattle.lists.specs.Edits.{Edited, Relocates, relocated}
+use Rattle.list_changes.specs.Edits.{Edited, Relocates, relocated}
 use Rattle.lists.proofs.Tables.{at-lists, length-lists, length-list, list-within}
 use Rattle.descent.specs.Order.{_∈_}
 use Rattle.descent.specs.Permitted.{Checks}

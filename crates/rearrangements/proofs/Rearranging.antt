@@ -16,9 +16,9 @@ use Rattle.day.specs.Day.{Day}
 use Rattle.day.specs.Refusal.{capacityOk, vanOk}
 use Rattle.day.specs.declared.vehicle.Van.{Van}
 use Rattle.lists.specs.Table.{sum, lists, flat, lengthsOf}
-use Rattle.lists.specs.Edits.{Edited, nonzero, packed}
+use Rattle.list_changes.specs.Edits.{Edited, nonzero, packed}
 use Rattle.lists.proofs.Tables.{flat-lists, lengths-lists, lists-flat, length-lengths}
-use Rattle.lists.proofs.Packing.{lists-append}
+use Rattle.list_changes.proofs.Packing.{lists-append}
 use Rattle.evaluation.specs.Columns.{Formed, columnsOf, formed}
 use Rattle.descent.specs.Permitted.{Engine, State, tail-exchange, relocate}
 use Rattle.descent.specs.Search.{Word, settled, stopped}

@@ -3,7 +3,7 @@
 use day::vehicle::RouteLimits;
 use day::vehicle::Van;
 use engine::Ended;
-use lists::drop_empty;
+use list_changes::drop_empty;
 use refusals::refusal_of_lists;
 ghost use mathlib.Core.Path.{_≡_};
 ghost use mathlib.Core.Bool.{false};

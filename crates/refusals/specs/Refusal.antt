@@ -13,13 +13,14 @@ use Rattle.day.specs.Day.{Day}
 use Rattle.day.specs.Matrix.{Square}
 use Rattle.day.specs.Customer.{numDepots}
 use Rattle.day.specs.Refusal.{allPlain}
-use Rattle.day_refusals.specs.Order.{dayRefusal, vanRefusal}
-use Rattle.day_refusals.specs.Order.{DayFine, VanFine, day-fine, van-fine}
+use Rattle.day_refusals.specs.Order.{dayRefusal, DayFine, day-fine}
+use Rattle.van_refusals.specs.Order.{vanRefusal, VanFine, van-fine}
 use Rattle.day.specs.declared.vehicle.Van.{Van}
-use Rattle.lists.specs.Refused.{tableRefusal, listsRefusal, TableFine, ListsFine}
+use Rattle.lists.specs.Fine.{TableFine, ListsFine}
+use Rattle.list_refusals.specs.Refused.{tableRefusal, listsRefusal}
 use Rattle.lists.specs.Table.{Laid, startOf, listOf}
 use Rattle.lists.proofs.Tables.{length-list, list-within}
-use Rattle.lists.proofs.Fine.{table-fine, lists-fine}
+use Rattle.list_refusals.proofs.Fine.{table-fine, lists-fine}
 use Rattle.fleet.specs.Fleet.{Fleet}
 use Rattle.fleet.specs.Refusal.{fleetRefusal, pricesRefusal, FleetFine, fleet-fine, prices-fine}
 use Rattle.evaluation.specs.Columns.{Formed, Visits, columnsOf, formed}

@@ -2,12 +2,12 @@
 use day::customer::num_depots;
 use day::vehicle::Van;
 use day_refusals::day_refusal;
-use day_refusals::van_refusal;
-use fleet::refusal::fleet_refusal;
-use fleet::refusal::prices_refusal;
-use lists::lists_refusal;
-use lists::table_refusal;
+use fleet_columns::prices_refusal;
+use fleet_refusals::fleet_refusal;
+use list_refusals::lists_refusal;
+use list_refusals::table_refusal;
 use tests::first_of;
+use van_refusals::van_refusal;
 ghost use mathlib.Core.Path.{_≡_};
 ghost use Rattle.day.specs.Day.{dayAt};
 ghost use Rattle.fleet.specs.Fleet.{fleetAt};

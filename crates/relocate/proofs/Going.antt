@@ -9,7 +9,7 @@ use lib.IntN.{ℤ}
 use lib.ListN.{length}
 use lib.Ieee.{Float, neg}
 use Rattle.day.specs.declared.vehicle.RouteLimits.{RouteLimits}
-use Rattle.lists.specs.Edits.{Edited, relocated}
+use Rattle.list_changes.specs.Edits.{Edited, relocated}
 use Rattle.evaluation.specs.Columns.{Columns}
 use Rattle.descent.specs.Permitted.{relocate}
 use Rattle.descent.specs.Search.{Sweep, Outcome, taken, next, run}

@@ -10,7 +10,7 @@ use lib.Seq.{getD-set-same, getD-set-other}
 use lib.Ieee.{Float, nan}
 use lib.Ieee.Scale.{finite}
 use Rattle.lists.specs.Table.{lists, listOf}
-use Rattle.lists.specs.Edits.{Edited, Relocates, relocated}
+use Rattle.list_changes.specs.Edits.{Edited, Relocates, relocated}
 use Rattle.lists.proofs.Tables.{at-lists, length-lists, length-list}
 use Rattle.deltas.specs.Deltas.{insertionDelta}
 use Rattle.loads.specs.Loads.{Held}

@@ -6,7 +6,7 @@ use Prim.Native.Nat.{ℕ, _+_, _≤_, _<_}
 use lib.IntN.{ℤ}
 use lib.ListN.{length}
 use Rattle.lists.specs.Table.{lists}
-use Rattle.lists.specs.Edits.{Edited, relocated}
+use Rattle.list_changes.specs.Edits.{Edited, relocated}
 use Rattle.evaluation.specs.Columns.{Columns}
 use Rattle.descent.specs.Across.{at}
 use Rattle.pairs.specs.Pairs.{Short, Table, Sized, Before, Renewed, Agree}

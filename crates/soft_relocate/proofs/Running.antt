@@ -8,7 +8,7 @@ use native.Mathlib.Omega.{arith}
 use lib.IntN.{ℤ}
 use lib.ListN.{length, getD}
 use Rattle.lists.specs.Table.{Laid, lists}
-use Rattle.lists.specs.Edits.{Edited, Relocates, relocated}
+use Rattle.list_changes.specs.Edits.{Edited, Relocates, relocated}
 use Rattle.lists.proofs.Tables.{length-lists}
 use Rattle.evaluation.specs.Columns.{Columns}
 use Rattle.descent.specs.Permitted.{room}

@@ -6,7 +6,7 @@
 use day::matrix::scale;
 use day::vehicle::RouteLimits;
 use engine::Ended;
-use lists::move_visit;
+use list_changes::move_visit;
 use numbers::gain_floor;
 use pairs::best_pair;
 use pairs::put_pair;
@@ -20,7 +20,7 @@ ghost use Rattle.numbers.specs.Floor.{gainFloor};
 ghost use Rattle.day.specs.Matrix.{scaleOf};
 ghost use Rattle.day.specs.Refusal.{capacityOk};
 ghost use Rattle.lists.specs.Table.{lists};
-ghost use Rattle.lists.specs.Edits.{Edited};
+ghost use Rattle.list_changes.specs.Edits.{Edited};
 ghost use Rattle.evaluation.specs.Columns.{columnsAt, Formed};
 ghost use Rattle.engine.specs.Engine.{endedAs};
 ghost use Rattle.loads.specs.Loads.{Loaded, Held};

@@ -12,7 +12,7 @@ use Rattle.evaluation.specs.Route.{effectiveCost}
 use Rattle.heads.specs.Head.{Driven, priceFrom}
 use Rattle.heads.specs.declared.Head.{Head}
 use Rattle.heads.proofs.Heads.{from-head}
-use Rattle.lists.specs.Edits.{joined}
+use Rattle.list_changes.specs.Edits.{joined}
 use Rattle.tails.specs.Best.{Two}
 
 module _ (l : ℕ) (X Y : List ℕ) (two : Two l X Y) where

@@ -14,7 +14,7 @@ use Rattle.numbers.specs.Operations.{_⊕_, _⊖_}
 use Rattle.tests.specs.Pick.{picked, other}
 use Rattle.evaluation.specs.Columns.{Columns}
 use Rattle.edits.specs.Total.{total}
-use Rattle.lists.specs.Edits.{joined}
+use Rattle.list_changes.specs.Edits.{joined}
 use Rattle.descent.specs.Order.{range}
 use Rattle.descent.specs.Permitted.{room}
 use Rattle.descent.proofs.Members.{and-both}

@@ -11,7 +11,7 @@ use Rattle.tests.specs.Pick.{picked, other}
 use Rattle.day.specs.Matrix.{leg}
 use Rattle.evaluation.specs.Columns.{Columns}
 use Rattle.edits.specs.Total.{total}
-use Rattle.lists.specs.Edits.{joined}
+use Rattle.list_changes.specs.Edits.{joined}
 use Rattle.descent.specs.Permitted.{fits}
 use Rattle.deltas.specs.Deltas.{exchangeDelta}
 use Rattle.engine.specs.Engine.{passing}

@@ -9,7 +9,7 @@ use lib.Seq.{slice, length-take-le}
 use Rattle.edits.specs.Total.{bit, total-append, total-none}
 use Rattle.edits.proofs.Cuts.{to-end, lent}
 use Rattle.evaluation.specs.Columns.{Visits}
-use Rattle.lists.specs.Edits.{joined}
+use Rattle.list_changes.specs.Edits.{joined}
 use Rattle.descent.proofs.Below.{over, Below, below-at}
 use Rattle.tails.specs.Best.{Two}
 use Rattle.loads.proofs.Boxes.{load-parts}

@@ -11,7 +11,7 @@ use Rattle.numbers.specs.Floor.{gainFloor}
 use Rattle.day.specs.Matrix.{leg, scaleOf}
 use Rattle.evaluation.specs.Columns.{Columns, Formed}
 use Rattle.evaluation.specs.Route.{checksNeeded}
-use Rattle.lists.specs.Edits.{joined}
+use Rattle.list_changes.specs.Edits.{joined}
 use Rattle.descent.specs.Order.{range}
 use Rattle.descent.specs.Permitted.{Checks, fits}
 use Rattle.descent.specs.Search.{goes-on, Search}

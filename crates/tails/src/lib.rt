@@ -2,7 +2,7 @@
 // list's cut and then by the second's. The load of a head is kept running, and a tail's is the list's less it, so that a candidate's two loads cost two sums.
 // The Rust's two tests of a delta are one: the best so far starts at minus the floor.
 use day::vehicle::RouteLimits;
-use deltas::exchange_delta;
+use deltas_across::exchange_delta;
 use edits::append_stretch;
 use engine::passes;
 use loads::boxes_at;
@@ -12,7 +12,7 @@ ghost use mathlib.Core.List.{[], _∷_};
 ghost use Prim.Native.Nat.{_+_, _<_, _≤_};
 ghost use lib.ListN.{length, take};
 ghost use Rattle.edits.specs.Total.{total};
-ghost use Rattle.lists.specs.Edits.{joined};
+ghost use Rattle.list_changes.specs.Edits.{joined};
 ghost use Rattle.evaluation.specs.Columns.{columnsAt, Formed};
 ghost use Rattle.engine.specs.Engine.{passing};
 ghost use Rattle.loads.specs.Loads.{boxesOf};

@@ -6,7 +6,7 @@
 use day::matrix::is_symmetric;
 use day::matrix::scale;
 use day::vehicle::RouteLimits;
-use deltas::two_opt_delta;
+use deltas_within::two_opt_delta;
 use edits::reverse;
 use engine::Ended;
 use evaluation::route::route_checks_needed;

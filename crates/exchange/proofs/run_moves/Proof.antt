@@ -6,8 +6,8 @@ use native.Mathlib.Omega.{arith}
 use lib.ListN.{length}
 use Rattle.evaluation.specs.Columns.{columns}
 use Rattle.lists.specs.Table.{lists}
-use Rattle.lists.specs.Edits.{Edited}
-use Rattle.lists.proofs.Edited.{edited-on}
+use Rattle.list_changes.specs.Edits.{Edited}
+use Rattle.list_changes.proofs.Edited.{edited-on}
 use Rattle.descent.specs.Search.{Sweep}
 use Rattle.descent.specs.Across.{Pair}
 use Rattle.loads.specs.Loads.{Held}
