@@ -7,18 +7,17 @@ use Prim.Native.Nat.{ℕ, _+_, _≤_, _<_}
 use native.Mathlib.Omega.{arith}
 use lib.IntN.{ℤ}
 use lib.ListN.{length}
-use lib.Ieee.{Float, neg}
-use Rattle.day.specs.declared.vehicle.RouteLimits.{RouteLimits}
+use lib.Ieee.{neg}
 use Rattle.lists.specs.Edits.{Edited, relocated}
 use Rattle.evaluation.specs.Columns.{Columns}
 use Rattle.descent.specs.Permitted.{relocate}
-use Rattle.descent.specs.Search.{Sweep, Outcome, taken, next, run}
+use Rattle.descent.specs.Search.{taken, next}
 use Rattle.descent.specs.Engines.{run-of}
 use Rattle.deltas.specs.Judged.{float-judge}
 use Rattle.engine.specs.Engine.{checksOf, mapOf, endedAs}
 use Rattle.engine.specs.declared.Ended.{Ended}
 use Rattle.engine.specs.declared.Ended.the-variants.{Settled, Stopped}
-use Rattle.loads.specs.Loads.{measureOf, boxes}
+use Rattle.loads.specs.Loads.{measureOf}
 use Rattle.offers.specs.Offers.{Prepared, searchOf, judgeOf, bound}
 use Rattle.relocations.specs.Relocations.{PairsRight, Every}
 use Rattle.offers.specs.declared.Setup.{Setup}
@@ -26,12 +25,6 @@ use Rattle.pairs.specs.declared.Choice.{Choice}
 use Rattle.pairs.specs.Pairs.{Moves, isFound, moveOf, Table, leastEntry}
 use Rattle.pairs.proofs.Taken.{Relocating, relocate-relocating, table-taken, taken-there}
 use Rattle.pairs.proofs.Going.{Going, run-settled, run-stopped, run-goes-on}
-
--- the run that `relocate_improve` answers
-abbrev pub outcome : Columns → List ℤ → RouteLimits → ℤ → Float → ℕ → ℕ → List (List ℕ) → Outcome (Sweep (List (List ℕ)) Unit)
-outcome c demand limits capacity fixed depot limit lent =
-    run-of (relocate false) (checksOf (boxes demand capacity ∷ []) c limits depot)
-    (float-judge (relocate false) (mapOf (c .l) (c .distances) depot fixed)) limit lent
 
 -- ---- one search
 
