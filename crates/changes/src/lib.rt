@@ -6,8 +6,8 @@ use insertions::forget_at;
 use insertions::wide;
 use lists::list_of;
 use lists::move_visit;
-use offers::Setup;
 use pairs::Choice;
+use places::Setup;
 use relocations::search_changed;
 ghost use mathlib.Core.Path.{_≡_};
 ghost use Prim.Native.Nat.{_<_, _≤_};
@@ -20,7 +20,8 @@ ghost use Rattle.deltas.specs.Deltas.{insertionDelta};
 ghost use Rattle.pairs.specs.Pairs.{tableAt};
 ghost use Rattle.insertions.specs.Cache.{Known};
 ghost use Rattle.loads.specs.Loads.{Loaded, Held};
-ghost use Rattle.offers.specs.Offers.{Prepared, Cached};
+ghost use Rattle.places.specs.Places.{Prepared};
+ghost use Rattle.offers.specs.Offers.{Cached};
 ghost use Rattle.relocations.specs.Relocations.{PairsRight, Every};
 
 // ---- the lists and the cache

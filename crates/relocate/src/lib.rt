@@ -11,7 +11,7 @@ use engine::Ended;
 use evaluation::route::route_checks_needed;
 use numbers::gain_floor;
 use numbers::unknown;
-use offers::Setup;
+use places::Setup;
 use relocation_runs::make_moves;
 use relocations::search_all;
 ghost use mathlib.Core.Path.{_≡_};
@@ -29,7 +29,8 @@ ghost use Rattle.deltas.specs.Judged.{float-judge};
 ghost use Rattle.engine.specs.Engine.{checksOf, mapOf, endedAs};
 ghost use Rattle.pairs.specs.Pairs.{Sized, tableAt};
 ghost use Rattle.loads.specs.Loads.{boxes, measureOf, Loaded, Held};
-ghost use Rattle.offers.specs.Offers.{Prepared, Cached};
+ghost use Rattle.places.specs.Places.{Prepared};
+ghost use Rattle.offers.specs.Offers.{Cached};
 
 // Searches every pair, and makes move after move.
 fn descend(

@@ -18,9 +18,10 @@ use Rattle.engine.specs.Engine.{checksOf, mapOf, endedAs}
 use Rattle.engine.specs.declared.Ended.{Ended}
 use Rattle.engine.specs.declared.Ended.the-variants.{Settled, Stopped}
 use Rattle.loads.specs.Loads.{measureOf}
-use Rattle.offers.specs.Offers.{Prepared, searchOf, judgeOf, bound}
+use Rattle.places.specs.Places.{Prepared}
+use Rattle.offers.specs.Offers.{searchOf, judgeOf, bound}
 use Rattle.relocations.specs.Relocations.{PairsRight, Every}
-use Rattle.offers.specs.declared.Setup.{Setup}
+use Rattle.places.specs.declared.Setup.{Setup}
 use Rattle.pairs.specs.declared.Choice.{Choice}
 use Rattle.pairs.specs.Pairs.{Moves, isFound, moveOf, Table, leastEntry}
 use Rattle.pairs.proofs.Taken.{Relocating, relocate-relocating, table-taken, taken-there}

@@ -2,8 +2,8 @@
 // the table follows, until none gains or the limit is used up.
 use changes::move_and_search;
 use engine::Ended;
-use offers::Setup;
 use pairs::best_pair;
+use places::Setup;
 ghost use mathlib.Core.Path.{_≡_};
 ghost use mathlib.Core.Bool.{false};
 ghost use mathlib.Core.List.{[], _∷_};
@@ -18,7 +18,8 @@ ghost use Rattle.deltas.specs.Judged.{float-judge};
 ghost use Rattle.engine.specs.Engine.{checksOf, mapOf, endedAs};
 ghost use Rattle.pairs.specs.Pairs.{tableAt};
 ghost use Rattle.loads.specs.Loads.{measureOf, Loaded, Held};
-ghost use Rattle.offers.specs.Offers.{Prepared, Cached};
+ghost use Rattle.places.specs.Places.{Prepared};
+ghost use Rattle.offers.specs.Offers.{Cached};
 ghost use Rattle.relocations.specs.Relocations.{PairsRight, Every};
 
 // Makes move after move until none is left or the limit is used up.

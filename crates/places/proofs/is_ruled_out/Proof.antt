@@ -3,9 +3,9 @@ use borrow.Author.Needs.{needs}
 use borrow.Author.Tests.{not-true, not-false}
 use lib.Ieee.Scale.{finite}
 use Rattle.tests.specs.Pick.{no, yes}
-use Rattle.offers.specs.Offers.{ruledOut}
-use Rattle.offers.proofs.is_ruled_out.Statement.{statement}
-use Rattle.offers.proofs.is_ruled_out.Tie as tie
+use Rattle.places.specs.Places.{ruledOut}
+use Rattle.places.proofs.is_ruled_out.Statement.{statement}
+use Rattle.places.proofs.is_ruled_out.Tie as tie
 
 returns : tie.Need-returns
 unfolding ruledOut

@@ -1,9 +1,9 @@
 -- `inserted_into`: the head, the visit and the tail, one behind the other, are the list with the visit put in.
 use borrow.Author.Needs.{needs}
 use native.Mathlib.Omega.{arith}
-use Rattle.offers.proofs.Choosing.{built}
-use Rattle.offers.proofs.inserted_into.Statement.{statement}
-use Rattle.offers.proofs.inserted_into.Tie as tie
+use Rattle.places.proofs.Inserting.{built}
+use Rattle.places.proofs.inserted_into.Statement.{statement}
+use Rattle.places.proofs.inserted_into.Tie as tie
 
 append-stretch-requires : tie.Need-append-stretch-requires
 append-stretch-requires c κs = search needs

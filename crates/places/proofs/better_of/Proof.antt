@@ -2,9 +2,9 @@
 use borrow.Author.Needs.{needs}
 use mathlib.Core.Path.{refl}
 use borrow.Author.Tests.{not-true, not-false}
-use Rattle.offers.proofs.Choosing.{offer-delta, better-far, better-refused, better-taken}
-use Rattle.offers.proofs.better_of.Statement.{statement}
-use Rattle.offers.proofs.better_of.Tie as tie
+use Rattle.places.proofs.Inserting.{offer-delta, better-far, better-refused, better-taken}
+use Rattle.places.proofs.better_of.Statement.{statement}
+use Rattle.places.proofs.better_of.Tie as tie
 
 returns : tie.Need-returns
 returns c =

@@ -5,9 +5,9 @@ use native.Mathlib.Omega.{arith}
 use borrow.Author.Tests.{not-true}
 use Rattle.tests.specs.All.{off}
 use Rattle.engine.specs.Engine.{passing}
-use Rattle.offers.proofs.Choosing.{front, visits-inserted}
-use Rattle.offers.proofs.candidate_passes.Statement.{statement}
-use Rattle.offers.proofs.candidate_passes.Tie as tie
+use Rattle.places.proofs.Inserting.{front, visits-inserted}
+use Rattle.places.proofs.candidate_passes.Statement.{statement}
+use Rattle.places.proofs.candidate_passes.Tie as tie
 
 returns : tie.Need-returns
 unfolding passing

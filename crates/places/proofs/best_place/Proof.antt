@@ -9,11 +9,11 @@ use Rattle.evaluation.specs.Columns.{columns}
 use Rattle.descent.specs.Order.{range}
 use Rattle.deltas.specs.Deltas.{insertionDelta}
 use Rattle.insertions.specs.Cache.{leastBelow}
-use Rattle.offers.specs.Offers.{bestAmong}
+use Rattle.places.specs.Places.{bestAmong}
 use Rattle.insertions.proofs.Reached.{least-start, least-turn, least-end}
-use Rattle.offers.proofs.Choosing.{among-turn, among-end}
-use Rattle.offers.proofs.best_place.Statement.{statement}
-use Rattle.offers.proofs.best_place.Tie as tie
+use Rattle.places.proofs.Inserting.{among-turn, among-end}
+use Rattle.places.proofs.best_place.Statement.{statement}
+use Rattle.places.proofs.best_place.Tie as tie
 
 abbrev Inv-loop : tie.InvT-loop
 Inv-loop setup flags service ready due penalty distances times list buffer₀ offer visit paid after₀ least₀ place₀ buffer after least place =
