@@ -31,7 +31,7 @@ pub struct Cut {
 
 // ---- stops by position
 
-fn wide(v: u16) -> usize
+pub fn wide(v: u16) -> usize
     ensures { λ r. ⌜ r ≡ v ⌝ }
 {
     v as usize
@@ -191,7 +191,7 @@ fn plus_if(turned: bool, sum: f64, inside: f64) -> f64
 }
 
 // A fixed cost that counts, or does not.
-fn fixed_if(counts: bool, fixed: f64) -> f64
+pub fn fixed_if(counts: bool, fixed: f64) -> f64
     ensures { λ r. ⌜ r ≡ fixedIf counts fixed ⌝ }
 {
     if counts {

@@ -2,8 +2,8 @@
 use borrow.Author.Needs.{needs}
 use mathlib.Core.Path.{refl}
 use Rattle.edits.specs.Edits.{swapped}
-use Rattle.soft_offers.proofs.step_on.Statement.{statement}
-use Rattle.soft_offers.proofs.step_on.Tie as tie
+use Rattle.soft_places.proofs.step_on.Statement.{statement}
+use Rattle.soft_places.proofs.step_on.Tie as tie
 
 add-behind : tie.Need-add-behind
 add-behind c = search needs

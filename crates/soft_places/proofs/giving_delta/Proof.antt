@@ -1,8 +1,8 @@
 -- `giving_delta`: the operations are the definition's, and a list of one visit is emptied.
 use borrow.Author.Needs.{needs}
-use Rattle.soft_offers.proofs.Offering.{giving-is}
-use Rattle.soft_offers.proofs.giving_delta.Statement.{statement}
-use Rattle.soft_offers.proofs.giving_delta.Tie as tie
+use Rattle.soft_places.proofs.Placing.{giving-is}
+use Rattle.soft_places.proofs.giving_delta.Statement.{statement}
+use Rattle.soft_places.proofs.giving_delta.Tie as tie
 
 price-without-requires : tie.Need-price-without-requires
 price-without-requires c κs =

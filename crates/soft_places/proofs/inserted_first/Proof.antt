@@ -4,8 +4,8 @@ use mathlib.Core.Path.{ap, _∙_}
 use mathlib.Core.List.{List, _++_}
 use Prim.Native.Nat.{ℕ}
 use native.Mathlib.Omega.{arith}
-use Rattle.soft_offers.proofs.inserted_first.Statement.{statement}
-use Rattle.soft_offers.proofs.inserted_first.Tie as tie
+use Rattle.soft_places.proofs.inserted_first.Statement.{statement}
+use Rattle.soft_places.proofs.inserted_first.Tie as tie
 
 append-one-requires : tie.Need-append-one-requires
 append-one-requires c κs = search needs

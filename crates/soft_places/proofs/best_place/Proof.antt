@@ -8,12 +8,12 @@ use lib.ListN.{length, take}
 use Rattle.evaluation.specs.Columns.{columns}
 use Rattle.heads.proofs.Heads.{depot-driven}
 use Rattle.descent.specs.Order.{range}
-use Rattle.soft_offers.specs.Prices.{inserted}
-use Rattle.soft_offers.specs.Offers.{DrivenBy, priceOf, bestAmong}
-use Rattle.soft_offers.proofs.Laid.{visits-inserted, stepped, part-visits, price-inserted}
-use Rattle.soft_offers.proofs.Offering.{among-turn, among-end}
-use Rattle.soft_offers.proofs.best_place.Statement.{statement}
-use Rattle.soft_offers.proofs.best_place.Tie as tie
+use Rattle.soft_places.specs.Prices.{inserted}
+use Rattle.soft_places.specs.Places.{DrivenBy, priceOf, bestAmong}
+use Rattle.soft_places.proofs.Laid.{visits-inserted, stepped, part-visits, price-inserted}
+use Rattle.soft_places.proofs.Placing.{among-turn, among-end}
+use Rattle.soft_places.proofs.best_place.Statement.{statement}
+use Rattle.soft_places.proofs.best_place.Tie as tie
 
 abbrev Inv-loop : tie.InvT-loop
 Inv-loop setup flags service ready due penalty distances times list buffer₀ offer limits rest end head₀ after₀ place₀ buffer head after place =

@@ -19,7 +19,7 @@ use Rattle.evaluation.specs.Route.{effectiveCost}
 use Rattle.heads.specs.Head.{Driven, priceFrom}
 use Rattle.heads.specs.declared.Head.{Head}
 use Rattle.heads.proofs.Heads.{from-head}
-use Rattle.soft_offers.specs.Prices.{without, inserted}
+use Rattle.soft_places.specs.Prices.{without, inserted}
 
 -- ---- sums and lengths
 

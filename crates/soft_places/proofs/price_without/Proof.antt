@@ -3,9 +3,9 @@ use borrow.Author.Needs.{needs}
 use mathlib.Core.Path.{ap, _∙_}
 use native.Mathlib.Omega.{arith}
 use Rattle.evaluation.specs.Route.{effectiveCost}
-use Rattle.soft_offers.proofs.Laid.{front, visits-without, tail-visits, price-without-is}
-use Rattle.soft_offers.proofs.price_without.Statement.{statement}
-use Rattle.soft_offers.proofs.price_without.Tie as tie
+use Rattle.soft_places.proofs.Laid.{front, visits-without, tail-visits, price-without-is}
+use Rattle.soft_places.proofs.price_without.Statement.{statement}
+use Rattle.soft_places.proofs.price_without.Tie as tie
 
 add-behind : tie.Need-add-behind
 add-behind c = search needs

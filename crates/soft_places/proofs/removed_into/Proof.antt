@@ -1,9 +1,9 @@
 -- `removed_into`: the head and the tail, one behind the other, are the list without the visit.
 use borrow.Author.Needs.{needs}
 use native.Mathlib.Omega.{arith}
-use Rattle.soft_offers.proofs.Laid.{removed}
-use Rattle.soft_offers.proofs.removed_into.Statement.{statement}
-use Rattle.soft_offers.proofs.removed_into.Tie as tie
+use Rattle.soft_places.proofs.Laid.{removed}
+use Rattle.soft_places.proofs.removed_into.Statement.{statement}
+use Rattle.soft_places.proofs.removed_into.Tie as tie
 
 append-stretch-requires : tie.Need-append-stretch-requires
 append-stretch-requires c κs = search needs

@@ -1,8 +1,8 @@
 -- `better_of`: the delta is the offer's, and each end is the better of the two.
 use mathlib.Core.Path.{refl}
-use Rattle.soft_offers.proofs.Offering.{better-taken, better-kept}
-use Rattle.soft_offers.proofs.better_of.Statement.{statement}
-use Rattle.soft_offers.proofs.better_of.Tie as tie
+use Rattle.soft_places.proofs.Placing.{better-taken, better-kept}
+use Rattle.soft_places.proofs.better_of.Statement.{statement}
+use Rattle.soft_places.proofs.better_of.Tie as tie
 
 returns : tie.Need-returns
 returns c =
