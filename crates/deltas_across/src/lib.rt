@@ -54,7 +54,7 @@ pub fn removal_cost(l: usize, distances: &[f64], around: Ends, visit: usize) -> 
 }
 
 // A fixed cost that counts, or does not.
-fn fixed_if(counts: bool, fixed: f64) -> f64
+pub fn fixed_if(counts: bool, fixed: f64) -> f64
     ensures { λ r. ⌜ r ≡ fixedIf counts fixed ⌝ }
 {
     if counts {

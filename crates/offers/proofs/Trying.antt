@@ -36,10 +36,11 @@ use Rattle.pairs.specs.declared.Choice.{Choice}
 use Rattle.pairs.proofs.Scanning.{onward-stays, onward-end}
 use Rattle.pairs.proofs.Taken.{best-same-list, best-across}
 use Rattle.insertions.specs.Cache.{LeastAt, cell, knownAt, leastBelow}
-use Rattle.offers.specs.Offers.{Prepared, searchOf, judgeOf, bound, intoList}
-use Rattle.offers.specs.Offers.{costOf, Cached, ruledOut, offerOf, bestAmong, tried, Best, Scanned}
-use Rattle.offers.specs.declared.Setup.{Setup}
-use Rattle.offers.specs.declared.Tried.{Tried}
+use Rattle.places.specs.Places.{Prepared, ruledOut, bestAmong}
+use Rattle.places.specs.declared.Setup.{Setup}
+use Rattle.places.specs.declared.Tried.{Tried}
+use Rattle.offers.specs.Offers.{searchOf, judgeOf, bound, intoList}
+use Rattle.offers.specs.Offers.{costOf, Cached, offerOf, tried, Best, Scanned}
 use Rattle.insertions.specs.declared.Least.{Least}
 use Rattle.insertions.proofs.Reached.{scan-reaches}
 use Rattle.insertions.proofs.Cached.{noted}

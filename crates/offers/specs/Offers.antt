@@ -1,22 +1,19 @@
--- The moves out of one list into another as the code goes about them: what a run asks, the candidates of one visit and one list and the best of them, and
--- what is tried of a visit of which something is known. For the contracts of src/ and of `relocate`; the engine's own definition is `relocate false` of
+-- The moves out of one list into another as the code goes about them: the candidates of one visit and one list, and what is tried of a visit of which
+-- something is known. For the contracts of src/ and of `relocate`; the engine's own definition is `relocate false` of
 -- descent. Assumes nothing.
 use mathlib.Core.Path.{_≡_}
-use mathlib.Core.Bool.{Bool, true, false, cond, _&&_}
+use mathlib.Core.Bool.{Bool, false, cond}
 use mathlib.Core.Option.{Option}
 use mathlib.Core.List.{List, [], _∷_, map}
-use Prim.Native.Nat.{ℕ, suc, _+_, _<_}
+use Prim.Native.Nat.{ℕ, suc, _+_}
 use lib.Dec.{ltb}
 use lib.IntN.{ℤ}
 use lib.ListN.{length, getD}
-use lib.Ieee.{Float, lt, le, neg}
-use lib.Ieee.Scale.{finite}
-use Rattle.numbers.specs.Operations.{_⊕_}
+use lib.Ieee.{Float, neg}
 use Rattle.numbers.specs.Floor.{gainFloor}
 use Rattle.day.specs.Matrix.{leg, scaleOf}
 use Rattle.lists.specs.Table.{lists}
-use Rattle.evaluation.specs.Columns.{Columns, Formed}
-use Rattle.evaluation.specs.Route.{checksNeeded}
+use Rattle.evaluation.specs.Columns.{Columns}
 use Rattle.descent.specs.Order.{range}
 use Rattle.descent.specs.Permitted.{relocate}
 use Rattle.descent.specs.Search.{Search, Judge}
@@ -24,25 +21,17 @@ use Rattle.descent.specs.Across.{at, Relocation}
 use Rattle.descent.specs.Engines.{search-of}
 use Rattle.deltas.specs.Deltas.{removalDelta, insertionDelta}
 use Rattle.deltas.specs.Judged.{float-judge}
-use Rattle.engine.specs.Engine.{passing, checksOf, mapOf}
+use Rattle.engine.specs.Engine.{checksOf, mapOf}
 use Rattle.loads.specs.Loads.{boxesOf, measureOf}
 use Rattle.pairs.specs.Scan.{onward, figure, Counted}
 use Rattle.pairs.specs.Pairs.{moveOf}
 use Rattle.pairs.specs.declared.Choice.{Choice}
-use Rattle.offers.specs.declared.Setup.{Setup}
-use Rattle.offers.specs.declared.Offer.{Offer}
-use Rattle.offers.specs.declared.Tried.{Tried}
 use Rattle.insertions.specs.declared.Least.{Least}
-use Rattle.insertions.specs.Cache.{inserted, Known, leastBelow}
-
--- ---- what a run asks
-
--- what was worked out before the first move is right
-pub record Prepared (s : Setup) (c : Columns) : Type 0 where
-  pub formed : Formed c
-  pub depot-there : s .depot < c .l
-  pub floor : s .floor ≡ gainFloor (scaleOf (c .distances))
-  pub needed : s .needed ≡ checksNeeded (c .flags) (s .limits)
+use Rattle.insertions.specs.Cache.{Known, leastBelow}
+use Rattle.places.specs.declared.Setup.{Setup}
+use Rattle.places.specs.declared.Offer.{Offer}
+use Rattle.places.specs.declared.Tried.{Tried}
+use Rattle.places.specs.Places.{bestAmong, ruledOut}
 
 -- ---- the engine's search and judging
 
@@ -65,29 +54,6 @@ unfoldable pub intoList : List (List ℕ) → ℕ → ℕ → ℕ → List Reloc
 intoList ls from position to =
     map (λ place. record { from = from; position = position; to = to; place = place }) (range 0 (suc (length (at ls to))))
 
--- ---- the best so far
-
--- an offer, taken at a place
-abbrev pub taken-at : Offer → ℕ → Float → Choice
-taken-at offer place delta =
-    record { found = 1; from = offer .from; position = offer .position; to = offer .to; place = place; delta = delta }
-
--- what an offer changes at a place of a list
-unfoldable pub offerDelta : Columns → Setup → List ℕ → Offer → ℕ → Float
-offerDelta c s list offer place =
-    offer .removal ⊕ insertionDelta (leg (c .l) (c .distances)) (s .depot) (s .fixed) list (offer .visit) place
-
--- the better of the best so far and an offer at a place of a list that has room for it
-unfoldable pub better : Columns → Setup → List ℕ → Offer → Choice → ℕ → Choice
-better c s list offer best place =
-    cond (lt (offerDelta c s list offer place) (best .delta) && passing (s .needed) c (s .limits) (s .depot) (inserted list (offer .visit) place))
-    (taken-at offer place (offerDelta c s list offer place)) best
-
--- the best after an offer at some places
-unfoldable pub bestAmong : Columns → Setup → List ℕ → Offer → List ℕ → Choice → Choice
-bestAmong c s list offer [] best = best
-bestAmong c s list offer (place ∷ places) best = bestAmong c s list offer places (better c s list offer best place)
-
 -- ---- one visit, with what is known of it
 
 -- what it costs to insert a visit into a list at a place: what the cache is about
@@ -97,10 +63,6 @@ costOf c s = insertionDelta (leg (c .l) (c .distances)) (s .depot) (s .fixed)
 -- the cache is right of these lists
 abbrev pub Cached : Columns → Setup → List (List ℕ) → List Float → List ℕ → Type 0
 Cached c s ls figures places = Known (costOf c s) (c .l) ls figures places
-
--- `if self.prune && known.is_finite() && removal_delta + known >= -self.floor`
-unfoldable pub ruledOut : Bool → Float → Float → Float → Bool
-ruledOut pruning floor removal known = pruning && (finite known && le (neg floor) (removal ⊕ known))
 
 -- the visit at a position of X, offered
 abbrev pub offerOf : Columns → Setup → List ℕ → ℕ → ℕ → ℕ → Offer

@@ -8,6 +8,8 @@ use lib.Ieee.{Float}
 use Rattle.day.specs.declared.vehicle.RouteLimits.{RouteLimits}
 use Rattle.evaluation.specs.Columns.{Columns}
 use Rattle.descent.specs.Permitted.{relocate}
+use Rattle.descent.specs.Search.{Sweep, Outcome}
+use Rattle.descent.specs.Engines.{run-of}
 use Rattle.descent.specs.Claim.{Claim, handed}
 use Rattle.descent.specs.Always.{Always}
 use Rattle.descent.proofs.Always as every
@@ -15,7 +17,12 @@ use Rattle.deltas.specs.Judged.{float-judge, roadsOf, WholeMap, Lent}
 use Rattle.deltas.proofs.Exact.{float-demand-3}
 use Rattle.engine.specs.Engine.{checksOf, mapOf}
 use Rattle.loads.specs.Loads.{boxes}
-use Rattle.relocate.proofs.Going.{outcome}
+
+-- the run that `relocate_improve` answers
+abbrev pub outcome : Columns → List ℤ → RouteLimits → ℤ → Float → ℕ → ℕ → List (List ℕ) → Outcome (Sweep (List (List ℕ)) Unit)
+outcome c demand limits capacity fixed depot limit lent =
+    run-of (relocate false) (checksOf (boxes demand capacity ∷ []) c limits depot)
+    (float-judge (relocate false) (mapOf (c .l) (c .distances) depot fixed)) limit lent
 
 module _ (c : Columns) (demand : List ℤ) (limits : RouteLimits) (capacity : ℤ) (fixed : Float) (depot limit : ℕ) (lent : List (List ℕ)) where
   -- whatever the numbers

@@ -4,122 +4,35 @@
 //
 // As in the Rust the best move of every pair of lists is kept in a table (crate `relocations`), and so is what it costs at least to insert a visit into a
 // list (crate `insertions`), by which most visits need not be offered (crate `offers`). A move changes two lists, so that only the pairs with one of them in
-// it are searched again. The move taken is the one that a scan of all candidates takes, which is the definition.
+// it are searched again (crate `changes`). The move taken is the one that a scan of all candidates takes, which is the definition.
 use day::matrix::scale;
 use day::vehicle::RouteLimits;
 use engine::Ended;
 use evaluation::route::route_checks_needed;
-use insertions::after_insertion;
-use insertions::after_removal;
-use insertions::forget_at;
-use insertions::wide;
-use list_changes::move_visit;
-use lists::list_of;
 use numbers::gain_floor;
 use numbers::unknown;
-use offers::Setup;
-use pairs::best_pair;
+use places::Setup;
+use relocation_runs::make_moves;
 use relocations::search_all;
-use relocations::search_changed;
 ghost use mathlib.Core.Path.{_≡_};
 ghost use mathlib.Core.Bool.{true, false};
 ghost use mathlib.Core.List.{[], _∷_};
-ghost use Prim.Native.Nat.{_+_, _<_, _≤_};
-ghost use lib.ListN.{length, getD};
-ghost use Rattle.day.specs.Matrix.{leg, Square};
+ghost use Prim.Native.Nat.{_<_, _≤_};
+ghost use lib.ListN.{length};
 ghost use Rattle.day.specs.Refusal.{capacityOk};
-ghost use Rattle.lists.specs.Table.{Laid, lists, listOf};
-ghost use Rattle.list_changes.specs.Edits.{Edited, Relocates, relocated};
+ghost use Rattle.lists.specs.Table.{lists};
+ghost use Rattle.list_changes.specs.Edits.{Edited};
 ghost use Rattle.evaluation.specs.Columns.{columnsAt, Formed};
 ghost use Rattle.descent.specs.Permitted.{relocate};
 ghost use Rattle.descent.specs.Engines.{run-of};
-ghost use Rattle.deltas.specs.Deltas.{insertionDelta};
 ghost use Rattle.deltas.specs.Judged.{float-judge};
 ghost use Rattle.engine.specs.Engine.{checksOf, mapOf, endedAs};
 ghost use Rattle.pairs.specs.Pairs.{Sized, tableAt};
-ghost use Rattle.insertions.specs.Cache.{Known};
 ghost use Rattle.loads.specs.Loads.{boxes, measureOf, Loaded, Held};
-ghost use Rattle.offers.specs.Offers.{Prepared, Cached};
+ghost use Rattle.places.specs.Places.{Prepared};
+ghost use Rattle.offers.specs.Offers.{Cached};
 
-// ---- a move
-
-// The visit at a position of a list.
-fn visit_of(visits: &[u16], lengths: &[u16], r: usize, position: usize) -> usize
-    requires { ⌜ Laid (now visits) (now lengths) × (r < length (now lengths)) × (position < getD (now lengths) r 0) ⌝ }
-    ensures { λ v. ⌜ v ≡ getD (listOf (now (visits .entry)) (now (lengths .entry)) r) position 0 ⌝ }
-{
-    let list = list_of(visits, lengths, r);
-    wide(list[position])
-}
-
-// A position as the cache has it.
-fn narrow(position: usize) -> u16
-    requires { ⌜ position < 65536 ⌝ }
-    ensures { λ r. ⌜ r ≡ position ⌝ }
-{
-    position as u16
-}
-
-// Makes a move, and brings the cache up to date. The visit sits in `to` now, and what it costs to insert it there is not asked; `from` and `to` are the
-// only lists that changed.
-fn make_move(
-    setup: Setup,
-    distances: &[f64],
-    visits: &mut [u16],
-    lengths: &mut [u16],
-    figures: &mut [f64],
-    places: &mut [u16],
-    from: usize,
-    position: usize,
-    to: usize,
-    place: usize,
-)
-    requires { ⌜ Square (setup .l) (now distances) × (setup .depot < setup .l) × Held (setup .l) (now visits) (now lengths) ⌝ }
-    requires { ⌜ Relocates (now visits) (now lengths) from position to place ⌝ }
-    requires { ⌜ Known (insertionDelta (leg (setup .l) (now distances)) (setup .depot) (setup .fixed)) (setup .l) (lists (now visits) (now lengths))
-        (now figures) (now places) ⌝ }
-    ensures { λ _.
-        ⌜ Edited (now (visits .entry)) (now (lengths .entry)) (now (visits .exit)) (now (lengths .exit))
-        (relocated (lists (now (visits .entry)) (now (lengths .entry))) from position to place) ⌝ }
-    ensures { λ _.
-        ⌜ Known (insertionDelta (leg (setup .l) (now (distances .entry))) (setup .depot) (setup .fixed)) (setup .l)
-        (lists (now (visits .exit)) (now (lengths .exit))) (now (figures .exit)) (now (places .exit)) ⌝ }
-{
-    let visit = visit_of(visits, lengths, from, position);
-    move_visit(visits, lengths, from, position, to, place);
-    forget_at(figures, visit, from);
-    forget_at(figures, visit, to);
-    let left = narrow(position);
-    let giver = list_of(visits, lengths, from);
-    after_removal(
-        setup.l,
-        distances,
-        setup.depot,
-        setup.fixed,
-        giver,
-        from,
-        left,
-        figures,
-        places,
-    );
-    let came = narrow(place);
-    let receiver = list_of(visits, lengths, to);
-    after_insertion(
-        setup.l,
-        distances,
-        setup.depot,
-        setup.fixed,
-        receiver,
-        to,
-        came,
-        figures,
-        places,
-    );
-}
-
-// ---- a run
-
-// Makes move after move until none is left or the limit is used up.
+// Searches every pair, and makes move after move.
 fn descend(
     setup: Setup,
     flags: &[u8],
@@ -174,51 +87,27 @@ fn descend(
         to_places,
         pruning,
     );
-    let mut moves = 0;
-    loop {
-        let best = best_pair(lengths.len(), -setup.floor, deltas, positions, to_places);
-        if best.found == 0 {
-            return Ended::Settled(moves);
-        }
-        if limit <= moves {
-            return Ended::Stopped(moves);
-        }
-        make_move(
-            setup,
-            distances,
-            visits,
-            lengths,
-            figures,
-            places,
-            best.from,
-            best.position,
-            best.to,
-            best.place,
-        );
-        search_changed(
-            setup,
-            flags,
-            service,
-            ready,
-            due,
-            penalty,
-            distances,
-            times,
-            demand,
-            visits,
-            lengths,
-            buffer,
-            figures,
-            places,
-            deltas,
-            positions,
-            to_places,
-            pruning,
-            best.from,
-            best.to,
-        );
-        moves += 1;
-    }
+    make_moves(
+        setup,
+        flags,
+        service,
+        ready,
+        due,
+        penalty,
+        distances,
+        times,
+        demand,
+        visits,
+        lengths,
+        buffer,
+        figures,
+        places,
+        deltas,
+        positions,
+        to_places,
+        pruning,
+        limit,
+    )
 }
 
 // Relocate of all lists, changed in place under their numbers, with at most `limit` moves. `fixed` is the van's fixed cost as a distance. Without `pruning`

@@ -16,7 +16,7 @@ use Rattle.pairs.proofs.Taken.{short-lists, edited-other, right-moved}
 use Rattle.loads.specs.Loads.{Held}
 use Rattle.offers.specs.Offers.{searchOf, judgeOf}
 use Rattle.relocations.specs.Relocations.{Searched, SearchedBoth, PairsRight, Every}
-use Rattle.offers.specs.declared.Setup.{Setup}
+use Rattle.places.specs.declared.Setup.{Setup}
 
 module _ (c : Columns) (demand : List ℤ) (s : Setup) (visits lengths : List ℕ) (held : Held (c .l) visits lengths) where
   abbrev n : ℕ

@@ -6,7 +6,7 @@ use lib.IntN.{ℤ}
 use Rattle.evaluation.specs.Columns.{Columns}
 use Rattle.pairs.specs.Pairs.{Table, Stored, StoredBoth, RightWhere}
 use Rattle.offers.specs.Offers.{searchOf, judgeOf, bound}
-use Rattle.offers.specs.declared.Setup.{Setup}
+use Rattle.places.specs.declared.Setup.{Setup}
 
 -- a pair was searched, and its best put into the table
 abbrev pub Searched : Columns → List ℤ → Setup → List (List ℕ) → ℕ → ℕ → Table → Table → Type 0

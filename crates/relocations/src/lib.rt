@@ -1,16 +1,17 @@
 // The best relocation between every ordered pair of lists (relocate.rs, `Relocations`: `with_pruning`, `moved`): a table of the pairs (crate `pairs`), filled
 // by the search of each pair (crate `offers`), first of all pairs and after a move of those with one of its two lists, for the other pairs stay what they
 // were.
-use offers::Setup;
 use offers::best_between;
 use pairs::put_pair;
+use places::Setup;
 ghost use Prim.Native.Nat.{_+_, _<_, _≤_};
 ghost use lib.ListN.{length};
 ghost use Rattle.lists.specs.Table.{lists};
 ghost use Rattle.evaluation.specs.Columns.{columnsAt};
 ghost use Rattle.loads.specs.Loads.{Loaded, Held};
 ghost use Rattle.pairs.specs.Pairs.{Sized, Before, Renewed, tableAt};
-ghost use Rattle.offers.specs.Offers.{Prepared, Cached};
+ghost use Rattle.places.specs.Places.{Prepared};
+ghost use Rattle.offers.specs.Offers.{Cached};
 ghost use Rattle.relocations.specs.Relocations.{Searched, SearchedBoth, PairsRight, Every};
 
 // ---- one pair

@@ -26,13 +26,14 @@ use Rattle.pairs.specs.declared.Choice.{Choice}
 use Rattle.pairs.proofs.Taken.{best-across, best-refused}
 use Rattle.pairs.proofs.Scanning.{onward-better, counted-better, onward-stays, onward-end, onward-append, onward-none}
 use Rattle.loads.specs.Loads.{boxesOf, measureOf}
-use Rattle.soft_offers.specs.Prices.{inserted, receivingDelta, softDelta, priced}
-use Rattle.soft_offers.specs.Offers.{priceOf, searchOf, judgeOf, bound, intoList, taken-at, offerDelta, better, bestAmong, Known, offerOf, mayGo}
+use Rattle.soft_places.specs.Prices.{inserted, receivingDelta, softDelta, priced}
+use Rattle.soft_places.specs.Places.{priceOf, taken-at, offerDelta, better, bestAmong}
+use Rattle.soft_places.specs.declared.Setup.{Setup}
+use Rattle.soft_places.specs.declared.Offer.{Offer}
+use Rattle.soft_places.proofs.Laid.{total-inserted}
+use Rattle.soft_offers.specs.Offers.{searchOf, judgeOf, bound, intoList, Known, offerOf, mayGo}
 use Rattle.soft_offers.specs.Offers.{bestOffer, bestOffers, pairOf, bestPriced, scan, Best, Scanned}
-use Rattle.soft_offers.specs.declared.Setup.{Setup}
 use Rattle.soft_offers.specs.declared.Pair.{Pair}
-use Rattle.soft_offers.specs.declared.Offer.{Offer}
-use Rattle.soft_offers.proofs.Laid.{total-inserted}
 
 module _ (c : Columns) (demand : List ℤ) (s : Setup) (visits lengths : List ℕ) where
   abbrev ls : List (List ℕ)

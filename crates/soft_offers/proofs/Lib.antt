@@ -1,4 +1,3 @@
--- `Laid`: the two lists of a move in a buffer. `Offering`: an offer at every place of a list. `Choosing`: the best of a pair.
-pub mod Laid
+-- `Offering`: the visits of a list offered, one after another. `Choosing`: the best of a pair.
 pub mod Offering
 pub mod Choosing

@@ -1,2 +1,1 @@
-pub mod Prices
 pub mod Offers

@@ -1,22 +1,18 @@
 -- The search of a pair of lists as the code goes about it: what a run keeps at hand, the candidates by visit, and the best so far.
--- For the contracts of src/ and of `soft_relocate`; the engine's own search and judging are in Prices.antt. Assumes nothing.
+-- For the contracts of src/ and of `soft_relocate`; the engine's own search and judging are in soft_places/specs/Prices.antt. Assumes nothing.
 use mathlib.Core.Path.{_≡_}
 use mathlib.Core.Bool.{Bool, true, cond, _&&_}
 use mathlib.Core.Option.{Option}
 use mathlib.Core.List.{List, [], _∷_, map}
-use Prim.Native.Nat.{ℕ, suc, _+_, _≤_, _<_}
+use Prim.Native.Nat.{ℕ, suc, _+_, _<_}
 use lib.Dec.{leb, eqb}
 use lib.IntN.{ℤ}
 use lib.ListN.{length, getD}
-use lib.Ieee.{Float, lt, neg}
+use lib.Ieee.{Float, neg}
 use lib.Ieee.Scale.{finite}
-use Rattle.numbers.specs.Operations.{_⊕_, _⊖_}
 use Rattle.edits.specs.Total.{total}
 use Rattle.lists.specs.Table.{lists}
-use Rattle.evaluation.specs.Columns.{Columns, Formed, Visits}
-use Rattle.evaluation.specs.Route.{effectiveCost}
-use Rattle.heads.specs.Head.{Driven}
-use Rattle.heads.specs.declared.Head.{Head}
+use Rattle.evaluation.specs.Columns.{Columns, Visits}
 use Rattle.deltas.specs.Changes.{fixedIf}
 use Rattle.descent.specs.Order.{range}
 use Rattle.descent.specs.Search.{Search, Judge}
@@ -25,21 +21,13 @@ use Rattle.pairs.specs.Scan.{onward, figure, Counted}
 use Rattle.pairs.specs.Pairs.{moveOf, nothing, IsBest}
 use Rattle.pairs.specs.declared.Choice.{Choice}
 use Rattle.loads.specs.Loads.{boxesOf, measureOf}
-use Rattle.soft_offers.specs.Prices.{inserted, givingDelta, soft-relocate-search, soft-relocate-judge}
-use Rattle.soft_offers.specs.declared.Setup.{Setup}
+use Rattle.soft_places.specs.Prices.{givingDelta, soft-relocate-search, soft-relocate-judge}
+use Rattle.soft_places.specs.Places.{priceOf, bestAmong}
+use Rattle.soft_places.specs.declared.Setup.{Setup}
+use Rattle.soft_places.specs.declared.Offer.{Offer}
 use Rattle.soft_offers.specs.declared.Pair.{Pair}
-use Rattle.soft_offers.specs.declared.Offer.{Offer}
 
 -- ---- what a run asks
-
--- the columns can be walked from the depot
-pub record Prepared (s : Setup) (c : Columns) : Type 0 where
-  pub formed : Formed c
-  pub depot-there : s .depot < c .l
-
--- a head of a list, driven by the van of this setup
-abbrev pub DrivenBy : Columns → Setup → List ℕ → Head → Type 0
-DrivenBy c s = Driven c (s .limits .rest) (s .depot)
 
 -- two lists of the tables, the second with room for one visit more
 pub record TwoOf (l : ℕ) (X Y : List ℕ) : Type 0 where
@@ -48,10 +36,6 @@ pub record TwoOf (l : ℕ) (X Y : List ℕ) : Type 0 where
   pub room-there : length Y < 63
 
 -- ---- the engine's search and judging
-
--- what a list is priced at
-abbrev pub priceOf : Columns → Setup → List ℕ → Float
-priceOf c s = effectiveCost c (s .limits) (s .depot)
 
 -- the search of the definition, with the van's numbers
 unfoldable pub searchOf : Columns → List ℤ → Setup → Search (List (List ℕ)) Unit Relocation
@@ -71,27 +55,6 @@ bound s = neg (s .floor)
 unfoldable pub intoList : List (List ℕ) → ℕ → ℕ → ℕ → List Relocation
 intoList ls from to position =
     map (λ place. record { from = from; position = position; to = to; place = place }) (range 0 (suc (length (at ls to))))
-
--- ---- the best so far
-
--- an offer, taken at a place
-abbrev pub taken-at : Offer → ℕ → Float → Choice
-taken-at offer place delta =
-    record { found = 1; from = offer .from; position = offer .position; to = offer .to; place = place; delta = delta }
-
--- what an offer changes, by the price of the list that it would make
-unfoldable pub offerDelta : Offer → Float → Float
-offerDelta offer new = offer .giving ⊕ (new ⊖ offer .old ⊕ offer .paid)
-
--- the better of the best so far and an offer at a place
-unfoldable pub better : Offer → Float → Choice → ℕ → Choice
-better offer new best place = cond (lt (offerDelta offer new) (best .delta)) (taken-at offer place (offerDelta offer new)) best
-
--- the best after an offer at some places of a list
-unfoldable pub bestAmong : (List ℕ → Float) → List ℕ → Offer → List ℕ → Choice → Choice
-bestAmong price list offer [] best = best
-bestAmong price list offer (place ∷ places) best =
-    bestAmong price list offer places (better offer (price (inserted list (offer .visit) place)) best place)
 
 -- ---- a pair of lists
 

@@ -26,7 +26,7 @@ use Rattle.descent.proofs.Demand3.{faithful}
 use Rattle.descent.proofs.Runs.{ran, chain-map, chain-keeps}
 use Rattle.descent.proofs.Sweeps.{next-some}
 use Rattle.loads.specs.Loads.{boxes}
-use Rattle.soft_offers.specs.Prices.{priced, soft-relocate-search, soft-relocate-judge}
+use Rattle.soft_places.specs.Prices.{priced, soft-relocate-search, soft-relocate-judge}
 use Rattle.soft_relocate.specs.SoftRelocate.{soft-relocate-run}
 
 -- room is all that is checked

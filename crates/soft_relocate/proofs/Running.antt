@@ -21,10 +21,11 @@ use Rattle.pairs.specs.declared.Choice.{Choice}
 use Rattle.pairs.proofs.Taken.{edited-other, agree-local, relocates, Relocating, table-taken, taken-there, right-moved}
 use Rattle.pairs.proofs.Going as going
 use Rattle.loads.specs.Loads.{measureOf}
-use Rattle.soft_offers.specs.Prices.{inserted, softDelta, priced}
-use Rattle.soft_offers.specs.Offers.{priceOf, searchOf, judgeOf, bound}
+use Rattle.soft_places.specs.Prices.{inserted, softDelta, priced}
+use Rattle.soft_places.specs.Places.{priceOf}
+use Rattle.soft_offers.specs.Offers.{searchOf, judgeOf, bound}
 use Rattle.soft_relocate.specs.Running.{runFrom, RightOf, AllRight}
-use Rattle.soft_offers.specs.declared.Setup.{Setup}
+use Rattle.soft_places.specs.declared.Setup.{Setup}
 
 -- ---- the run
 

@@ -9,7 +9,7 @@ use Rattle.evaluation.specs.Columns.{Columns}
 use Rattle.descent.specs.Search.{Sweep, Outcome, next, run}
 use Rattle.pairs.specs.Pairs.{Table, Stored, StoredBoth, RightWhere}
 use Rattle.soft_offers.specs.Offers.{searchOf, judgeOf, bound}
-use Rattle.soft_offers.specs.declared.Setup.{Setup}
+use Rattle.soft_places.specs.declared.Setup.{Setup}
 
 -- the run from some lists on
 unfoldable pub runFrom : Columns → List ℤ → Setup → ℕ → List (List ℕ) → Outcome (Sweep (List (List ℕ)) Unit)

@@ -8,7 +8,7 @@ use Rattle.evaluation.specs.Columns.{Columns}
 use Rattle.evaluation.specs.Route.{effectiveCost}
 use Rattle.descent.specs.Search.{Sweep, Outcome, next, run}
 use Rattle.loads.specs.Loads.{boxes}
-use Rattle.soft_offers.specs.Prices.{soft-relocate-search, soft-relocate-judge}
+use Rattle.soft_places.specs.Prices.{soft-relocate-search, soft-relocate-judge}
 
 -- `relocate_improve` where `has_soft_windows`, under a limit: what it leaves, how it ends, and the moves made
 unfoldable pub soft-relocate-run : Columns → List ℤ → RouteLimits → ℤ → Float → ℕ → Float → ℕ → List (List ℕ) → Outcome (Sweep (List (List ℕ)) Unit)

@@ -10,8 +10,8 @@ use list_changes::move_visit;
 use numbers::gain_floor;
 use pairs::best_pair;
 use pairs::put_pair;
-use soft_offers::Setup;
 use soft_offers::best_between;
+use soft_places::Setup;
 ghost use mathlib.Core.Path.{_≡_};
 ghost use mathlib.Core.Bool.{true};
 ghost use Prim.Native.Nat.{_+_, _<_, _≤_};
@@ -26,7 +26,7 @@ ghost use Rattle.engine.specs.Engine.{endedAs};
 ghost use Rattle.loads.specs.Loads.{Loaded, Held};
 ghost use Rattle.pairs.specs.Pairs.{tableAt, Sized, Before, Renewed};
 ghost use Rattle.soft_relocate.specs.SoftRelocate.{soft-relocate-run};
-ghost use Rattle.soft_offers.specs.Offers.{Prepared};
+ghost use Rattle.soft_places.specs.Places.{Prepared};
 ghost use Rattle.soft_relocate.specs.Running.{runFrom, StoredOf, StoredBothOf, RightOf, AllRight};
 
 // ---- the table of pairs

@@ -8,7 +8,7 @@ ghost use Rattle.day.specs.Matrix.{leg, Square};
 ghost use Rattle.deltas.specs.Changes.{Placed, detour};
 ghost use Rattle.deltas.specs.Deltas.{stopAt, stopBefore, around, endsOf};
 
-fn wide(v: u16) -> usize
+pub fn wide(v: u16) -> usize
     ensures { λ r. ⌜ r ≡ v ⌝ }
 {
     v as usize

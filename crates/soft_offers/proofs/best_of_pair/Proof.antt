@@ -8,7 +8,8 @@ use Rattle.evaluation.specs.Columns.{columns}
 use Rattle.heads.proofs.Heads.{depot-driven}
 use Rattle.descent.specs.Order.{range}
 use Rattle.pairs.specs.Pairs.{nothing}
-use Rattle.soft_offers.specs.Offers.{DrivenBy, bound, bestOffers}
+use Rattle.soft_places.specs.Places.{DrivenBy}
+use Rattle.soft_offers.specs.Offers.{bound, bestOffers}
 use Rattle.soft_offers.proofs.Offering.{offers-turn, offers-end}
 use Rattle.soft_offers.proofs.best_of_pair.Statement.{statement}
 use Rattle.soft_offers.proofs.best_of_pair.Tie as tie

@@ -1,0 +1,2 @@
+-- `Moving`: the cache through a move.
+pub mod Moving

@@ -1,0 +1,2 @@
+-- `Inserting`: an offer at every place of a list.
+pub mod Inserting

@@ -1,0 +1,2 @@
+-- `Going`: a run under way.
+mod Going
