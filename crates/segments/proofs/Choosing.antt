@@ -21,11 +21,11 @@ use Rattle.descent.proofs.Members.{T-true, true-T}
 use Rattle.deltas.specs.Deltas.{removalGain, pieceInsertion, orOptDelta}
 use Rattle.deltas.specs.Judged.{floorOf}
 use Rattle.engine.specs.Engine.{passing}
-use Rattle.or_opt.specs.OrOpt.{searchOf, roadMap, deltaAt, Asked, chosen, choice, placed, pieceOf, barOf, Known}
-use Rattle.or_opt.specs.declared.Terms.{Terms}
-use Rattle.or_opt.specs.declared.Change.{Change}
-use Rattle.or_opt.specs.declared.Best.{Best}
-use Rattle.or_opt.specs.declared.Best.the-variants.{Nothing, Move}
+use Rattle.segments.specs.Segments.{searchOf, roadMap, deltaAt, Asked, chosen, choice, placed, pieceOf, barOf, Known}
+use Rattle.segments.specs.declared.Terms.{Terms}
+use Rattle.segments.specs.declared.Change.{Change}
+use Rattle.segments.specs.declared.Best.{Best}
+use Rattle.segments.specs.declared.Best.the-variants.{Nothing, Move}
 
 -- ---- part by part
 

@@ -1,9 +1,9 @@
 -- `consider`: each of its three ends is one case of the definition's choice with one candidate more.
 use borrow.Author.Needs.{needs}
 use Rattle.descent.specs.Within.{Piece}
-use Rattle.or_opt.proofs.Choosing.{delta-is, not-below, not-passing, taken-up}
-use Rattle.or_opt.proofs.consider.Statement.{statement}
-use Rattle.or_opt.proofs.consider.Tie as tie
+use Rattle.segments.proofs.Choosing.{delta-is, not-below, not-passing, taken-up}
+use Rattle.segments.proofs.consider.Statement.{statement}
+use Rattle.segments.proofs.consider.Tie as tie
 
 piece-insertion-requires : tie.Need-piece-insertion-requires
 piece-insertion-requires c κs =

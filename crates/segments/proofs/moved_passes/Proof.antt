@@ -4,9 +4,9 @@ use borrow.Author.Needs.{needs}
 use borrow.Author.Tests.{not-true, not-false}
 use Rattle.tests.specs.All.{off, on}
 use Rattle.engine.specs.Engine.{passing}
-use Rattle.or_opt.proofs.Moved.{part-long}
-use Rattle.or_opt.proofs.moved_passes.Statement.{statement}
-use Rattle.or_opt.proofs.moved_passes.Tie as tie
+use Rattle.segments.proofs.Moved.{part-long}
+use Rattle.segments.proofs.moved_passes.Statement.{statement}
+use Rattle.segments.proofs.moved_passes.Tie as tie
 
 returns : tie.Need-returns
 unfolding passing

@@ -11,8 +11,8 @@ use Rattle.evaluation.specs.Columns.{Columns, Visits}
 use Rattle.edits.specs.Edits.{putBefore}
 use Rattle.edits.proofs.Kept.{same-putBefore, same-each, same-length}
 use Rattle.descent.specs.Within.{Piece, put-before}
-use Rattle.or_opt.specs.OrOpt.{Asked, Fits}
-use Rattle.or_opt.specs.declared.Terms.{Terms}
+use Rattle.segments.specs.Segments.{Asked, Fits}
+use Rattle.segments.specs.declared.Terms.{Terms}
 
 -- the edit is the definition's
 pub is-put : (xs : List ℕ) (p : Piece) → putBefore (p .from) (p .size) (p .to) xs ≡ put-before xs p

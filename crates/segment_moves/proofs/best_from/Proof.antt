@@ -1,9 +1,9 @@
 -- `best_from`: the positions before the piece and those behind it, one part after the other.
 use mathlib.Core.Logic.{inl, inr}
 use native.Mathlib.Omega.{arith}
-use Rattle.or_opt.proofs.Sizes.{row-chosen}
-use Rattle.or_opt.proofs.best_from.Statement.{statement}
-use Rattle.or_opt.proofs.best_from.Tie as tie
+use Rattle.segment_moves.proofs.Rows.{row-chosen}
+use Rattle.segment_moves.proofs.best_from.Statement.{statement}
+use Rattle.segment_moves.proofs.best_from.Tie as tie
 
 removal-gain-requires : tie.Need-removal-gain-requires
 removal-gain-requires c κs =

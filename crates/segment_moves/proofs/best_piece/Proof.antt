@@ -5,11 +5,12 @@ use native.Mathlib.Omega.{arith}
 use lib.ListN.{length}
 use Rattle.evaluation.specs.Columns.{columns}
 use Rattle.descent.specs.Order.{range, each}
-use Rattle.or_opt.specs.OrOpt.{choice, row, pieceOf, Known}
-use Rattle.or_opt.proofs.Choosing.{turn-each, end-each}
-use Rattle.or_opt.proofs.Sizes.{all-chosen, none-chosen}
-use Rattle.or_opt.proofs.best_piece.Statement.{statement}
-use Rattle.or_opt.proofs.best_piece.Tie as tie
+use Rattle.segments.specs.Segments.{choice, pieceOf, Known}
+use Rattle.segment_moves.specs.Row.{row}
+use Rattle.segments.proofs.Choosing.{turn-each, end-each}
+use Rattle.segment_moves.proofs.Rows.{all-chosen, none-chosen}
+use Rattle.segment_moves.proofs.best_piece.Statement.{statement}
+use Rattle.segment_moves.proofs.best_piece.Tie as tie
 
 abbrev Inv-loop : tie.InvT-loop
 Inv-loop flags service ready due penalty distances times terms list size n best₀ from₀ best from =

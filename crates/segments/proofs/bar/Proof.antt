@@ -1,8 +1,8 @@
 use lib.Ieee.{neg}
-use Rattle.or_opt.specs.OrOpt.{barOf}
+use Rattle.segments.specs.Segments.{barOf}
 use borrow.Author.Needs.{needs}
-use Rattle.or_opt.proofs.bar.Statement.{statement}
-use Rattle.or_opt.proofs.bar.Tie as tie
+use Rattle.segments.proofs.bar.Statement.{statement}
+use Rattle.segments.proofs.bar.Tie as tie
 
 enum-told : tie.Need-enum-told
 enum-told c = search needs

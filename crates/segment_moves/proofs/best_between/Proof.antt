@@ -6,10 +6,10 @@ use native.Mathlib.Omega.{arith}
 use borrow.Author.Needs.{needs}
 use Rattle.evaluation.specs.Columns.{columns}
 use Rattle.descent.specs.Order.{range}
-use Rattle.or_opt.specs.OrOpt.{choice, to-each, pieceOf, Known}
-use Rattle.or_opt.proofs.Choosing.{turn-one, end-one}
-use Rattle.or_opt.proofs.best_between.Statement.{statement}
-use Rattle.or_opt.proofs.best_between.Tie as tie
+use Rattle.segments.specs.Segments.{choice, to-each, pieceOf, Known}
+use Rattle.segments.proofs.Choosing.{turn-one, end-one}
+use Rattle.segment_moves.proofs.best_between.Statement.{statement}
+use Rattle.segment_moves.proofs.best_between.Tie as tie
 
 abbrev Inv-loop : tie.InvT-loop
 Inv-loop flags service ready due penalty distances times terms list piece start end found₀ to₀ found to =

@@ -4,9 +4,9 @@ use borrow.Author.Needs.{needs}
 use Rattle.edits.proofs.Chain.{appended-whole}
 use Rattle.evaluation.specs.Route.{feasible}
 use Rattle.descent.specs.Within.{Piece}
-use Rattle.or_opt.proofs.Moved.{made-is, visits-moved}
-use Rattle.or_opt.proofs.candidate_passes.Statement.{statement}
-use Rattle.or_opt.proofs.candidate_passes.Tie as tie
+use Rattle.segments.proofs.Moved.{made-is, visits-moved}
+use Rattle.segments.proofs.candidate_passes.Statement.{statement}
+use Rattle.segments.proofs.candidate_passes.Tie as tie
 
 append-requires : tie.Need-append-requires
 append-requires c κs = search needs
