@@ -17,8 +17,8 @@ use Rattle.descent.specs.Engines.{run-of}
 use Rattle.descent.specs.Claim.{Claim}
 use Rattle.deltas.specs.Judged.{Lent, roadsOf}
 use Rattle.deltas.proofs.Exact.{float-demand-3}
-use Rattle.soft.specs.declared.neighbours.Neighbourhood.{Neighbourhood}
-use Rattle.soft.specs.declared.neighbours.Neighbourhood.the-variants.{Reverse, Relocate, Reconnect}
+use Rattle.neighbours.specs.declared.Neighbourhood.{Neighbourhood}
+use Rattle.neighbours.specs.declared.Neighbourhood.the-variants.{Reverse, Relocate, Reconnect}
 use Rattle.within.specs.Within.{Ran, hardRan}
 use Rattle.within.proofs.Kept.{ran-hard}
 use Rattle.refusals.specs.Refusal.{refusal, Fine, fine, visits-fine}

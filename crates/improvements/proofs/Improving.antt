@@ -20,7 +20,7 @@ use Rattle.lists.proofs.Tables.{at-lists, length-list, length-lists, lists-put,
 use Rattle.evaluation.specs.Columns.{Formed, Visits, columnsOf, formed}
 use Rattle.descent.specs.Search.{Word, settled, stopped}
 use Rattle.engine.specs.Engine.{endedAs}
-use Rattle.soft.specs.declared.neighbours.Neighbourhood.{Neighbourhood}
+use Rattle.neighbours.specs.declared.Neighbourhood.{Neighbourhood}
 use Rattle.within.specs.Within.{Ran, ranBy}
 use Rattle.within.proofs.Kept.{ran-same}
 use Rattle.refusals.specs.Refusal.{refusal, Fine, fine, visits-fine}

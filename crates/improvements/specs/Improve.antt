@@ -12,7 +12,7 @@ use Rattle.evaluation.specs.Distance.{routeDistance}
 use Rattle.descent.specs.Search.{Word, settled, stopped}
 use Rattle.engine.specs.declared.Ended.{Ended}
 use Rattle.engine.specs.declared.Ended.the-variants as ended
-use Rattle.soft.specs.declared.neighbours.Neighbourhood.{Neighbourhood}
+use Rattle.neighbours.specs.declared.Neighbourhood.{Neighbourhood}
 use Rattle.within.specs.Within.{Ran, ranBy}
 use Rattle.claims.specs.Demand3.{Report}
 use Rattle.refusals.specs.Refusal.{refusal}

@@ -1,4 +1,2 @@
-pub mod Choosing
-pub mod Moved
 pub mod Sizes
 pub mod Claimed

@@ -1,9 +1,9 @@
 -- The piece lengths in turn: what is taken at a length has that length and can be moved, and a sweep goes on with the next. Assumes nothing.
-use mathlib.Core.Path.{_≡_, refl, sym, ap, _∙_}
+use mathlib.Core.Path.{_≡_, sym, ap, _∙_}
 use mathlib.Core.Logic.{inl, inr}
-use mathlib.Core.Option.{Option, some}
-use mathlib.Core.List.{List, []}
-use Prim.Native.Nat.{ℕ, suc, _+_, _-_, _≤_, _<_}
+use mathlib.Core.Option.{some}
+use mathlib.Core.List.{List}
+use Prim.Native.Nat.{ℕ, suc, _+_, _≤_, _<_}
 use native.Mathlib.Numerals.{add-one}
 use native.Mathlib.Omega.{arith}
 use lib.ListN.{length}
@@ -11,47 +11,22 @@ use lib.Ieee.{lt}
 use Rattle.evaluation.specs.Columns.{Columns}
 use Rattle.edits.specs.Edits.{putBefore}
 use Rattle.descent.specs.Order.{range}
-use Rattle.descent.specs.Search.{Sweep, firstLeast, ok, taken, firstMove, next}
-use Rattle.descent.specs.Within.{Piece, pieces, put-before}
+use Rattle.descent.specs.Search.{Sweep, ok, taken, firstMove, next}
+use Rattle.descent.specs.Within.{pieces, put-before}
 use Rattle.descent.proofs.Loops.{range-step, range-done, place-passed, place-moved, next-ahead, next-sweep}
 use Rattle.descent.proofs.Sweeps.{first-least-some}
 use Rattle.descent.proofs.OrOpt.{Positioned, pieces-in}
-use Rattle.or_opt.specs.OrOpt.{last-position, searchOf, judgeOf, deltaAt, Asked, Fits, chosen, choice, to-each, row, placed, pieceOf, leads}
-use Rattle.or_opt.specs.declared.Terms.{Terms}
-use Rattle.or_opt.specs.declared.Change.{Change}
-use Rattle.or_opt.specs.declared.Best.{Best}
-use Rattle.or_opt.specs.declared.Best.the-variants.{Nothing, Move}
-use Rattle.or_opt.proofs.Choosing.{then-more}
-use Rattle.or_opt.proofs.Moved.{is-put, asked-moved}
+use Rattle.segments.specs.Segments.{last-position, searchOf, judgeOf, deltaAt, Asked, Fits, placed, pieceOf}
+use Rattle.or_opt.specs.OrOpt.{leads}
+use Rattle.segments.specs.declared.Terms.{Terms}
+use Rattle.segments.specs.declared.Change.{Change}
+use Rattle.segments.specs.declared.Best.{Best}
+use Rattle.segments.specs.declared.Best.the-variants.{Nothing, Move}
+use Rattle.segments.proofs.Moved.{is-put, asked-moved}
 use Rattle.engine.proofs.Running.{Going, going-moves}
-
--- the last position is within the list, whichever it is
-reach : (n size : ℕ) → last-position n size ≤ n
-reach n size = omega arith
-
--- a piece as long as the list, or longer, has no position to go to
-pub too-long : (last : ℕ → ℕ → ℕ) → ((n size : ℕ) → last n size ≤ n) → (n size : ℕ) → n ≤ size → pieces last n size ≡ []
-too-long last within n size h =
-    let none-left : n - size ≡ 0 = omega arith in
-    rw (none-left, range-done (suc (0 + size)) (suc (last n size)) (omega (arith, within n size)))
+use Rattle.segment_moves.proofs.Rows.{reach}
 
 module _ (c : Columns) (t : Terms) (xs : List ℕ) where
-  -- a row of positions, those before the piece and then those behind it
-  pub row-chosen : (n size from last : ℕ) (o first r : Option Piece) → last ≡ last-position n size → first ≡ choice c t xs o (to-each size from (range 0 from))
-      → r ≡ choice c t xs first (to-each size from (range (from + size + 1) (last + 1))) → r ≡ choice c t xs o (row n size from)
-  row-chosen n size from last o first r e p q =
-      then-more _ _ (λ to. record { size = size; from = from; to = to }) (range 0 from) (range (suc (from + size)) (suc (last-position n size))) o first r p
-      (rw (e, add-one (from + size), add-one (last-position n size)) at q)
-
-  -- the choice among all, from nothing on, is what is taken
-  pub all-chosen : (size : ℕ) → choice c t xs (pieceOf Nothing) (pieces last-position (length xs) size) ≡ taken (searchOf c t) (judgeOf c t) xs size
-  unfolding taken chosen pieceOf
-  all-chosen size = refl
-
-  pub none-chosen : (size : ℕ) → length xs ≤ size → pieceOf Nothing ≡ taken (searchOf c t) (judgeOf c t) xs size
-  unfolding taken firstLeast pieceOf
-  none-chosen size h = rw (too-long last-position reach (length xs) size h)
-
   -- what is taken is of this length, and can be moved
   pub fits-taken : (size : ℕ) (m : Change) → pieceOf (Move m) ≡ taken (searchOf c t) (judgeOf c t) xs size → (m .size ≡ size) × Fits (length xs) (placed m)
   unfolding taken pieceOf

@@ -6,7 +6,7 @@ ghost use Rattle.day.specs.Day.{dayAt};
 ghost use Rattle.edits.specs.Total.{SameVisits};
 ghost use Rattle.lists.specs.Table.{listOf};
 ghost use Rattle.descent.specs.Permitted.{two-opt, or-opt, three-opt, n-minus-length};
-ghost use Rattle.soft.specs.declared.neighbours.Neighbourhood.the-variants.{Reverse, Relocate, Reconnect};
+ghost use Rattle.neighbours.specs.declared.Neighbourhood.the-variants.{Reverse, Relocate, Reconnect};
 ghost use Rattle.improvements.specs.Improve.{improveAnswer, improveVisits, reported};
 ghost use Rattle.claims.specs.Demand3.{Claimed};
 ghost use Rattle.planner_c.specs.Written.{improveCode, settledIn, movesIn, endDistanceIn};

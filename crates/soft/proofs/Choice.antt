@@ -13,11 +13,13 @@ use Rattle.numbers.specs.Floor.{countsSoft}
 use Rattle.numbers.proofs.Total.{lt-trans}
 use Rattle.descent.specs.Search.{least, firstLeast, ok, taken}
 use Rattle.descent.proofs.Members.{T-true, true-T}
-use Rattle.soft.specs.Soft.{Neighbour, neighbours, made, soft-search, soft-judge}
-use Rattle.soft.specs.Places.{meant, Inside, chosen, better, Known}
-use Rattle.soft.specs.declared.neighbours.Neighbourhood.{Neighbourhood}
-use Rattle.soft.specs.declared.neighbours.Place.{Place}
-use Rattle.soft.specs.declared.neighbours.Found.the-variants.{Nothing, At}
+use Rattle.neighbours.specs.Neighbours.{Neighbour, neighbours, made}
+use Rattle.soft.specs.Soft.{soft-search, soft-judge}
+use Rattle.neighbours.specs.Places.{meant, Inside}
+use Rattle.soft.specs.Chosen.{chosen, better, Known}
+use Rattle.neighbours.specs.declared.Neighbourhood.{Neighbourhood}
+use Rattle.neighbours.specs.declared.Place.{Place}
+use Rattle.neighbours.specs.declared.Found.the-variants.{Nothing, At}
 use Rattle.soft.specs.declared.Best.{Best}
 
 module _ {C : Type 0} (cost : C → Float) where

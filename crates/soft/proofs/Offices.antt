@@ -24,9 +24,10 @@ use Rattle.descent.proofs.Claims.{Tried}
 use Rattle.descent.proofs.Demand3.{Proper, faithful}
 use Rattle.descent.proofs.Runs.{ran, chain-map, chain-keeps}
 use Rattle.descent.proofs.Sweeps.{next-some}
-use Rattle.soft.specs.Soft.{Neighbour, reversal, relocation, reconnection, ways, to-the-end, neighbours, made, soft-search, soft-judge, soft-run}
-use Rattle.soft.specs.declared.neighbours.Neighbourhood.{Neighbourhood}
-use Rattle.soft.specs.declared.neighbours.Neighbourhood.the-variants.{Reverse, Relocate, Reconnect}
+use Rattle.neighbours.specs.Neighbours.{Neighbour, reversal, relocation, reconnection, ways, to-the-end, neighbours, made}
+use Rattle.soft.specs.Soft.{soft-search, soft-judge, soft-run}
+use Rattle.neighbours.specs.declared.Neighbourhood.{Neighbourhood}
+use Rattle.neighbours.specs.declared.Neighbourhood.the-variants.{Reverse, Relocate, Reconnect}
 
 -- everything passes
 abbrev free : Checks

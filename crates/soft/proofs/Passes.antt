@@ -9,13 +9,15 @@ use lib.Ieee.{Float}
 use Rattle.numbers.specs.Operations.{_⊖_}
 use Rattle.descent.specs.Search.{taken, firstMove, next, Sweep}
 use Rattle.descent.proofs.Loops.{place-passed, place-moved, next-sweep}
-use Rattle.soft.specs.Soft.{Neighbour, neighbours, made, soft-search, soft-judge}
-use Rattle.soft.specs.Places.{meant, Inside, InsideAny, rest, Follows, chosen, better, Known}
+use Rattle.neighbours.specs.Neighbours.{Neighbour, neighbours, made}
+use Rattle.soft.specs.Soft.{soft-search, soft-judge}
+use Rattle.neighbours.specs.Places.{meant, Inside, InsideAny, rest, Follows}
+use Rattle.soft.specs.Chosen.{chosen, better, Known}
 use Rattle.soft.proofs.Choice.{pick, pick-taken, pick-turn, known-none, known-turn}
-use Rattle.soft.specs.declared.neighbours.Neighbourhood.{Neighbourhood}
-use Rattle.soft.specs.declared.neighbours.Place.{Place}
-use Rattle.soft.specs.declared.neighbours.Found.{Found}
-use Rattle.soft.specs.declared.neighbours.Found.the-variants.{Nothing, At}
+use Rattle.neighbours.specs.declared.Neighbourhood.{Neighbourhood}
+use Rattle.neighbours.specs.declared.Place.{Place}
+use Rattle.neighbours.specs.declared.Found.{Found}
+use Rattle.neighbours.specs.declared.Found.the-variants.{Nothing, At}
 use Rattle.soft.specs.declared.Best.{Best}
 
 -- ---- a pass

@@ -1,2 +1,2 @@
 pub mod Soft
-pub mod Places
+pub mod Chosen

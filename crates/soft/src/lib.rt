@@ -1,19 +1,9 @@
 // local_search/soft.rs: the search within a list where a day has a soft window. A move that shortens a list can make its van late, and one that
 // lengthens it can save the lateness, so every neighbour is priced whole, and the one of least effective cost is taken (steepest descent).
 //
-// The Rust's closure over all neighbours is a loop over places here (neighbours.rt), each a layout of the list (layout.rt) in one lent buffer. A
+// The Rust's closure over all neighbours is a loop over places here, each a layout of the list (neighbours) in one lent buffer. A
 // neighbour keeps the list's first visits: their head is driven once for all that share it. The best so far is kept by its numbers, and made again at
 // the end of the pass.
-pub mod layout;
-pub mod neighbours;
-
-use crate::layout::layout_of;
-use crate::layout::make;
-use crate::neighbours::Found;
-use crate::neighbours::Neighbourhood;
-use crate::neighbours::Place;
-use crate::neighbours::after;
-use crate::neighbours::first_place;
 use day::matrix::scale;
 use day::vehicle::RouteLimits;
 use engine::Ended;
@@ -23,6 +13,13 @@ use heads::at_depot;
 use heads::price_from;
 use heads::reach;
 use layouts::lay_out;
+use neighbours::Found;
+use neighbours::Neighbourhood;
+use neighbours::Place;
+use neighbours::after;
+use neighbours::first_place;
+use neighbours::layout::layout_of;
+use neighbours::layout::make;
 use numbers::gain_floor;
 ghost use mathlib.Core.Path.{_≡_};
 ghost use Prim.Native.Nat.{_<_, _≤_};
@@ -34,8 +31,10 @@ ghost use Rattle.evaluation.specs.Route.{effectiveCost};
 ghost use Rattle.heads.specs.Head.{Driven};
 ghost use Rattle.descent.specs.Search.{taken};
 ghost use Rattle.engine.specs.Engine.{endedAs};
-ghost use Rattle.soft.specs.Soft.{made, soft-search, soft-judge, soft-run};
-ghost use Rattle.soft.specs.Places.{meant, Inside, chosen, better, Known};
+ghost use Rattle.neighbours.specs.Neighbours.{made};
+ghost use Rattle.soft.specs.Soft.{soft-search, soft-judge, soft-run};
+ghost use Rattle.neighbours.specs.Places.{meant, Inside};
+ghost use Rattle.soft.specs.Chosen.{chosen, better, Known};
 
 // The best neighbour so far, and the cost that a better one must be below.
 pub struct Best {

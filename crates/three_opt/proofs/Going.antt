@@ -17,10 +17,12 @@ use Rattle.engine.specs.Engine.{checksOf, mapOf, endedAs}
 use Rattle.engine.specs.declared.Ended.{Ended}
 use Rattle.engine.specs.declared.Ended.the-variants.{Settled, Stopped}
 use Rattle.engine.proofs.Running.{Going, going-starts, going-settles, going-stops, going-moves}
-use Rattle.three_opt.specs.ThreeOpt.{searchOf, judgeOf, cutOf, reconnection, moveOf, placeAfter}
-use Rattle.three_opt.specs.declared.Place.{Place}
+use Rattle.reconnections.specs.Reconnections.{cutOf, reconnection}
+use Rattle.patterns.specs.Patterns.{searchOf, judgeOf, moveOf}
+use Rattle.three_opt.specs.ThreeOpt.{placeAfter}
+use Rattle.reconnections.specs.declared.Place.{Place}
 use Rattle.three_opt.proofs.Places.{cutsFrom, Standing, cuts-start, cuts-few, standing-start, standing-inside, cuts-turn, standing-turn, cuts-end}
-use Rattle.three_opt.proofs.Reconnected.{length-reconnected}
+use Rattle.reconnections.proofs.Reconnected.{length-reconnected}
 
 -- ---- one search
 

@@ -14,8 +14,9 @@ use Rattle.descent.specs.Order.{range, each}
 use Rattle.descent.specs.Within.{Cut, cuts}
 use Rattle.descent.proofs.Counts.{three-opt-cuts}
 use Rattle.descent.proofs.Loops.{range-step, range-done}
-use Rattle.three_opt.specs.ThreeOpt.{Inside, cutOf, placeAfter}
-use Rattle.three_opt.specs.declared.Place.{Place}
+use Rattle.reconnections.specs.Reconnections.{Inside, cutOf}
+use Rattle.three_opt.specs.ThreeOpt.{placeAfter}
+use Rattle.reconnections.specs.declared.Place.{Place}
 
 -- the places of i and j from k on; of i with its middle from j on; with their first from i on
 abbrev row : ℕ → ℕ → ℕ → ℕ → List Cut

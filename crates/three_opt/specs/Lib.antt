@@ -1,2 +1,1 @@
 pub mod ThreeOpt
-pub mod Below

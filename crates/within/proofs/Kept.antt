@@ -20,8 +20,8 @@ use Rattle.descent.proofs.Always.{kept-by}
 use Rattle.deltas.specs.Judged.{float-judge}
 use Rattle.engine.specs.Engine.{checksOf}
 use Rattle.soft.proofs.Offices.{soft-same}
-use Rattle.soft.specs.declared.neighbours.Neighbourhood.{Neighbourhood}
-use Rattle.soft.specs.declared.neighbours.Neighbourhood.the-variants.{Reverse, Relocate, Reconnect}
+use Rattle.neighbours.specs.declared.Neighbourhood.{Neighbourhood}
+use Rattle.neighbours.specs.declared.Neighbourhood.the-variants.{Reverse, Relocate, Reconnect}
 use Rattle.within.specs.Within.{Ran, listMap, hardRan, ranBy}
 
 one-less : (a b : ℕ) → a + 0 ≡ b + 0 → a ≡ b

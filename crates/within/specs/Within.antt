@@ -14,8 +14,8 @@ use Rattle.descent.specs.Engines.{run-of}
 use Rattle.deltas.specs.Judged.{Map, float-judge}
 use Rattle.engine.specs.Engine.{checksOf, mapOf}
 use Rattle.soft.specs.Soft.{soft-run}
-use Rattle.soft.specs.declared.neighbours.Neighbourhood.{Neighbourhood}
-use Rattle.soft.specs.declared.neighbours.Neighbourhood.the-variants.{Reverse, Relocate, Reconnect}
+use Rattle.neighbours.specs.declared.Neighbourhood.{Neighbourhood}
+use Rattle.neighbours.specs.declared.Neighbourhood.the-variants.{Reverse, Relocate, Reconnect}
 
 -- what a run leaves: the list, its end word and the moves made
 pub record Ran : Type 0 where

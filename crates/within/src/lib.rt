@@ -2,8 +2,8 @@
 use day::customer::has_soft_windows;
 use day::vehicle::RouteLimits;
 use engine::Ended;
+use neighbours::Neighbourhood;
 use or_opt::or_opt_improve;
-use soft::neighbours::Neighbourhood;
 use three_opt::three_opt_improve;
 use two_opt::two_opt_improve;
 ghost use mathlib.Core.Path.{_≡_};

@@ -6,7 +6,8 @@ use borrow.Author.Needs.{needs}
 use Rattle.evaluation.specs.Columns.{columns}
 use Rattle.descent.specs.Order.{range}
 use Rattle.descent.specs.Search.{firstMove}
-use Rattle.or_opt.specs.OrOpt.{searchOf, judgeOf, pieceOf, Apt}
+use Rattle.segments.specs.Segments.{searchOf, judgeOf, pieceOf}
+use Rattle.or_opt.specs.OrOpt.{Apt}
 use Rattle.or_opt.proofs.Sizes.{fits-taken, size-moves, size-passed, sizes-done}
 use Rattle.or_opt.proofs.first_move.Statement.{statement}
 use Rattle.or_opt.proofs.first_move.Tie as tie

@@ -10,7 +10,8 @@ use Rattle.evaluation.specs.Columns.{columns}
 use Rattle.descent.specs.Order.{range}
 use Rattle.descent.specs.Search.{Sweep, next}
 use Rattle.descent.specs.Engines.{run-of}
-use Rattle.or_opt.specs.OrOpt.{searchOf, judgeOf, Asked, Apt, leads}
+use Rattle.segments.specs.Segments.{searchOf, judgeOf, Asked}
+use Rattle.or_opt.specs.OrOpt.{Apt, leads}
 use Rattle.or_opt.proofs.Sizes.{moved-on}
 use Rattle.engine.proofs.Running.{Going, going-starts, going-settles, going-stops}
 use Rattle.or_opt.proofs.or_opt_improve.Statement.{statement}

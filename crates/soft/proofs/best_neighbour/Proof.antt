@@ -5,8 +5,8 @@ use Rattle.evaluation.specs.Columns.{columns}
 use Rattle.evaluation.specs.Route.{effectiveCost}
 use Rattle.heads.specs.Head.{Driven}
 use Rattle.heads.proofs.Heads.{depot-driven}
-use Rattle.soft.specs.Soft.{made}
-use Rattle.soft.specs.Places.{rest}
+use Rattle.neighbours.specs.Neighbours.{made}
+use Rattle.neighbours.specs.Places.{rest}
 use Rattle.soft.proofs.Passes.{Scanning, scan-starts, scan-turns, scan-ends, inside-at, fewer}
 use borrow.Author.Needs.{needs}
 use Rattle.soft.proofs.best_neighbour.Statement.{statement}

@@ -9,7 +9,7 @@ use Rattle.evaluation.specs.Route.{effectiveCost}
 use Rattle.descent.specs.Search.{Sweep}
 use Rattle.soft.specs.Soft.{soft-run}
 use Rattle.soft.proofs.Choice.{known-at}
-use Rattle.soft.proofs.Layouts.{made-kept}
+use Rattle.neighbours.proofs.Layouts.{made-kept}
 use Rattle.soft.proofs.Passes.{step, at, no-step, one-step}
 use Rattle.engine.proofs.Running.{Going, going-starts, going-settles, going-stops, going-moves}
 use borrow.Author.Needs.{needs}

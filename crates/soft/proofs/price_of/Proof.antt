@@ -3,7 +3,7 @@ use native.Mathlib.Omega.{arith}
 use mathlib.Core.Path.{ap, _∙_}
 use Rattle.heads.specs.Head.{priceFrom}
 use Rattle.heads.proofs.Heads.{from-head}
-use Rattle.soft.proofs.Layouts.{part-is, made-visits, visits-behind, shares}
+use Rattle.neighbours.proofs.Layouts.{part-is, made-visits, visits-behind, shares}
 use borrow.Author.Needs.{needs}
 use Rattle.soft.proofs.price_of.Statement.{statement}
 use Rattle.soft.proofs.price_of.Tie as tie

@@ -5,7 +5,7 @@ use native.Mathlib.Omega.{arith}
 use lib.ListN.{length}
 use Rattle.evaluation.specs.Columns.{columns, Visits}
 use Rattle.three_opt.proofs.Places.{cutsFrom, standing-inside, cuts-fewer, few-cuts}
-use Rattle.three_opt.proofs.Reconnected.{visits-reconnected}
+use Rattle.reconnections.proofs.Reconnected.{visits-reconnected}
 use Rattle.three_opt.proofs.Going.{Sweeping, sweep-start, sweep-settled, sweep-passed, sweep-stopped, sweep-moved}
 use Rattle.three_opt.proofs.descend.Statement.{statement}
 use Rattle.three_opt.proofs.descend.Tie as tie

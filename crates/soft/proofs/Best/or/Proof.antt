@@ -1,7 +1,7 @@
 -- `Best::or`: the test is the definition's.
 use mathlib.Core.Path.{refl}
 use Rattle.tests.specs.Pick.{picked, other}
-use Rattle.soft.specs.Places.{better}
+use Rattle.soft.specs.Chosen.{better}
 use Rattle.soft.proofs.Best.or.Statement.{statement}
 use Rattle.soft.proofs.Best.or.Tie as tie
 

@@ -1,0 +1,4 @@
+pub mod Counts
+pub mod Layouts
+pub mod Onward
+pub mod Relocated
