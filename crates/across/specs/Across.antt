@@ -8,7 +8,7 @@ use Rattle.numbers.specs.Floor.{gainFloor}
 use Rattle.day.specs.Matrix.{scaleOf}
 use Rattle.day.specs.Customer.{hasSoftWindows}
 use Rattle.day.specs.declared.vehicle.RouteLimits.{RouteLimits}
-use Rattle.evaluation.specs.Columns.{Columns}
+use Rattle.labels.specs.Columns.{Columns}
 use Rattle.descent.specs.Permitted.{Checks, tail-exchange, relocate}
 use Rattle.descent.specs.Search.{Word, Outcome, Sweep}
 use Rattle.descent.specs.Engines.{run-of}

@@ -12,7 +12,7 @@ ghost use lib.Signed.{leZ};
 ghost use Rattle.day.specs.Refusal.{capacityOk};
 ghost use Rattle.lists.specs.Table.{lists};
 ghost use Rattle.list_changes.specs.Edits.{Edited};
-ghost use Rattle.evaluation.specs.Columns.{columnsAt, Formed};
+ghost use Rattle.labels.specs.Columns.{columnsAt, Formed};
 ghost use Rattle.engine.specs.Engine.{endedAs};
 ghost use Rattle.loads.specs.Loads.{Loaded, Held};
 ghost use Rattle.across.specs.Across.{settingAt, exchangeRan, relocateRan};

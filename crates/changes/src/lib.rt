@@ -15,7 +15,7 @@ ghost use lib.ListN.{length, getD};
 ghost use Rattle.day.specs.Matrix.{leg, Square};
 ghost use Rattle.lists.specs.Table.{Laid, lists, listOf};
 ghost use Rattle.list_changes.specs.Edits.{Edited, Relocates, relocated};
-ghost use Rattle.evaluation.specs.Columns.{columnsAt};
+ghost use Rattle.labels.specs.Columns.{columnsAt};
 ghost use Rattle.deltas.specs.Deltas.{insertionDelta};
 ghost use Rattle.pairs.specs.Pairs.{tableAt};
 ghost use Rattle.insertions.specs.Cache.{Known};

@@ -9,13 +9,13 @@ use Rattle.day.specs.Matrix.{scaleOf, symmetric}
 use Rattle.day.specs.Customer.{numDepots}
 use Rattle.day.specs.Vehicle.{fixedCostInDistance, limitsOf}
 use Rattle.lists.specs.Table.{listOf}
-use Rattle.evaluation.specs.Columns.{columnsOf}
+use Rattle.labels.specs.Columns.{columnsOf}
 use Rattle.evaluation.specs.Distance.{routeDistance}
 use Rattle.evaluation.specs.Route.{outcome, feasible, eval}
 use Rattle.evaluation.specs.declared.route.Evaluation.{Evaluation}
 use Rattle.evaluation.specs.declared.route.Evaluation.the-variants as evaluation
-use Rattle.evaluation.specs.declared.schedule.Outcome.{Outcome}
-use Rattle.evaluation.specs.declared.schedule.Outcome.the-variants as outcome
+use Rattle.break_clock.specs.declared.Outcome.{Outcome}
+use Rattle.break_clock.specs.declared.Outcome.the-variants as outcome
 use Rattle.refusals.specs.Refusal.{refusal, dayAndVanRefusal}
 use Rattle.refusals.specs.Answered.{unlessRefused}
 use Rattle.checks.specs.declared.table.Table.{Table}

@@ -1,9 +1,9 @@
 // The entries that look at one list and change nothing: its distance, whether it passes, what it comes to, and its schedule.
 use day::vehicle::RouteLimits;
 use day::vehicle::Van;
-use evaluation::label::Taken;
+use labels::label::Taken;
 use evaluation::route::Evaluation;
-use evaluation::schedule::Outcome;
+use break_clock::Outcome;
 use lists::list_of;
 use refusals::refusal_of;
 ghost use mathlib.Core.Path.{_≡_};

@@ -14,7 +14,7 @@ use Rattle.day.specs.Matrix.{leg}
 use Rattle.day.specs.Customer.{hasSoftWindows}
 use Rattle.day.specs.Vehicle.{limitsOf, fixedCostInDistance}
 use Rattle.day.specs.declared.vehicle.Van.{Van}
-use Rattle.evaluation.specs.Columns.{columnsOf}
+use Rattle.labels.specs.Columns.{columnsOf}
 use Rattle.descent.specs.Permitted.{Checks, Engine, State}
 use Rattle.descent.specs.Search.{Word}
 use Rattle.descent.specs.Claim.{Claim}

@@ -15,7 +15,7 @@ use lib.Ieee.{Float, nan, inf, lt}
 use Rattle.numbers.specs.Operations.{_⊕_, _⊖_, zero64}
 use Rattle.tests.specs.All.{all-at}
 use Rattle.tests.specs.Pick.{picked, other}
-use Rattle.evaluation.specs.Columns.{Columns}
+use Rattle.labels.specs.Columns.{Columns}
 use Rattle.descent.specs.Order.{range}
 use Rattle.descent.proofs.Loops.{range-step, range-done}
 use Rattle.cross_moves.specs.CrossDepot.{holds, pricedAs, allowed, isTested, amount, replaced, relocation}

@@ -9,7 +9,7 @@ use lib.ListN.{length, getD}
 use lib.Ieee.{Float, nan, inf, lt}
 use Rattle.numbers.specs.Operations.{_⊕_, _⊖_, zero64}
 use Rattle.tests.specs.All.{allBelow}
-use Rattle.evaluation.specs.Columns.{Columns}
+use Rattle.labels.specs.Columns.{Columns}
 use Rattle.descent.specs.Order.{range}
 use Rattle.day.specs.declared.vehicle.Van.{Van}
 use Rattle.cross_moves.specs.CrossDepot.{holds}

@@ -13,7 +13,7 @@ use lib.Ieee.{Float, lt, neg}
 use Rattle.numbers.specs.Operations.{_⊕_, _⊖_, zero64}
 use Rattle.lists.specs.Table.{Laid}
 use Rattle.list_changes.specs.Edits.{at}
-use Rattle.evaluation.specs.Columns.{Columns, Formed}
+use Rattle.labels.specs.Columns.{Columns, Formed}
 use Rattle.descent.specs.Order.{range}
 use Rattle.cross_moves.specs.Boxes.{Loaded, Prefixed}
 use Rattle.fleet.specs.Fleet.{Fleet, Driven}

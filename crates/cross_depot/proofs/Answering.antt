@@ -13,7 +13,7 @@ use lib.Ieee.{Float}
 use Rattle.edits.specs.Total.{SameVisits}
 use Rattle.lists.specs.Table.{Laid, lists}
 use Rattle.lists.proofs.Tables.{length-lists, flat-lists, lengths-lists}
-use Rattle.evaluation.specs.Columns.{Columns}
+use Rattle.labels.specs.Columns.{Columns}
 use Rattle.descent.specs.Search.{settled}
 use Rattle.engine.specs.Engine.{endedAs}
 use Rattle.engine.specs.declared.Ended.the-variants.{Settled}

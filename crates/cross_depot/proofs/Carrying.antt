@@ -18,7 +18,7 @@ use Rattle.day.specs.declared.vehicle.Van.{Van}
 use Rattle.edits.specs.Total.{total, total-append}
 use Rattle.lists.specs.Table.{lengthsOf}
 use Rattle.list_changes.specs.Edits.{at, filled}
-use Rattle.evaluation.specs.Columns.{Columns}
+use Rattle.labels.specs.Columns.{Columns}
 use Rattle.descent.specs.Order.{here}
 use Rattle.descent.specs.Search.{Sweep, ok, next}
 use Rattle.descent.proofs.Members.{and-parts}

@@ -5,7 +5,7 @@ use mathlib.Core.Option.{none}
 use mathlib.Core.List.{List}
 use Prim.Native.Nat.{ℕ}
 use lib.IntN.{ℤ}
-use Rattle.evaluation.specs.Columns.{Columns}
+use Rattle.labels.specs.Columns.{Columns}
 use Rattle.descent.specs.Search.{settled, stopped, next}
 use Rattle.descent.proofs.Runs.{ran}
 use Rattle.fleet.specs.Fleet.{Fleet}

@@ -13,7 +13,7 @@ ghost use mathlib.Core.Path.{_≡_};
 ghost use lib.ListN.{length};
 ghost use Rattle.edits.specs.Total.{SameVisits};
 ghost use Rattle.lists.specs.Table.{lists};
-ghost use Rattle.evaluation.specs.Columns.{columnsAt};
+ghost use Rattle.labels.specs.Columns.{columnsAt};
 ghost use Rattle.fleet.specs.Fleet.{fleetAt, Crewed, Manned};
 ghost use Rattle.cross_moves.specs.CrossDepot.{lentPlan, runOf, ranOf, crossRan, Carried};
 ghost use Rattle.cross_choices.specs.Scan.{Asked, Held};

@@ -12,7 +12,7 @@ use lib.ListN.{length, getD, set, take, length-set}
 use lib.Seq.{slice, take-all, slice-empty, getD-set-same, getD-set-other}
 use Rattle.day.specs.declared.vehicle.Van.{Van}
 use Rattle.edits.specs.Total.{total}
-use Rattle.evaluation.specs.Columns.{Visits}
+use Rattle.labels.specs.Columns.{Visits}
 use Rattle.cross_moves.specs.Boxes.{boxesAt, Loaded, Prefixed}
 use Rattle.cross_moves.specs.CrossDepot.{holds, replaced}
 use Rattle.cross_prices.specs.Candidate.{Two}

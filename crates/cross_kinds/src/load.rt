@@ -7,7 +7,7 @@ ghost use lib.IntN.{pos, natAbs};
 ghost use lib.Signed.{leZ};
 ghost use lib.ListN.{length, getD};
 ghost use lib.Seq.{slice};
-ghost use Rattle.evaluation.specs.Columns.{Visits};
+ghost use Rattle.labels.specs.Columns.{Visits};
 ghost use Rattle.cross_moves.specs.Boxes.{boxesAt, Loaded, Prefixed};
 ghost use Rattle.fleet.specs.Fleet.{Driven};
 ghost use Rattle.cross_moves.specs.CrossDepot.{holds, replaced};

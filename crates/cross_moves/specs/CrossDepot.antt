@@ -21,7 +21,7 @@ use Rattle.day.specs.declared.vehicle.Van.{Van}
 use Rattle.edits.specs.Total.{total}
 use Rattle.lists.specs.Table.{lists, lengthsOf}
 use Rattle.list_changes.specs.Edits.{at, filled}
-use Rattle.evaluation.specs.Columns.{Columns}
+use Rattle.labels.specs.Columns.{Columns}
 use Rattle.evaluation.specs.Route.{eval, pricedDistance}
 use Rattle.evaluation.specs.declared.route.Evaluation.{Evaluation}
 use Rattle.evaluation.specs.declared.route.Evaluation.the-variants.{Fails, Passes}

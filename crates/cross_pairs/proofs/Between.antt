@@ -11,7 +11,7 @@ use lib.ListN.{length, take, drop, length-append, length-drop}
 use lib.Seq.{take-at, drop-at, length-take-le}
 use lib.Ieee.{Float}
 use Rattle.tests.specs.Pick.{picked, other}
-use Rattle.evaluation.specs.Columns.{Columns}
+use Rattle.labels.specs.Columns.{Columns}
 use Rattle.cross_moves.specs.declared.pair.Pair.{Pair}
 use Rattle.heads.specs.Kept.{Kept}
 use Rattle.cross_kinds.specs.Kinds.{moveAt, rowOf, rowsIn}

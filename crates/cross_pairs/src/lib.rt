@@ -18,7 +18,7 @@ use heads::fill_heads;
 ghost use mathlib.Core.Path.{_≡_};
 ghost use Prim.Native.Nat.{_<_};
 ghost use lib.ListN.{length, take, drop};
-ghost use Rattle.evaluation.specs.Columns.{columnsAt, Formed};
+ghost use Rattle.labels.specs.Columns.{columnsAt, Formed};
 ghost use Rattle.heads.specs.Kept.{Kept};
 ghost use Rattle.cross_moves.specs.Boxes.{Loaded, Prefixed};
 ghost use Rattle.cross_prices.specs.Candidate.{Two};

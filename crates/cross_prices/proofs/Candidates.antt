@@ -16,16 +16,16 @@ use Rattle.day.specs.declared.vehicle.Rest.{Rest}
 use Rattle.day.specs.declared.vehicle.Rest.the-variants.{NoBreak}
 use Rattle.day.specs.declared.vehicle.RouteLimits.{RouteLimits}
 use Rattle.edits.proofs.Cuts.{to-end}
-use Rattle.evaluation.specs.Columns.{Columns, legIn, travelIn}
-use Rattle.evaluation.specs.Walk.{Tour, tourOf, onward, walk, walk-on, walk-keeps}
-use Rattle.evaluation.specs.Label.{atStart}
-use Rattle.evaluation.specs.Schedule.{ended}
+use Rattle.labels.specs.Columns.{Columns, legIn, travelIn}
+use Rattle.labels.specs.Walk.{Tour, tourOf, onward, walk, walk-on, walk-keeps}
+use Rattle.labels.specs.Label.{atStart}
+use Rattle.break_clock.specs.Schedule.{ended}
 use Rattle.evaluation.specs.Route.{tick, endUntaken, home, unbroken, outcome, evaluated, eval, pricedDistance, stays-missed, home-missed}
-use Rattle.evaluation.specs.declared.label.Label.{Label}
-use Rattle.evaluation.specs.declared.label.Taken.the-variants.{Untaken}
-use Rattle.evaluation.specs.declared.label.Reached.{Reached}
-use Rattle.evaluation.specs.declared.label.Reached.the-variants.{Missed, Served}
-use Rattle.evaluation.specs.declared.schedule.Outcome.{Outcome}
+use Rattle.labels.specs.declared.label.Label.{Label}
+use Rattle.labels.specs.declared.label.Taken.the-variants.{Untaken}
+use Rattle.labels.specs.declared.label.Reached.{Reached}
+use Rattle.labels.specs.declared.label.Reached.the-variants.{Missed, Served}
+use Rattle.break_clock.specs.declared.Outcome.{Outcome}
 use Rattle.evaluation.specs.declared.route.Evaluation.the-variants.{Fails, Passes}
 use Rattle.heads.specs.Head.{tourAt, Drove}
 use Rattle.heads.specs.Kept.{placeBefore, headAt, walked, Kept}

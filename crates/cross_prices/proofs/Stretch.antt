@@ -16,7 +16,7 @@ use Rattle.day.specs.declared.vehicle.Van.{Van}
 use Rattle.day.specs.declared.vehicle.RouteLimits.{RouteLimits}
 use Rattle.edits.specs.Total.{total, bit, total-append, total-none}
 use Rattle.edits.proofs.Cuts.{cut, to-end, lent}
-use Rattle.evaluation.specs.Columns.{Columns, Visits}
+use Rattle.labels.specs.Columns.{Columns, Visits}
 use Rattle.evaluation.specs.Route.{eval}
 use Rattle.evaluation.specs.declared.route.Evaluation.{Evaluation}
 use Rattle.descent.proofs.Below.{over, Below, below-at}

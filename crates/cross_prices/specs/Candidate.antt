@@ -10,10 +10,10 @@ use Rattle.day.specs.Vehicle.{routeCost, limitsOf, allows}
 use Rattle.day.specs.declared.vehicle.Van.{Van}
 use Rattle.day.specs.declared.vehicle.RouteLimits.{RouteLimits}
 use Rattle.day.specs.declared.vehicle.Rest.the-variants.{NoBreak}
-use Rattle.evaluation.specs.Columns.{Columns}
-use Rattle.evaluation.specs.Walk.{walk}
+use Rattle.labels.specs.Columns.{Columns}
+use Rattle.labels.specs.Walk.{walk}
 use Rattle.evaluation.specs.Route.{tick, home, evaluated}
-use Rattle.evaluation.specs.declared.label.Label.{Label}
+use Rattle.labels.specs.declared.label.Label.{Label}
 use Rattle.heads.specs.Head.{tourAt}
 use Rattle.heads.specs.declared.Head.{Head}
 use Rattle.cross_moves.specs.CrossDepot.{priceOf}

@@ -9,7 +9,7 @@ ghost use mathlib.Core.Path.{_≡_};
 ghost use Prim.Native.Nat.{_+_, _≤_};
 ghost use lib.ListN.{length, take};
 ghost use lib.Seq.{slice};
-ghost use Rattle.evaluation.specs.Columns.{columnsAt, Formed, Visits};
+ghost use Rattle.labels.specs.Columns.{columnsAt, Formed, Visits};
 ghost use Rattle.fleet.specs.Fleet.{Driven};
 ghost use Rattle.cross_moves.specs.CrossDepot.{priceOf, pricedAs, replaced};
 ghost use Rattle.cross_prices.specs.Candidate.{Two};

@@ -11,7 +11,7 @@ use lib.ListN.{length, getD, set, length-set}
 use lib.Seq.{slice, getD-set-same, getD-set-other}
 use lib.Ieee.{Float, nan, inf, lt}
 use Rattle.day.specs.declared.vehicle.Van.{Van}
-use Rattle.evaluation.specs.Columns.{Columns}
+use Rattle.labels.specs.Columns.{Columns}
 use Rattle.cross_moves.specs.CrossDepot.{pricedAs, amount, replaced}
 use Rattle.cross_rows.specs.Row.{fromAt, toAt, changed, costUnless, Costed}
 use Rattle.cross_rows.specs.declared.Stretch.{Stretch}

@@ -8,7 +8,7 @@ use lib.ListN.{getD}
 use lib.Seq.{slice}
 use lib.Ieee.{Float, nan, inf, lt}
 use Rattle.day.specs.declared.vehicle.Van.{Van}
-use Rattle.evaluation.specs.Columns.{Columns}
+use Rattle.labels.specs.Columns.{Columns}
 use Rattle.cross_moves.specs.CrossDepot.{pricedAs, amount, replaced}
 use Rattle.cross_rows.specs.declared.Stretch.{Stretch}
 

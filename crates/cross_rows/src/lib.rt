@@ -10,7 +10,7 @@ ghost use mathlib.Core.Path.{_≡_};
 ghost use Prim.Native.Nat.{_≤_, _<_};
 ghost use lib.ListN.{length};
 ghost use Rattle.fleet.specs.Fleet.{Driven};
-ghost use Rattle.evaluation.specs.Columns.{columnsAt, Formed};
+ghost use Rattle.labels.specs.Columns.{columnsAt, Formed};
 ghost use Rattle.heads.specs.Kept.{Kept};
 ghost use Rattle.cross_prices.specs.Candidate.{Two, Unbroken};
 ghost use Rattle.cross_rows.specs.Row.{fromAt, toAt, Rowed, Costed};

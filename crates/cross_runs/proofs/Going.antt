@@ -18,7 +18,7 @@ use Rattle.edits.specs.Total.{SameVisits}
 use Rattle.edits.proofs.Kept.{same-each, same-length}
 use Rattle.lists.specs.Table.{lists}
 use Rattle.lists.proofs.Tables.{length-lists, flat-lists, lengths-lists}
-use Rattle.evaluation.specs.Columns.{Columns}
+use Rattle.labels.specs.Columns.{Columns}
 use Rattle.descent.specs.Search.{Sweep, Outcome, settled, stopped, firstMove, next, run}
 use Rattle.descent.proofs.Loops.{place-passed, place-moved, next-sweep, run-settles, run-stops, run-moves}
 use Rattle.engine.specs.Engine.{endedAs}

@@ -15,7 +15,7 @@ use Rattle.day.specs.Matrix.{scaleOf}
 use Rattle.lists.specs.Table.{Laid, lists}
 use Rattle.list_changes.specs.Edits.{at}
 use Rattle.lists.proofs.Tables.{at-lists, length-lists, length-list}
-use Rattle.evaluation.specs.Columns.{Columns}
+use Rattle.labels.specs.Columns.{Columns}
 use Rattle.descent.specs.Order.{_∈_, range, each}
 use Rattle.descent.specs.Search.{taken}
 use Rattle.descent.proofs.Members.{not-in, in-either, range-in, each-in, map-in}

@@ -7,7 +7,7 @@ use lib.IntN.{ℤ}
 use lib.ListN.{length, take, drop, replicate}
 use lib.Ieee.{Float}
 use Rattle.lists.specs.Table.{flat, lengthsOf}
-use Rattle.evaluation.specs.Columns.{Columns}
+use Rattle.labels.specs.Columns.{Columns}
 use Rattle.descent.specs.Search.{taken}
 use Rattle.engine.specs.Engine.{endedAs}
 use Rattle.fleet.specs.Fleet.{Fleet}

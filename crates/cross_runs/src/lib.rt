@@ -11,7 +11,7 @@ ghost use Rattle.numbers.specs.Floor.{gainFloor};
 ghost use Rattle.day.specs.Matrix.{scaleOf};
 ghost use Rattle.edits.specs.Total.{SameVisits};
 ghost use Rattle.lists.specs.Table.{lists};
-ghost use Rattle.evaluation.specs.Columns.{columnsAt};
+ghost use Rattle.labels.specs.Columns.{columnsAt};
 ghost use Rattle.fleet.specs.Fleet.{fleetAt, Manned};
 ghost use Rattle.cross_moves.specs.CrossDepot.{runOf, ranOf, planOf};
 ghost use Rattle.cross_choices.specs.Scan.{Asked, Held};

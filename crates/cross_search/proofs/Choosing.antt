@@ -12,7 +12,7 @@ use Rattle.numbers.specs.Operations.{_⊕_, _⊖_}
 use Rattle.numbers.specs.Floor.{gainFloor}
 use Rattle.day.specs.Matrix.{scaleOf}
 use Rattle.list_changes.specs.Edits.{at}
-use Rattle.evaluation.specs.Columns.{Columns}
+use Rattle.labels.specs.Columns.{Columns}
 use Rattle.descent.specs.Order.{range, each}
 use Rattle.descent.specs.Search.{ok, taken}
 use Rattle.fleet.specs.Fleet.{Fleet}

@@ -12,7 +12,7 @@ use Rattle.numbers.specs.Operations.{_⊕_, _⊖_}
 use Rattle.numbers.specs.Value.{ordered}
 use Rattle.numbers.proofs.Total as Total
 use Rattle.tests.specs.Pick.{picked, other}
-use Rattle.evaluation.specs.Columns.{Columns}
+use Rattle.labels.specs.Columns.{Columns}
 use Rattle.descent.proofs.Members.{T-true, true-T}
 use Rattle.fleet.specs.Fleet.{Fleet}
 use Rattle.cross_moves.specs.CrossDepot.{Plan, ofPair}

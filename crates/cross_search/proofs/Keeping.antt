@@ -17,7 +17,7 @@ use Rattle.tests.specs.Pick.{picked, other}
 use Rattle.lists.specs.Table.{lengthsOf}
 use Rattle.list_changes.specs.Edits.{at, filled}
 use Rattle.lists.proofs.Tables.{length-lists}
-use Rattle.evaluation.specs.Columns.{Columns}
+use Rattle.labels.specs.Columns.{Columns}
 use Rattle.descent.proofs.Members.{and-parts}
 use Rattle.fleet.specs.Fleet.{Fleet, fleetVehicle}
 use Rattle.cross_moves.specs.CrossDepot.{Plan, pairOf, sameDepot, exchangedBy, ofFilled, dropped, afterMove, first, second, planOf}

@@ -15,7 +15,7 @@ use lib.Ieee.{Float}
 use Rattle.tests.specs.Pick.{picked, other}
 use Rattle.lists.specs.Table.{lists, startOf, listOf}
 use Rattle.lists.proofs.Tables.{at-lists, length-lists, length-list, list-at, start-later, start-within}
-use Rattle.evaluation.specs.Columns.{Columns}
+use Rattle.labels.specs.Columns.{Columns}
 use Rattle.descent.specs.Order.{range}
 use Rattle.descent.proofs.Loops.{range-step, range-done}
 use Rattle.fleet.specs.Fleet.{Fleet, Manned}

@@ -9,7 +9,7 @@ use lib.Dec.{eqb, ltb}
 use lib.IntN.{ℤ}
 use lib.ListN.{length, getD}
 use lib.Ieee.{Float, nan, lt, neg}
-use Rattle.evaluation.specs.Columns.{Columns}
+use Rattle.labels.specs.Columns.{Columns}
 use Rattle.fleet.specs.Fleet.{Fleet}
 use Rattle.cross_moves.specs.CrossDepot.{Plan}
 use Rattle.cross_choices.specs.Scan.{nothing, bestOfPair}

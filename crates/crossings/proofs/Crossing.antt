@@ -14,7 +14,7 @@ use Rattle.day.specs.Customer.{numDepots}
 use Rattle.fleet.specs.Fleet.{Fleet, Crewed}
 use Rattle.edits.specs.Total.{SameVisits}
 use Rattle.lists.specs.Table.{lists}
-use Rattle.evaluation.specs.Columns.{columnsOf, formed}
+use Rattle.labels.specs.Columns.{columnsOf, formed}
 use Rattle.loads.proofs.Boxes.{loaded-of}
 use Rattle.cross_moves.specs.CrossDepot.{Carried, crossRan}
 use Rattle.cross_choices.specs.Scan.{Asked, Held}

@@ -6,7 +6,7 @@ use lib.Ieee.{Float}
 use Rattle.day.specs.Day.{Day}
 use Rattle.fleet.specs.Fleet.{Fleet}
 use Rattle.lists.specs.Table.{lists, flat}
-use Rattle.evaluation.specs.Columns.{columnsOf}
+use Rattle.labels.specs.Columns.{columnsOf}
 use Rattle.cross_moves.specs.CrossDepot.{Ran, crossRan}
 use Rattle.refusals.specs.Refusal.{refusalOfFleet}
 use Rattle.refusals.specs.Answered.{unlessRefused}

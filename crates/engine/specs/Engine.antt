@@ -4,7 +4,7 @@ use mathlib.Core.List.{List}
 use mathlib.Core.Bool.{Bool, not, _||_}
 use lib.Ieee.{Float}
 use Rattle.day.specs.declared.vehicle.RouteLimits.{RouteLimits}
-use Rattle.evaluation.specs.Columns.{Columns}
+use Rattle.labels.specs.Columns.{Columns}
 use Rattle.evaluation.specs.Route.{feasible, checksNeeded}
 use Rattle.descent.specs.Permitted.{Measure, Checks}
 use Rattle.descent.specs.Search.{Word, settled, stopped}

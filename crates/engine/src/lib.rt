@@ -3,7 +3,7 @@ use day::vehicle::RouteLimits;
 use evaluation::route::route_feasible;
 ghost use mathlib.Core.Path.{_≡_};
 ghost use Prim.Native.Nat.{_<_};
-ghost use Rattle.evaluation.specs.Columns.{columnsAt, Formed, Visits};
+ghost use Rattle.labels.specs.Columns.{columnsAt, Formed, Visits};
 ghost use Rattle.engine.specs.Engine.{passing};
 
 // How a run ended, with the moves made.

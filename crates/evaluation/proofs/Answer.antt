@@ -5,10 +5,10 @@ use mathlib.Core.List.{List}
 use mathlib.Core.Bool.{Bool, true, false, cond}
 use Rattle.day.specs.Vehicle.{allows}
 use Rattle.day.specs.declared.vehicle.RouteLimits.{RouteLimits}
-use Rattle.evaluation.specs.Columns.{Columns}
+use Rattle.labels.specs.Columns.{Columns}
 use Rattle.evaluation.specs.Route.{allowed, evaluated, outcome, feasible, eval}
-use Rattle.evaluation.specs.declared.schedule.Outcome.{Outcome}
-use Rattle.evaluation.specs.declared.schedule.Outcome.the-variants.{Impossible, Possible}
+use Rattle.break_clock.specs.declared.Outcome.{Outcome}
+use Rattle.break_clock.specs.declared.Outcome.the-variants.{Impossible, Possible}
 use Rattle.evaluation.specs.declared.route.RouteEval.{RouteEval}
 use Rattle.evaluation.specs.declared.route.Evaluation.{Evaluation}
 use Rattle.evaluation.specs.declared.route.Evaluation.the-variants.{Fails, Passes}

@@ -15,17 +15,17 @@ use Rattle.day.specs.declared.vehicle.VehicleBreak.{VehicleBreak}
 use Rattle.day.specs.declared.vehicle.Limit.the-variants.{Unlimited}
 use Rattle.day.specs.declared.vehicle.Rest.the-variants.{NoBreak}
 use Rattle.day.specs.declared.vehicle.RouteLimits.{RouteLimits}
-use Rattle.evaluation.specs.Columns.{Columns, columns, stopOf}
-use Rattle.evaluation.specs.Label.{atStart, inTime, tooLate, servedIn, resting, served, servedRested, servedFrom, servedRestedFrom, isEarlier, earlierOf}
-use Rattle.evaluation.specs.Schedule.{ended, endOf, begun, pushed, endBefore, finished, homeBreak, scheduled}
+use Rattle.labels.specs.Columns.{Columns, columns, stopOf}
+use Rattle.labels.specs.Label.{atStart, inTime, tooLate, servedIn, resting, served, servedRested, servedFrom, servedRestedFrom, isEarlier, earlierOf}
+use Rattle.break_clock.specs.Schedule.{ended, endOf, begun, pushed, endBefore, finished, homeBreak, scheduled}
 use Rattle.evaluation.specs.Route.{endUntaken, home, unbroken, outcome, allowed, feasible}
-use Rattle.evaluation.specs.declared.stop.Stop.{Stop}
-use Rattle.evaluation.specs.declared.label.Taken.{Taken}
-use Rattle.evaluation.specs.declared.label.Taken.the-variants.{Untaken, At}
-use Rattle.evaluation.specs.declared.label.Reached.{Reached}
-use Rattle.evaluation.specs.declared.label.Reached.the-variants.{Served}
-use Rattle.evaluation.specs.declared.schedule.Outcome.{Outcome}
-use Rattle.evaluation.specs.declared.schedule.Outcome.the-variants.{Possible}
+use Rattle.labels.specs.declared.stop.Stop.{Stop}
+use Rattle.labels.specs.declared.label.Taken.{Taken}
+use Rattle.labels.specs.declared.label.Taken.the-variants.{Untaken, At}
+use Rattle.labels.specs.declared.label.Reached.{Reached}
+use Rattle.labels.specs.declared.label.Reached.the-variants.{Served}
+use Rattle.break_clock.specs.declared.Outcome.{Outcome}
+use Rattle.break_clock.specs.declared.Outcome.the-variants.{Possible}
 
 -- a whole number
 abbrev pub whole : ℕ → Float

@@ -4,15 +4,15 @@ use mathlib.Core.Path.{_≡_, sym, ap, _∙_}
 use mathlib.Core.List.{List, _++_}
 use Rattle.numbers.specs.Operations.{zero64}
 use Rattle.day.specs.declared.vehicle.VehicleBreak.{VehicleBreak}
-use Rattle.evaluation.specs.Columns.{Columns}
-use Rattle.evaluation.specs.Walk.{Tour, tourOf, walk, walk-on, walk-keeps}
-use Rattle.evaluation.specs.Label.{atStart}
-use Rattle.evaluation.specs.Schedule.{begun, tickBreak, homeBreak, scheduled, Lost, stays-lost, home-lost}
+use Rattle.labels.specs.Columns.{Columns}
+use Rattle.labels.specs.Walk.{Tour, tourOf, walk, walk-on, walk-keeps}
+use Rattle.labels.specs.Label.{atStart}
+use Rattle.break_clock.specs.Schedule.{begun, tickBreak, homeBreak, scheduled, Lost, stays-lost, home-lost}
 use Rattle.evaluation.specs.Route.{tick, home, unbroken, stays-missed, home-missed}
-use Rattle.evaluation.specs.declared.label.Reached.{Reached}
-use Rattle.evaluation.specs.declared.label.Reached.the-variants.{Missed, Served}
-use Rattle.evaluation.specs.declared.schedule.BreakClock.{BreakClock}
-use Rattle.evaluation.specs.declared.schedule.Outcome.the-variants.{Impossible}
+use Rattle.labels.specs.declared.label.Reached.{Reached}
+use Rattle.labels.specs.declared.label.Reached.the-variants.{Missed, Served}
+use Rattle.break_clock.specs.declared.BreakClock.{BreakClock}
+use Rattle.break_clock.specs.declared.Outcome.the-variants.{Impossible}
 
 module _ (c : Columns) (depot : ℕ) where
   -- where a list without a break ends

@@ -15,13 +15,13 @@ use Rattle.day.specs.declared.vehicle.Rest.{Rest}
 use Rattle.day.specs.declared.vehicle.Rest.the-variants.{NoBreak, Break}
 use Rattle.day.specs.declared.vehicle.VehicleBreak.{VehicleBreak}
 use Rattle.day.specs.declared.vehicle.RouteLimits.{RouteLimits}
-use Rattle.evaluation.specs.Columns.{Columns, stopOf, stopAt, legIn, travelIn}
-use Rattle.evaluation.specs.Walk.{Tour, tourOf, onward, walk}
-use Rattle.evaluation.specs.Label.{atStart}
-use Rattle.evaluation.specs.Schedule.{begun, pushed, tickBreak, homeBreak, scheduled}
+use Rattle.labels.specs.Columns.{Columns, stopOf, stopAt, legIn, travelIn}
+use Rattle.labels.specs.Walk.{Tour, tourOf, onward, walk}
+use Rattle.labels.specs.Label.{atStart}
+use Rattle.break_clock.specs.Schedule.{begun, pushed, tickBreak, homeBreak, scheduled}
 use Rattle.evaluation.specs.Route.{tick, home, unbroken, outcome, allowed, evaluated, feasible, eval, costOf, effectiveCost}
-use Rattle.evaluation.specs.declared.label.Reached.the-variants.{Served}
-use Rattle.evaluation.specs.declared.schedule.Outcome.{Outcome}
+use Rattle.labels.specs.declared.label.Reached.the-variants.{Served}
+use Rattle.break_clock.specs.declared.Outcome.{Outcome}
 
 -- ---- a stop
 

@@ -11,17 +11,17 @@ use Rattle.day.specs.Vehicle.{allows, isUnlimited}
 use Rattle.day.specs.declared.vehicle.Rest.{Rest}
 use Rattle.day.specs.declared.vehicle.Rest.the-variants.{NoBreak, Break}
 use Rattle.day.specs.declared.vehicle.RouteLimits.{RouteLimits}
-use Rattle.evaluation.specs.Columns.{Columns, stopAt, legIn, travelIn}
-use Rattle.evaluation.specs.Walk.{Tour, tourOf, walk, walk-turn, walk-end, walk-lost}
-use Rattle.evaluation.specs.Label.{atStart, served, servedFrom}
-use Rattle.evaluation.specs.Schedule.{ended, scheduled}
-use Rattle.evaluation.specs.declared.stop.Stop.{Stop}
-use Rattle.evaluation.specs.declared.label.Taken.the-variants.{Untaken}
-use Rattle.evaluation.specs.declared.label.Label.{Label}
-use Rattle.evaluation.specs.declared.label.Reached.{Reached}
-use Rattle.evaluation.specs.declared.label.Reached.the-variants.{Missed, Served}
-use Rattle.evaluation.specs.declared.schedule.Outcome.{Outcome}
-use Rattle.evaluation.specs.declared.schedule.Outcome.the-variants.{Impossible, Possible}
+use Rattle.labels.specs.Columns.{Columns, stopAt, legIn, travelIn}
+use Rattle.labels.specs.Walk.{Tour, tourOf, walk, walk-turn, walk-end, walk-lost}
+use Rattle.labels.specs.Label.{atStart, served, servedFrom}
+use Rattle.break_clock.specs.Schedule.{ended, scheduled}
+use Rattle.labels.specs.declared.stop.Stop.{Stop}
+use Rattle.labels.specs.declared.label.Taken.the-variants.{Untaken}
+use Rattle.labels.specs.declared.label.Label.{Label}
+use Rattle.labels.specs.declared.label.Reached.{Reached}
+use Rattle.labels.specs.declared.label.Reached.the-variants.{Missed, Served}
+use Rattle.break_clock.specs.declared.Outcome.{Outcome}
+use Rattle.break_clock.specs.declared.Outcome.the-variants.{Impossible, Possible}
 use Rattle.evaluation.specs.declared.route.RouteEval.{RouteEval}
 use Rattle.evaluation.specs.declared.route.Evaluation.{Evaluation}
 use Rattle.evaluation.specs.declared.route.Evaluation.the-variants.{Fails, Passes}

@@ -20,14 +20,14 @@ use Rattle.day.specs.declared.vehicle.Limit.the-variants.{Unlimited, AtMost}
 use Rattle.day.specs.declared.vehicle.Rest.{Rest}
 use Rattle.day.specs.declared.vehicle.Rest.the-variants.{NoBreak, Break}
 use Rattle.day.specs.declared.vehicle.RouteLimits.{RouteLimits}
-use Rattle.evaluation.specs.Columns.{Columns, stopOf, legIn, travelIn}
-use Rattle.evaluation.specs.Walk.{tourOf, walk}
-use Rattle.evaluation.specs.Label.{atStart, inTime, servedIn, served, servedFrom}
-use Rattle.evaluation.specs.Schedule.{ended}
+use Rattle.labels.specs.Columns.{Columns, stopOf, legIn, travelIn}
+use Rattle.labels.specs.Walk.{tourOf, walk}
+use Rattle.labels.specs.Label.{atStart, inTime, servedIn, served, servedFrom}
+use Rattle.break_clock.specs.Schedule.{ended}
 use Rattle.evaluation.specs.Route.{tick, endUntaken, home, unbroken, outcome, allowed, feasible}
-use Rattle.evaluation.specs.declared.label.Label.{Label}
-use Rattle.evaluation.specs.declared.label.Reached.{Reached}
-use Rattle.evaluation.specs.declared.label.Reached.the-variants.{Served}
+use Rattle.labels.specs.declared.label.Label.{Label}
+use Rattle.labels.specs.declared.label.Reached.{Reached}
+use Rattle.labels.specs.declared.label.Reached.the-variants.{Served}
 use Rattle.evaluation.specs.declared.unclocked.Unclocked.{Unclocked}
 use Rattle.evaluation.specs.declared.unclocked.Unclocked.the-variants.{Windowed, Free}
 

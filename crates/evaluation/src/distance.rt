@@ -3,7 +3,7 @@ use day::matrix::get;
 ghost use mathlib.Core.Path.{_≡_};
 ghost use Prim.Native.Nat.{_<_};
 ghost use Rattle.day.specs.Matrix.{Square};
-ghost use Rattle.evaluation.specs.Columns.{Visits};
+ghost use Rattle.labels.specs.Columns.{Visits};
 ghost use Rattle.evaluation.specs.Distance.{routeDistance};
 
 // The distance of a list, depot to depot; 0 where it is empty.

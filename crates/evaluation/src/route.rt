@@ -1,12 +1,12 @@
 // evaluation/mod.rs: whether a list passes, what it costs, and whether a search has to ask.
-use crate::label::Reached;
-use crate::label::Taken;
-use crate::label::at_start;
-use crate::label::serve;
-use crate::schedule::Outcome;
-use crate::schedule::end_with;
-use crate::schedule::schedule;
-use crate::stop::stop_of;
+use labels::label::Reached;
+use labels::label::Taken;
+use labels::label::at_start;
+use labels::label::serve;
+use break_clock::Outcome;
+use break_clock::end_with;
+use break_clock::schedule;
+use labels::stop::stop_of;
 use crate::unclocked::Unclocked;
 use crate::unclocked::is_clockless;
 use crate::unclocked::unclocked_distance;
@@ -19,7 +19,7 @@ use numbers::infinite;
 use tests::either;
 ghost use mathlib.Core.Path.{_≡_};
 ghost use Prim.Native.Nat.{_<_};
-ghost use Rattle.evaluation.specs.Columns.{columnsAt, Formed, Visits};
+ghost use Rattle.labels.specs.Columns.{columnsAt, Formed, Visits};
 ghost use Rattle.evaluation.specs.Route.{unbroken, outcome, allowed, evaluated, feasible, eval, pricedDistance, costOf, effectiveCost, checksNeeded};
 
 // What a list that passes comes to.

@@ -7,7 +7,7 @@ ghost use mathlib.Core.Path.{_≡_};
 ghost use Prim.Native.Nat.{_<_};
 ghost use lib.ListN.{length};
 ghost use Rattle.day.specs.Matrix.{Square};
-ghost use Rattle.evaluation.specs.Columns.{Visits};
+ghost use Rattle.labels.specs.Columns.{Visits};
 ghost use Rattle.evaluation.specs.Unclocked.{unclocked, clockless};
 
 // The distance of a list, if it needs no clock.

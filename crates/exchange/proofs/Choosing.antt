@@ -11,7 +11,7 @@ use lib.Ieee.{Float, lt, neg}
 use Rattle.numbers.specs.Floor.{gainFloor}
 use Rattle.numbers.proofs.Total.{lt-trans}
 use Rattle.day.specs.Matrix.{scaleOf}
-use Rattle.evaluation.specs.Columns.{Columns}
+use Rattle.labels.specs.Columns.{Columns}
 use Rattle.descent.specs.Order.{from-on, range, each}
 use Rattle.descent.specs.Search.{least, firstLeast, ok, taken}
 use Rattle.descent.specs.Across.{at, Pair, Tails}

@@ -10,7 +10,7 @@ use lib.IntN.{ℤ}
 use lib.ListN.{length}
 use lib.Ieee.{Float}
 use Rattle.numbers.specs.Operations.{zero64}
-use Rattle.evaluation.specs.Columns.{Columns}
+use Rattle.labels.specs.Columns.{Columns}
 use Rattle.list_changes.specs.Edits.{tailsExchanged, Cuts}
 use Rattle.descent.specs.Order.{range, each}
 use Rattle.descent.specs.Permitted.{tail-exchange}

@@ -24,7 +24,7 @@ ghost use lib.ListN.{length};
 ghost use Rattle.numbers.specs.Operations.{zero64};
 ghost use Rattle.lists.specs.Table.{lists};
 ghost use Rattle.list_changes.specs.Edits.{Edited};
-ghost use Rattle.evaluation.specs.Columns.{columnsAt, Formed};
+ghost use Rattle.labels.specs.Columns.{columnsAt, Formed};
 ghost use Rattle.descent.specs.Permitted.{tail-exchange};
 ghost use Rattle.descent.specs.Search.{run};
 ghost use Rattle.descent.specs.Engines.{run-of};

@@ -16,17 +16,17 @@ use Rattle.day.specs.declared.vehicle.Rest.{Rest}
 use Rattle.day.specs.declared.vehicle.Rest.the-variants.{NoBreak, Break}
 use Rattle.day.specs.declared.vehicle.VehicleBreak.{VehicleBreak}
 use Rattle.day.specs.declared.vehicle.RouteLimits.{RouteLimits}
-use Rattle.evaluation.specs.Columns.{Columns, legIn}
-use Rattle.evaluation.specs.Walk.{Tour, tourOf, onward, walk, walk-on}
-use Rattle.evaluation.specs.Label.{atStart}
-use Rattle.evaluation.specs.Schedule.{ended}
+use Rattle.labels.specs.Columns.{Columns, legIn}
+use Rattle.labels.specs.Walk.{Tour, tourOf, onward, walk, walk-on}
+use Rattle.labels.specs.Label.{atStart}
+use Rattle.break_clock.specs.Schedule.{ended}
 use Rattle.evaluation.specs.Route.{tick, home, unbroken, outcome, evaluated, eval, pricedDistance, costOf, effectiveCost}
-use Rattle.evaluation.specs.declared.label.Label.{Label}
-use Rattle.evaluation.specs.declared.label.Taken.the-variants.{Untaken}
-use Rattle.evaluation.specs.declared.label.Reached.{Reached}
-use Rattle.evaluation.specs.declared.label.Reached.the-variants.{Served}
+use Rattle.labels.specs.declared.label.Label.{Label}
+use Rattle.labels.specs.declared.label.Taken.the-variants.{Untaken}
+use Rattle.labels.specs.declared.label.Reached.{Reached}
+use Rattle.labels.specs.declared.label.Reached.the-variants.{Served}
 use Rattle.evaluation.specs.declared.route.Evaluation.the-variants.{Fails, Passes}
-use Rattle.evaluation.specs.declared.schedule.Outcome.the-variants.{Impossible}
+use Rattle.break_clock.specs.declared.Outcome.the-variants.{Impossible}
 use Rattle.heads.specs.Head.{atDepot, tourAt, shared, nearest, Driven, Drove, endedCost, costFrom, priceBy, priceFrom}
 use Rattle.heads.specs.declared.Head.{Head}
 

@@ -16,13 +16,13 @@ use Rattle.numbers.specs.Operations.{_⊕_, zero64}
 use Rattle.day.specs.Customer.{isViolated, waitingTime, latenessAt}
 use Rattle.day.specs.declared.customer.Window.{Window}
 use Rattle.day.specs.declared.customer.Window.the-variants.{Open, Hard, Soft}
-use Rattle.evaluation.specs.Columns.{Columns, travelIn, stopAt}
-use Rattle.evaluation.specs.Walk.{Tour, tourOf, onward, walk, walk-on, walk-keeps}
-use Rattle.evaluation.specs.Label.{atStart, inTime, tooLate, servedIn, served, servedFrom}
+use Rattle.labels.specs.Columns.{Columns, travelIn, stopAt}
+use Rattle.labels.specs.Walk.{Tour, tourOf, onward, walk, walk-on, walk-keeps}
+use Rattle.labels.specs.Label.{atStart, inTime, tooLate, servedIn, served, servedFrom}
 use Rattle.evaluation.specs.Route.{tick}
-use Rattle.evaluation.specs.declared.label.Label.{Label}
-use Rattle.evaluation.specs.declared.label.Reached.{Reached}
-use Rattle.evaluation.specs.declared.label.Reached.the-variants.{Missed, Served}
+use Rattle.labels.specs.declared.label.Label.{Label}
+use Rattle.labels.specs.declared.label.Reached.{Reached}
+use Rattle.labels.specs.declared.label.Reached.the-variants.{Missed, Served}
 use Rattle.heads.specs.Head.{atDepot, tourAt, Drove}
 use Rattle.heads.specs.Kept.{placeBefore, headAt, stored, walked, Kept}
 use Rattle.heads.specs.declared.Head.{Head}

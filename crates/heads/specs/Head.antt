@@ -13,13 +13,13 @@ use Rattle.day.specs.declared.vehicle.Rest.{Rest}
 use Rattle.day.specs.declared.vehicle.Rest.the-variants.{NoBreak, Break}
 use Rattle.day.specs.declared.vehicle.VehicleBreak.{VehicleBreak}
 use Rattle.day.specs.declared.vehicle.RouteLimits.{RouteLimits}
-use Rattle.evaluation.specs.Columns.{Columns}
-use Rattle.evaluation.specs.Walk.{Tour, tourOf, walk}
-use Rattle.evaluation.specs.Label.{atStart}
+use Rattle.labels.specs.Columns.{Columns}
+use Rattle.labels.specs.Walk.{Tour, tourOf, walk}
+use Rattle.labels.specs.Label.{atStart}
 use Rattle.evaluation.specs.Route.{tick, home, evaluated, costOf, effectiveCost}
-use Rattle.evaluation.specs.declared.label.Label.{Label}
-use Rattle.evaluation.specs.declared.label.Reached.{Reached}
-use Rattle.evaluation.specs.declared.label.Reached.the-variants.{Missed, Served}
+use Rattle.labels.specs.declared.label.Label.{Label}
+use Rattle.labels.specs.declared.label.Reached.{Reached}
+use Rattle.labels.specs.declared.label.Reached.the-variants.{Missed, Served}
 use Rattle.heads.specs.declared.Head.{Head}
 
 -- the head of no visits: the van at the depot at time 0

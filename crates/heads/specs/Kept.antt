@@ -6,13 +6,13 @@ use mathlib.Core.List.{List, _∷_}
 use lib.ListN.{length, getD, set, take}
 use lib.Ieee.{Float, nan}
 use Rattle.numbers.specs.Operations.{zero64}
-use Rattle.evaluation.specs.Columns.{Columns}
-use Rattle.evaluation.specs.Walk.{Tour, tourOf, walk}
-use Rattle.evaluation.specs.Label.{atStart}
+use Rattle.labels.specs.Columns.{Columns}
+use Rattle.labels.specs.Walk.{Tour, tourOf, walk}
+use Rattle.labels.specs.Label.{atStart}
 use Rattle.evaluation.specs.Route.{tick}
-use Rattle.evaluation.specs.declared.label.Label.{Label}
-use Rattle.evaluation.specs.declared.label.Reached.{Reached}
-use Rattle.evaluation.specs.declared.label.Reached.the-variants.{Missed, Served}
+use Rattle.labels.specs.declared.label.Label.{Label}
+use Rattle.labels.specs.declared.label.Reached.{Reached}
+use Rattle.labels.specs.declared.label.Reached.the-variants.{Missed, Served}
 use Rattle.heads.specs.declared.Head.{Head}
 use Rattle.heads.specs.Head.{tourAt}
 

@@ -10,7 +10,7 @@ use Rattle.day.specs.Day.{Day}
 use Rattle.day.specs.Vehicle.{limitsOf}
 use Rattle.day.specs.declared.vehicle.Van.{Van}
 use Rattle.lists.specs.Table.{listOf}
-use Rattle.evaluation.specs.Columns.{Visits, columnsOf}
+use Rattle.labels.specs.Columns.{Visits, columnsOf}
 use Rattle.descent.specs.Permitted.{two-opt, or-opt, three-opt, n-minus-length}
 use Rattle.descent.specs.Search.{Word, settled, stopped}
 use Rattle.descent.specs.Engines.{run-of}

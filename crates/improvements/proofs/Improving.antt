@@ -17,7 +17,7 @@ use Rattle.edits.specs.Total.{total, SameVisits, total-append}
 use Rattle.edits.proofs.Kept.{same-length}
 use Rattle.lists.specs.Table.{startOf, listOf, withList, lists}
 use Rattle.lists.proofs.Tables.{at-lists, length-list, length-lists, lists-put, part-is, put-is}
-use Rattle.evaluation.specs.Columns.{Formed, Visits, columnsOf, formed}
+use Rattle.labels.specs.Columns.{Formed, Visits, columnsOf, formed}
 use Rattle.descent.specs.Search.{Word, settled, stopped}
 use Rattle.engine.specs.Engine.{endedAs}
 use Rattle.neighbours.specs.declared.Neighbourhood.{Neighbourhood}

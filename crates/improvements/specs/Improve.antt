@@ -7,7 +7,7 @@ use Rattle.day.specs.Day.{Day}
 use Rattle.day.specs.Vehicle.{limitsOf}
 use Rattle.day.specs.declared.vehicle.Van.{Van}
 use Rattle.lists.specs.Table.{listOf, withList}
-use Rattle.evaluation.specs.Columns.{columnsOf}
+use Rattle.labels.specs.Columns.{columnsOf}
 use Rattle.evaluation.specs.Distance.{routeDistance}
 use Rattle.descent.specs.Search.{Word, settled, stopped}
 use Rattle.engine.specs.declared.Ended.{Ended}

@@ -16,7 +16,7 @@ ghost use Rattle.day.specs.Refusal.{allPlain};
 ghost use Rattle.day.specs.Vehicle.{limitsOf};
 ghost use Rattle.edits.specs.Total.{SameVisits};
 ghost use Rattle.lists.specs.Table.{listOf};
-ghost use Rattle.evaluation.specs.Columns.{columnsAt, Formed, Visits};
+ghost use Rattle.labels.specs.Columns.{columnsAt, Formed, Visits};
 ghost use Rattle.evaluation.specs.Distance.{routeDistance};
 ghost use Rattle.descent.specs.Permitted.{two-opt, or-opt, three-opt, n-minus-length};
 ghost use Rattle.neighbours.specs.declared.Neighbourhood.the-variants.{Reverse, Relocate, Reconnect};

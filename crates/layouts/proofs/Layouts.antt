@@ -15,7 +15,7 @@ use Rattle.edits.specs.Edits.{reversed, Appended}
 use Rattle.edits.proofs.Cuts.{cut4, to-end}
 use Rattle.edits.proofs.Kept.{same-length, same-each}
 use Rattle.edits.proofs.Chain.{appended-on, appended-whole, getD-reverse}
-use Rattle.evaluation.specs.Columns.{Visits}
+use Rattle.labels.specs.Columns.{Visits}
 use Rattle.descent.specs.Permitted.{Arrangement, turn, in-order, arranged}
 use Rattle.descent.specs.Within.{reconnect}
 use Rattle.descent.proofs.Kept.{total-arranged}

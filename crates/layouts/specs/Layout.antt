@@ -5,8 +5,8 @@ use mathlib.Core.List.{List, _∷_, _++_}
 use lib.ListN.{take, drop, getD}
 use lib.Seq.{slice}
 use Rattle.day.specs.declared.vehicle.RouteLimits.{RouteLimits}
-use Rattle.evaluation.specs.Columns.{Columns}
-use Rattle.evaluation.specs.Walk.{walk}
+use Rattle.labels.specs.Columns.{Columns}
+use Rattle.labels.specs.Walk.{walk}
 use Rattle.evaluation.specs.Route.{tick, home, allowed}
 use Rattle.heads.specs.Head.{tourAt}
 use Rattle.heads.specs.declared.Head.{Head}

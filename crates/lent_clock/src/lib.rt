@@ -1,10 +1,10 @@
 // `push` over a clock that is lent and advanced, as evaluation/schedule.rs has it (`BreakClock::push(&mut self, ..) -> bool`).
 // It calls the `push` that takes the clock by value; evaluation's own walks use that one.
-use evaluation::schedule::BreakClock;
+use break_clock::BreakClock;
 ghost use mathlib.Core.Path.{_≡_};
 ghost use Prim.Native.Nat.{_<_};
-ghost use Rattle.evaluation.specs.Columns.{columnsAt, Formed};
-ghost use Rattle.evaluation.specs.Schedule.{pushed, anyLeft};
+ghost use Rattle.labels.specs.Columns.{columnsAt, Formed};
+ghost use Rattle.break_clock.specs.Schedule.{pushed, anyLeft};
 
 // Drives on to a visit. The clock lent is then the clock at that visit; the answer says whether a label is left. Where none is, no longer list can be served.
 pub fn push(

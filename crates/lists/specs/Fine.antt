@@ -9,7 +9,7 @@ use Rattle.lists.specs.Table.{Laid}
 abbrev pub Apart : List ℕ → Type 0
 Apart visits = (i j : ℕ) → i < j → j < length visits → getD visits i 0 ≢ getD visits j 0
 
--- what lists that aren't refused tell, of an entry that asks for no list (list_refusals' proofs/Fine.antt has the laws)
+-- what lists that aren't refused tell, of an entry that asks for no list (the laws are list_refusals')
 pub record TableFine (depots l : ℕ) (visits lengths : List ℕ) : Type 0 where
   -- at most 16 lists, whose lengths add up to the table
   pub laid : Laid visits lengths

@@ -14,7 +14,7 @@ use Rattle.lists.specs.Table.{listOf}
 use Rattle.list_changes.specs.Edits.{Edited}
 use Rattle.lists.specs.Fine.{TableFine}
 use Rattle.lists.proofs.Tables.{length-list, list-at, start-later, start-within}
-use Rattle.evaluation.specs.Columns.{Visits}
+use Rattle.labels.specs.Columns.{Visits}
 use Rattle.loads.specs.Loads.{Held}
 
 module _ (l : ℕ) (visits lengths : List ℕ) (held : Held l visits lengths) where

@@ -8,7 +8,7 @@ ghost use lib.Signed.{leZ};
 ghost use lib.ListN.{length, getD};
 ghost use Rattle.day.specs.Refusal.{demandOk};
 ghost use Rattle.edits.specs.Total.{total};
-ghost use Rattle.evaluation.specs.Columns.{Visits};
+ghost use Rattle.labels.specs.Columns.{Visits};
 ghost use Rattle.loads.specs.Loads.{boxesOf, Loaded};
 
 // A number of boxes, which is not below 0.

@@ -16,7 +16,7 @@ use Rattle.edits.specs.Edits.{reversed}
 use Rattle.edits.proofs.Cuts.{cut4, to-end}
 use Rattle.edits.proofs.Kept.{same-length, same-each}
 use Rattle.edits.proofs.Chain.{appended-on, appended-whole}
-use Rattle.evaluation.specs.Columns.{Visits}
+use Rattle.labels.specs.Columns.{Visits}
 use Rattle.descent.specs.Permitted.{Arrangement, turn, arranged}
 use Rattle.descent.specs.Within.{put-before}
 use Rattle.descent.proofs.Kept.{total-arranged}

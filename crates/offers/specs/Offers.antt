@@ -13,7 +13,7 @@ use lib.Ieee.{Float, neg}
 use Rattle.numbers.specs.Floor.{gainFloor}
 use Rattle.day.specs.Matrix.{leg, scaleOf}
 use Rattle.lists.specs.Table.{lists}
-use Rattle.evaluation.specs.Columns.{Columns}
+use Rattle.labels.specs.Columns.{Columns}
 use Rattle.descent.specs.Order.{range}
 use Rattle.descent.specs.Permitted.{relocate}
 use Rattle.descent.specs.Search.{Search, Judge}

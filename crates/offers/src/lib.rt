@@ -21,7 +21,7 @@ ghost use mathlib.Core.Path.{_≡_};
 ghost use Prim.Native.Nat.{_<_, _≤_};
 ghost use lib.ListN.{length, getD, set};
 ghost use Rattle.lists.specs.Table.{lists};
-ghost use Rattle.evaluation.specs.Columns.{columnsAt, Visits};
+ghost use Rattle.labels.specs.Columns.{columnsAt, Visits};
 ghost use Rattle.loads.specs.Loads.{Loaded, Held};
 ghost use Rattle.pairs.specs.Pairs.{IsBest};
 ghost use Rattle.insertions.specs.Cache.{cell, knownAt};

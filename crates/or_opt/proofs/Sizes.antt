@@ -8,7 +8,7 @@ use native.Mathlib.Numerals.{add-one}
 use native.Mathlib.Omega.{arith}
 use lib.ListN.{length}
 use lib.Ieee.{lt}
-use Rattle.evaluation.specs.Columns.{Columns}
+use Rattle.labels.specs.Columns.{Columns}
 use Rattle.edits.specs.Edits.{putBefore}
 use Rattle.descent.specs.Order.{range}
 use Rattle.descent.specs.Search.{Sweep, ok, taken, firstMove, next}

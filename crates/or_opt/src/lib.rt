@@ -16,7 +16,7 @@ ghost use mathlib.Core.List.{[]};
 ghost use Prim.Native.Nat.{_<_};
 ghost use lib.ListN.{length};
 ghost use Rattle.numbers.specs.Operations.{zero64};
-ghost use Rattle.evaluation.specs.Columns.{columnsAt, Formed, Visits};
+ghost use Rattle.labels.specs.Columns.{columnsAt, Formed, Visits};
 ghost use Rattle.descent.specs.Order.{range};
 ghost use Rattle.descent.specs.Permitted.{or-opt, n-minus-length};
 ghost use Rattle.descent.specs.Search.{firstMove, next};

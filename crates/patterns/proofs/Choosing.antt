@@ -12,7 +12,7 @@ use Rattle.numbers.specs.Floor.{gainFloor}
 use Rattle.numbers.proofs.Total.{lt-trans}
 use Rattle.day.specs.Matrix.{scaleOf}
 use Rattle.day.specs.declared.vehicle.RouteLimits.{RouteLimits}
-use Rattle.evaluation.specs.Columns.{Columns}
+use Rattle.labels.specs.Columns.{Columns}
 use Rattle.descent.specs.Order.{range}
 use Rattle.descent.specs.Search.{least, firstLeast, ok, taken}
 use Rattle.descent.specs.Within.{Reconnection}

@@ -6,7 +6,7 @@ use Prim.Native.Nat.{ℕ, _+_, _<_}
 use native.Mathlib.Omega.{arith}
 use lib.Ieee.{Float, lt, neg}
 use Rattle.day.specs.Matrix.{leg}
-use Rattle.evaluation.specs.Columns.{Columns}
+use Rattle.labels.specs.Columns.{Columns}
 use Rattle.descent.specs.Permitted.{Arrangement}
 use Rattle.descent.specs.Search.{taken}
 use Rattle.deltas.specs.Changes.{patternChange}

@@ -6,7 +6,7 @@ use mathlib.Core.List.{List}
 use Prim.Native.Nat.{ℕ, _+_}
 use lib.Ieee.{Float, lt}
 use Rattle.day.specs.Matrix.{leg}
-use Rattle.evaluation.specs.Columns.{Columns, Visits}
+use Rattle.labels.specs.Columns.{Columns, Visits}
 use Rattle.descent.specs.Permitted.{Arrangement}
 use Rattle.descent.specs.Within.{reconnect}
 use Rattle.deltas.specs.Changes.{Placed, patternChange}

@@ -9,7 +9,7 @@ use Rattle.numbers.specs.Operations.{zero64}
 use Rattle.numbers.specs.Floor.{gainFloor}
 use Rattle.day.specs.Matrix.{scaleOf}
 use Rattle.day.specs.declared.vehicle.RouteLimits.{RouteLimits}
-use Rattle.evaluation.specs.Columns.{Columns, Formed}
+use Rattle.labels.specs.Columns.{Columns, Formed}
 use Rattle.evaluation.specs.Route.{checksNeeded}
 use Rattle.descent.specs.Permitted.{three-opt}
 use Rattle.descent.specs.Search.{Search, Judge}

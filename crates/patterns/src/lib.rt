@@ -16,7 +16,7 @@ ghost use mathlib.Core.Path.{_≡_};
 ghost use Prim.Native.Nat.{_<_, _≤_};
 ghost use lib.ListN.{length};
 ghost use Rattle.day.specs.Matrix.{leg, Square};
-ghost use Rattle.evaluation.specs.Columns.{columnsAt, Visits};
+ghost use Rattle.labels.specs.Columns.{columnsAt, Visits};
 ghost use Rattle.descent.specs.Search.{taken};
 ghost use Rattle.descent.specs.Within.{reconnect};
 ghost use Rattle.deltas.specs.Changes.{Placed};

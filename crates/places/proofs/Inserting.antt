@@ -14,7 +14,7 @@ use Rattle.numbers.specs.Operations.{_⊕_}
 use Rattle.day.specs.Matrix.{leg}
 use Rattle.edits.specs.Total.{total, bit, total-append, total-none, total-one, part-le}
 use Rattle.edits.proofs.Cuts.{to-end, lent}
-use Rattle.evaluation.specs.Columns.{Columns, Visits}
+use Rattle.labels.specs.Columns.{Columns, Visits}
 use Rattle.descent.specs.Order.{range}
 use Rattle.descent.proofs.Loops.{range-step, range-done}
 use Rattle.deltas.specs.Deltas.{insertionDelta}

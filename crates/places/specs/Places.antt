@@ -9,7 +9,7 @@ use lib.Ieee.Scale.{finite}
 use Rattle.numbers.specs.Operations.{_⊕_}
 use Rattle.numbers.specs.Floor.{gainFloor}
 use Rattle.day.specs.Matrix.{leg, scaleOf}
-use Rattle.evaluation.specs.Columns.{Columns, Formed}
+use Rattle.labels.specs.Columns.{Columns, Formed}
 use Rattle.evaluation.specs.Route.{checksNeeded}
 use Rattle.deltas.specs.Deltas.{insertionDelta}
 use Rattle.engine.specs.Engine.{passing}

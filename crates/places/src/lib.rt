@@ -15,7 +15,7 @@ ghost use mathlib.Core.Path.{_≡_};
 ghost use Prim.Native.Nat.{suc, _+_, _<_, _≤_};
 ghost use lib.ListN.{length, take};
 ghost use Rattle.day.specs.Matrix.{leg};
-ghost use Rattle.evaluation.specs.Columns.{columnsAt, Visits};
+ghost use Rattle.labels.specs.Columns.{columnsAt, Visits};
 ghost use Rattle.descent.specs.Order.{range};
 ghost use Rattle.deltas.specs.Deltas.{insertionDelta};
 ghost use Rattle.engine.specs.Engine.{passing};

@@ -16,8 +16,8 @@ use Rattle.checks.specs.declared.check.Evaluated.{Evaluated}
 use Rattle.checks.specs.declared.check.Evaluated.the-variants as evaluated
 use Rattle.checks.specs.declared.check.Timetable.{Timetable}
 use Rattle.checks.specs.declared.check.Timetable.the-variants as timetable
-use Rattle.evaluation.specs.declared.label.Taken.{Taken}
-use Rattle.evaluation.specs.declared.label.Taken.the-variants.{Untaken, At}
+use Rattle.labels.specs.declared.label.Taken.{Taken}
+use Rattle.labels.specs.declared.label.Taken.the-variants.{Untaken, At}
 
 -- ---- two_opt_improve, or_opt_improve, three_opt_improve
 

@@ -5,7 +5,7 @@ pub mod rearrange; // engines over all lists
 pub mod depots; // the engine over all lists and a fleet
 
 use day::vehicle::Van;
-use evaluation::label::Taken;
+use labels::label::Taken;
 use planner::check::Distance;
 use planner::check::Evaluated;
 use planner::check::Feasibility;

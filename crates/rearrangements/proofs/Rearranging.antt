@@ -19,7 +19,7 @@ use Rattle.lists.specs.Table.{sum, lists, flat, lengthsOf}
 use Rattle.list_changes.specs.Edits.{Edited, nonzero, packed}
 use Rattle.lists.proofs.Tables.{flat-lists, lengths-lists, lists-flat, length-lengths}
 use Rattle.list_changes.proofs.Packing.{lists-append}
-use Rattle.evaluation.specs.Columns.{Formed, columnsOf, formed}
+use Rattle.labels.specs.Columns.{Formed, columnsOf, formed}
 use Rattle.descent.specs.Permitted.{Engine, State, tail-exchange, relocate}
 use Rattle.descent.specs.Search.{Word, settled, stopped}
 use Rattle.descent.specs.Claim.{Claim, filled, dropped}

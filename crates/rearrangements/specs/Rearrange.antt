@@ -10,7 +10,7 @@ use Rattle.day.specs.Vehicle.{limitsOf, fixedCostInDistance}
 use Rattle.day.specs.declared.vehicle.Van.{Van}
 use Rattle.lists.specs.Table.{lists, flat, lengthsOf}
 use Rattle.list_changes.specs.Edits.{nonzero, packed}
-use Rattle.evaluation.specs.Columns.{columnsOf}
+use Rattle.labels.specs.Columns.{columnsOf}
 use Rattle.descent.specs.Search.{Word, settled, stopped}
 use Rattle.descent.specs.Claim.{dropped}
 use Rattle.engine.specs.declared.Ended.{Ended}

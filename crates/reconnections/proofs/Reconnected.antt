@@ -12,7 +12,7 @@ use lib.Seq.{slice}
 use Rattle.edits.specs.Total.{total, sums, SameVisits}
 use Rattle.edits.proofs.Cuts.{cut4, to-end, lent}
 use Rattle.edits.proofs.Kept.{same-each, same-length}
-use Rattle.evaluation.specs.Columns.{Visits}
+use Rattle.labels.specs.Columns.{Visits}
 use Rattle.descent.specs.Permitted.{Arrangement, arranged}
 use Rattle.descent.specs.Within.{reconnect}
 use Rattle.descent.proofs.Kept.{total-arranged}

@@ -23,7 +23,7 @@ use Rattle.lists.proofs.Tables.{length-list, list-within}
 use Rattle.list_refusals.proofs.Fine.{table-fine, lists-fine}
 use Rattle.fleet.specs.Fleet.{Fleet}
 use Rattle.fleet.specs.Refusal.{fleetRefusal, pricesRefusal, FleetFine, fleet-fine, prices-fine}
-use Rattle.evaluation.specs.Columns.{Formed, Visits, columnsOf, formed}
+use Rattle.labels.specs.Columns.{Formed, Visits, columnsOf, formed}
 
 -- 01, 'Refused, by place': 'The order is by number': the first of 1 to 10 that an input meets, and 0 where it meets none, of an entry that asks for a list
 unfoldable pub refusal : Day → Van → List ℕ → List ℕ → ℕ → ℕ

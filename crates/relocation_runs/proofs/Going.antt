@@ -9,7 +9,7 @@ use lib.IntN.{ℤ}
 use lib.ListN.{length}
 use lib.Ieee.{neg}
 use Rattle.list_changes.specs.Edits.{Edited, relocated}
-use Rattle.evaluation.specs.Columns.{Columns}
+use Rattle.labels.specs.Columns.{Columns}
 use Rattle.descent.specs.Permitted.{relocate}
 use Rattle.descent.specs.Search.{taken, next}
 use Rattle.descent.specs.Engines.{run-of}

@@ -11,7 +11,7 @@ ghost use Prim.Native.Nat.{_≤_};
 ghost use lib.ListN.{length};
 ghost use Rattle.lists.specs.Table.{lists};
 ghost use Rattle.list_changes.specs.Edits.{Edited};
-ghost use Rattle.evaluation.specs.Columns.{columnsAt};
+ghost use Rattle.labels.specs.Columns.{columnsAt};
 ghost use Rattle.descent.specs.Permitted.{relocate};
 ghost use Rattle.descent.specs.Engines.{run-of};
 ghost use Rattle.deltas.specs.Judged.{float-judge};

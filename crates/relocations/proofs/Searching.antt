@@ -7,7 +7,7 @@ use lib.IntN.{ℤ}
 use lib.ListN.{length}
 use Rattle.lists.specs.Table.{lists}
 use Rattle.list_changes.specs.Edits.{Edited, relocated}
-use Rattle.evaluation.specs.Columns.{Columns}
+use Rattle.labels.specs.Columns.{Columns}
 use Rattle.descent.specs.Across.{at}
 use Rattle.pairs.specs.Pairs.{Short, Table, Sized, Before, Renewed, Agree}
 use Rattle.pairs.proofs.Kept.{stored-sized, right-start, right-turn, right-row, right-end, renew-both, renew-end}

@@ -3,7 +3,7 @@
 use mathlib.Core.List.{List}
 use Prim.Native.Nat.{ℕ}
 use lib.IntN.{ℤ}
-use Rattle.evaluation.specs.Columns.{Columns}
+use Rattle.labels.specs.Columns.{Columns}
 use Rattle.pairs.specs.Pairs.{Table, Stored, StoredBoth, RightWhere}
 use Rattle.offers.specs.Offers.{searchOf, judgeOf, bound}
 use Rattle.places.specs.declared.Setup.{Setup}

@@ -4,7 +4,7 @@ use crate::cross;
 use crate::improve;
 use crate::rearrange;
 use day::vehicle::Van;
-use evaluation::label::Taken;
+use labels::label::Taken;
 use planner::check::Distance;
 use planner::check::Evaluated;
 use planner::check::Feasibility;

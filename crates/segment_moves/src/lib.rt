@@ -10,7 +10,7 @@ ghost use mathlib.Core.Logic.{_⊎_};
 ghost use Prim.Native.Nat.{suc, _+_, _<_, _≤_};
 ghost use lib.ListN.{length};
 ghost use Rattle.day.specs.Matrix.{leg};
-ghost use Rattle.evaluation.specs.Columns.{columnsAt};
+ghost use Rattle.labels.specs.Columns.{columnsAt};
 ghost use Rattle.descent.specs.Order.{range};
 ghost use Rattle.descent.specs.Search.{taken};
 ghost use Rattle.deltas.specs.Deltas.{removalGain};

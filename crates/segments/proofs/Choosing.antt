@@ -11,7 +11,7 @@ use lib.Ieee.{Float, neg, lt}
 use Rattle.numbers.specs.Operations.{_⊖_}
 use Rattle.numbers.specs.Floor.{counts}
 use Rattle.numbers.proofs.Total.{lt-trans}
-use Rattle.evaluation.specs.Columns.{Columns}
+use Rattle.labels.specs.Columns.{Columns}
 use Rattle.day.specs.Matrix.{leg}
 use Rattle.descent.specs.Order.{range, each}
 use Rattle.descent.specs.Search.{least, firstLeast, ok}

@@ -7,7 +7,7 @@ use borrow.Author.Tests.{ltb-true, lt-ltb}
 use lib.Dec.{ltb}
 use lib.ListN.{length, take, getD}
 use lib.Seq.{length-take-le}
-use Rattle.evaluation.specs.Columns.{Columns, Visits}
+use Rattle.labels.specs.Columns.{Columns, Visits}
 use Rattle.edits.specs.Edits.{putBefore}
 use Rattle.edits.proofs.Kept.{same-putBefore, same-each, same-length}
 use Rattle.descent.specs.Within.{Piece, put-before}

@@ -8,7 +8,7 @@ use Prim.Native.Nat.{ℕ, _+_, _≤_, _<_}
 use lib.Ieee.{Float, neg, lt}
 use Rattle.numbers.specs.Operations.{zero64}
 use Rattle.numbers.specs.Floor.{counts}
-use Rattle.evaluation.specs.Columns.{Columns, Formed, Visits}
+use Rattle.labels.specs.Columns.{Columns, Formed, Visits}
 use Rattle.evaluation.specs.Route.{checksNeeded}
 use Rattle.descent.specs.Permitted.{Engine, or-opt, n-minus-length}
 use Rattle.descent.specs.Search.{least, firstLeast, Search, Judge, ok}

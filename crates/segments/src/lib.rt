@@ -9,7 +9,7 @@ ghost use mathlib.Core.Path.{_≡_};
 ghost use mathlib.Core.List.{[], _∷_};
 ghost use lib.ListN.{length};
 ghost use Rattle.day.specs.Matrix.{leg};
-ghost use Rattle.evaluation.specs.Columns.{columnsAt};
+ghost use Rattle.labels.specs.Columns.{columnsAt};
 ghost use Rattle.evaluation.specs.Route.{feasible};
 ghost use Rattle.descent.specs.Within.{put-before};
 ghost use Rattle.deltas.specs.Deltas.{removalGain};

@@ -11,7 +11,7 @@ use lib.Ieee.{Float}
 use Rattle.day.specs.declared.vehicle.RouteLimits.{RouteLimits}
 use Rattle.edits.specs.Total.{total, SameVisits}
 use Rattle.edits.proofs.Kept.{same-on}
-use Rattle.evaluation.specs.Columns.{Columns}
+use Rattle.labels.specs.Columns.{Columns}
 use Rattle.evaluation.specs.Route.{effectiveCost}
 use Rattle.descent.specs.Order.{_∈_, here, range}
 use Rattle.descent.specs.Permitted.{Checks, Engine, State, lists, two-opt, or-opt, three-opt}

@@ -7,7 +7,7 @@ use lib.ListN.{length}
 use lib.Ieee.{Float, lt}
 use Rattle.numbers.specs.Floor.{countsSoft}
 use Rattle.day.specs.declared.vehicle.RouteLimits.{RouteLimits}
-use Rattle.evaluation.specs.Columns.{Columns}
+use Rattle.labels.specs.Columns.{Columns}
 use Rattle.evaluation.specs.Route.{effectiveCost}
 use Rattle.descent.specs.Search.{begins-again, Search, Judge, Sweep, Outcome, next, run}
 use Rattle.neighbours.specs.declared.Neighbourhood.{Neighbourhood}

@@ -26,7 +26,7 @@ ghost use Prim.Native.Nat.{_<_, _≤_};
 ghost use lib.ListN.{length};
 ghost use Rattle.numbers.specs.Floor.{gainFloor};
 ghost use Rattle.day.specs.Matrix.{scaleOf};
-ghost use Rattle.evaluation.specs.Columns.{columnsAt, Formed, Visits};
+ghost use Rattle.labels.specs.Columns.{columnsAt, Formed, Visits};
 ghost use Rattle.evaluation.specs.Route.{effectiveCost};
 ghost use Rattle.heads.specs.Head.{Driven};
 ghost use Rattle.descent.specs.Search.{taken};

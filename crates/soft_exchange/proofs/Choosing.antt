@@ -4,7 +4,7 @@ use mathlib.Core.List.{List}
 use Prim.Native.Nat.{ℕ}
 use lib.IntN.{ℤ}
 use lib.ListN.{length}
-use Rattle.evaluation.specs.Columns.{Columns}
+use Rattle.labels.specs.Columns.{Columns}
 use Rattle.lists.specs.Table.{lists, listOf}
 use Rattle.lists.proofs.Tables.{at-lists}
 use Rattle.descent.specs.Search.{ok, taken}

@@ -5,7 +5,7 @@ use Prim.Native.Nat.{ℕ}
 use lib.IntN.{ℤ}
 use lib.Ieee.{Float}
 use Rattle.day.specs.declared.vehicle.RouteLimits.{RouteLimits}
-use Rattle.evaluation.specs.Columns.{Columns}
+use Rattle.labels.specs.Columns.{Columns}
 use Rattle.evaluation.specs.Route.{effectiveCost}
 use Rattle.descent.specs.Search.{Sweep, Outcome, next, run}
 use Rattle.descent.specs.Across.{Pair}

@@ -26,7 +26,7 @@ ghost use Rattle.numbers.specs.Floor.{gainFloor};
 ghost use Rattle.day.specs.Matrix.{scaleOf};
 ghost use Rattle.lists.specs.Table.{lists};
 ghost use Rattle.list_changes.specs.Edits.{Edited};
-ghost use Rattle.evaluation.specs.Columns.{columnsAt, Formed};
+ghost use Rattle.labels.specs.Columns.{columnsAt, Formed};
 ghost use Rattle.descent.specs.Search.{run};
 ghost use Rattle.engine.specs.Engine.{endedAs};
 ghost use Rattle.loads.specs.Loads.{Loaded, Held};

@@ -15,7 +15,7 @@ use lib.Ieee.Scale.{finite}
 use Rattle.edits.specs.Total.{total}
 use Rattle.lists.specs.Table.{sum, lists, listOf}
 use Rattle.lists.proofs.Tables.{at-lists, length-list}
-use Rattle.evaluation.specs.Columns.{Columns}
+use Rattle.labels.specs.Columns.{Columns}
 use Rattle.descent.specs.Order.{_∈_, from-on, range, each}
 use Rattle.descent.specs.Permitted.{room}
 use Rattle.descent.specs.Across.{at, Relocation}

@@ -13,7 +13,7 @@ use lib.Ieee.{Float}
 use lib.Ieee.Scale.{finite}
 use Rattle.tests.specs.Pick.{picked, other}
 use Rattle.edits.specs.Total.{total}
-use Rattle.evaluation.specs.Columns.{Columns}
+use Rattle.labels.specs.Columns.{Columns}
 use Rattle.descent.specs.Order.{range}
 use Rattle.descent.proofs.Members.{and-both}
 use Rattle.descent.proofs.Loops.{range-step, range-done}

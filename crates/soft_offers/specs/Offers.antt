@@ -12,7 +12,7 @@ use lib.Ieee.{Float, neg}
 use lib.Ieee.Scale.{finite}
 use Rattle.edits.specs.Total.{total}
 use Rattle.lists.specs.Table.{lists}
-use Rattle.evaluation.specs.Columns.{Columns, Visits}
+use Rattle.labels.specs.Columns.{Columns, Visits}
 use Rattle.deltas.specs.Changes.{fixedIf}
 use Rattle.descent.specs.Order.{range}
 use Rattle.descent.specs.Search.{Search, Judge}

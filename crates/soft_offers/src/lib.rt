@@ -21,7 +21,7 @@ use tests::both;
 ghost use mathlib.Core.Path.{_≡_};
 ghost use Prim.Native.Nat.{_<_, _≤_};
 ghost use lib.ListN.{length};
-ghost use Rattle.evaluation.specs.Columns.{columnsAt};
+ghost use Rattle.labels.specs.Columns.{columnsAt};
 ghost use Rattle.descent.specs.Order.{range};
 ghost use Rattle.loads.specs.Loads.{Loaded, Held};
 ghost use Rattle.pairs.specs.Pairs.{nothing};

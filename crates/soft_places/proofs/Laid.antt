@@ -14,7 +14,7 @@ use Rattle.edits.specs.Total.{total, bit, total-append, total-none, total-one, 
 use Rattle.edits.specs.Edits.{swapped}
 use Rattle.edits.proofs.Cuts.{to-end, lent}
 use Rattle.day.specs.declared.vehicle.RouteLimits.{RouteLimits}
-use Rattle.evaluation.specs.Columns.{Columns, Visits}
+use Rattle.labels.specs.Columns.{Columns, Visits}
 use Rattle.evaluation.specs.Route.{effectiveCost}
 use Rattle.heads.specs.Head.{Driven, priceFrom}
 use Rattle.heads.specs.declared.Head.{Head}

@@ -16,7 +16,7 @@ ghost use mathlib.Core.Path.{_≡_};
 ghost use Prim.Native.Nat.{suc, _+_, _-_, _<_, _≤_};
 ghost use lib.ListN.{length, take};
 ghost use Rattle.edits.specs.Edits.{swapped};
-ghost use Rattle.evaluation.specs.Columns.{columnsAt, Visits};
+ghost use Rattle.labels.specs.Columns.{columnsAt, Visits};
 ghost use Rattle.descent.specs.Order.{range};
 ghost use Rattle.soft_places.specs.Prices.{without, inserted, givingDelta};
 ghost use Rattle.soft_places.specs.Places.{Prepared, DrivenBy, priceOf, better, bestAmong};

@@ -10,7 +10,7 @@ use lib.ListN.{length, getD}
 use Rattle.lists.specs.Table.{Laid, lists}
 use Rattle.list_changes.specs.Edits.{Edited, Relocates, relocated}
 use Rattle.lists.proofs.Tables.{length-lists}
-use Rattle.evaluation.specs.Columns.{Columns}
+use Rattle.labels.specs.Columns.{Columns}
 use Rattle.descent.specs.Permitted.{room}
 use Rattle.descent.specs.Search.{taken}
 use Rattle.engine.specs.Engine.{endedAs}

@@ -5,7 +5,7 @@ use Prim.Native.Nat.{ℕ}
 use lib.IntN.{ℤ}
 use lib.ListN.{length}
 use Rattle.lists.specs.Table.{lists}
-use Rattle.evaluation.specs.Columns.{Columns}
+use Rattle.labels.specs.Columns.{Columns}
 use Rattle.descent.specs.Search.{Sweep, Outcome, next, run}
 use Rattle.pairs.specs.Pairs.{Table, Stored, StoredBoth, RightWhere}
 use Rattle.soft_offers.specs.Offers.{searchOf, judgeOf, bound}

@@ -12,7 +12,7 @@ use lib.Ieee.{Float, lt}
 use lib.Ieee.Scale.{finite}
 use Rattle.numbers.specs.Operations.{_⊕_, _⊖_}
 use Rattle.tests.specs.Pick.{picked, other}
-use Rattle.evaluation.specs.Columns.{Columns}
+use Rattle.labels.specs.Columns.{Columns}
 use Rattle.edits.specs.Total.{total}
 use Rattle.list_changes.specs.Edits.{joined}
 use Rattle.descent.specs.Order.{range}

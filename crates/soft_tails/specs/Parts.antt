@@ -8,7 +8,7 @@ use Prim.Native.Nat.{ℕ, _<_}
 use lib.IntN.{ℤ}
 use lib.ListN.{length}
 use lib.Ieee.{Float}
-use Rattle.evaluation.specs.Columns.{Columns, Formed}
+use Rattle.labels.specs.Columns.{Columns, Formed}
 use Rattle.evaluation.specs.Route.{effectiveCost}
 use Rattle.edits.specs.Total.{total}
 use Rattle.list_changes.specs.Edits.{joined}

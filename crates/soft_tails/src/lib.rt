@@ -23,7 +23,7 @@ ghost use lib.ListN.{length, take};
 ghost use Rattle.numbers.specs.Operations.{_⊕_, _⊖_};
 ghost use Rattle.edits.specs.Total.{total};
 ghost use Rattle.list_changes.specs.Edits.{joined};
-ghost use Rattle.evaluation.specs.Columns.{columnsAt, Formed};
+ghost use Rattle.labels.specs.Columns.{columnsAt, Formed};
 ghost use Rattle.evaluation.specs.Route.{effectiveCost};
 ghost use Rattle.loads.specs.Loads.{boxesOf};
 ghost use Rattle.tails.specs.Best.{Two};

@@ -9,7 +9,7 @@ use lib.IntN.{ℤ}
 use lib.Ieee.{Float, lt}
 use Rattle.tests.specs.Pick.{picked, other}
 use Rattle.day.specs.Matrix.{leg}
-use Rattle.evaluation.specs.Columns.{Columns}
+use Rattle.labels.specs.Columns.{Columns}
 use Rattle.edits.specs.Total.{total}
 use Rattle.list_changes.specs.Edits.{joined}
 use Rattle.descent.specs.Permitted.{fits}

@@ -8,7 +8,7 @@ use lib.ListN.{length, getD, take, drop, length-append, length-drop}
 use lib.Seq.{slice, length-take-le}
 use Rattle.edits.specs.Total.{bit, total-append, total-none}
 use Rattle.edits.proofs.Cuts.{to-end, lent}
-use Rattle.evaluation.specs.Columns.{Visits}
+use Rattle.labels.specs.Columns.{Visits}
 use Rattle.list_changes.specs.Edits.{joined}
 use Rattle.descent.proofs.Below.{over, Below, below-at}
 use Rattle.tails.specs.Best.{Two}

@@ -9,7 +9,7 @@ use lib.ListN.{length, getD, set}
 use lib.Ieee.{Float, neg, lt}
 use Rattle.numbers.specs.Floor.{gainFloor}
 use Rattle.day.specs.Matrix.{leg, scaleOf}
-use Rattle.evaluation.specs.Columns.{Columns, Formed}
+use Rattle.labels.specs.Columns.{Columns, Formed}
 use Rattle.evaluation.specs.Route.{checksNeeded}
 use Rattle.list_changes.specs.Edits.{joined}
 use Rattle.descent.specs.Order.{range}

@@ -13,7 +13,7 @@ ghost use Prim.Native.Nat.{_+_, _<_, _≤_};
 ghost use lib.ListN.{length, take};
 ghost use Rattle.edits.specs.Total.{total};
 ghost use Rattle.list_changes.specs.Edits.{joined};
-ghost use Rattle.evaluation.specs.Columns.{columnsAt, Formed};
+ghost use Rattle.labels.specs.Columns.{columnsAt, Formed};
 ghost use Rattle.engine.specs.Engine.{passing};
 ghost use Rattle.loads.specs.Loads.{boxesOf};
 ghost use Rattle.tails.specs.Best.{Asked, Two, better, bestRow, bestOf};

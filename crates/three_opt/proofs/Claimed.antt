@@ -4,7 +4,7 @@ use Prim.Native.Nat.{ℕ}
 use lib.Ieee.{Float}
 use Rattle.numbers.specs.Operations.{zero64}
 use Rattle.day.specs.declared.vehicle.RouteLimits.{RouteLimits}
-use Rattle.evaluation.specs.Columns.{Columns}
+use Rattle.labels.specs.Columns.{Columns}
 use Rattle.descent.specs.Permitted.{Measure, three-opt}
 use Rattle.descent.specs.Engines.{run-of}
 use Rattle.descent.specs.Claim.{Claim}

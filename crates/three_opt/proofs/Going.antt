@@ -5,7 +5,7 @@ use mathlib.Core.List.{List, []}
 use Prim.Native.Nat.{ℕ, zero, suc, _+_, _≤_, _<_}
 use lib.ListN.{length}
 use Rattle.day.specs.declared.vehicle.RouteLimits.{RouteLimits}
-use Rattle.evaluation.specs.Columns.{Columns}
+use Rattle.labels.specs.Columns.{Columns}
 use Rattle.descent.specs.Search.{Sweep, taken, firstMove, next}
 use Rattle.descent.specs.Within.{Cut, cuts, reconnect}
 use Rattle.descent.proofs.Loops.{place-passed, place-moved, next-sweep}

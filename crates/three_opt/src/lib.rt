@@ -18,7 +18,7 @@ ghost use Prim.Native.Nat.{_<_, _≤_};
 ghost use lib.ListN.{length};
 ghost use Rattle.numbers.specs.Operations.{zero64};
 ghost use Rattle.day.specs.Refusal.{allPlain};
-ghost use Rattle.evaluation.specs.Columns.{columnsAt, Formed, Visits};
+ghost use Rattle.labels.specs.Columns.{columnsAt, Formed, Visits};
 ghost use Rattle.descent.specs.Permitted.{three-opt};
 ghost use Rattle.descent.specs.Engines.{run-of};
 ghost use Rattle.deltas.specs.Judged.{float-judge};

@@ -8,7 +8,7 @@ use lib.ListN.{length, getD}
 use lib.Ieee.{Float}
 use Rattle.numbers.specs.Operations.{zero64}
 use Rattle.day.specs.declared.vehicle.RouteLimits.{RouteLimits}
-use Rattle.evaluation.specs.Columns.{Columns, Visits}
+use Rattle.labels.specs.Columns.{Columns, Visits}
 use Rattle.descent.specs.Permitted.{two-opt}
 use Rattle.descent.specs.Search.{Word, settled, stopped}
 use Rattle.descent.specs.Engines.{run-of}

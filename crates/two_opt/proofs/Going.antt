@@ -5,7 +5,7 @@ use mathlib.Core.Option.{some}
 use mathlib.Core.List.{List, []}
 use Prim.Native.Nat.{ℕ, _+_, _<_, _≤_}
 use lib.ListN.{length}
-use Rattle.evaluation.specs.Columns.{Columns}
+use Rattle.labels.specs.Columns.{Columns}
 use Rattle.descent.specs.Search.{Sweep, run}
 use Rattle.descent.specs.Within.{Reversal}
 use Rattle.engine.specs.declared.Ended.{Ended}

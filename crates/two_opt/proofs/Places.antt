@@ -11,7 +11,7 @@ use lib.Dec.{ltb}
 use lib.ListN.{length}
 use Rattle.descent.specs.Within.{reversals}
 use Rattle.descent.proofs.Loops.{reversals-from, reversals-start, reversals-turn, reversals-next, reversals-done}
-use Rattle.evaluation.specs.Columns.{Columns}
+use Rattle.labels.specs.Columns.{Columns}
 use Rattle.heads.specs.Head.{atDepot}
 use Rattle.heads.proofs.Heads.{depot-driven}
 use Rattle.two_opt.specs.declared.Terms.{Terms}

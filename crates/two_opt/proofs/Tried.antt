@@ -7,7 +7,7 @@ use lib.Ieee.{Float}
 use Rattle.numbers.specs.Floor.{counts}
 use Rattle.tests.specs.All.{stop, go}
 use Rattle.day.specs.Matrix.{leg, Square}
-use Rattle.evaluation.specs.Columns.{Columns, Visits}
+use Rattle.labels.specs.Columns.{Columns, Visits}
 use Rattle.descent.specs.Search.{ok}
 use Rattle.deltas.specs.Deltas.{Marked, Listed, twoOptDelta}
 use Rattle.engine.specs.Engine.{passing}

@@ -13,7 +13,7 @@ use borrow.Author.Tests.{lt-ltb, ltb-true}
 use Rattle.edits.specs.Edits.{reversed}
 use Rattle.edits.proofs.Kept.{same-reversed, same-each, length-reversed}
 use Rattle.edits.proofs.Turns.{reversed-twice}
-use Rattle.evaluation.specs.Columns.{Columns, Visits}
+use Rattle.labels.specs.Columns.{Columns, Visits}
 use Rattle.descent.specs.Search.{Sweep, taken, firstMove}
 use Rattle.descent.specs.Within.{Reversal, turned}
 use Rattle.descent.proofs.Loops.{place-passed, place-moved, one-taken, one-left, next-ahead, next-sweep}

@@ -12,7 +12,7 @@ use Rattle.numbers.specs.Floor.{gainFloor}
 use Rattle.day.specs.Matrix.{scaleOf, symmetric}
 use Rattle.day.specs.Refusal.{allPlain}
 use Rattle.edits.specs.Edits.{reversed}
-use Rattle.evaluation.specs.Columns.{Columns, Formed}
+use Rattle.labels.specs.Columns.{Columns, Formed}
 use Rattle.evaluation.specs.Route.{checksNeeded}
 use Rattle.heads.specs.Head.{Driven}
 use Rattle.heads.specs.declared.Head.{Head}

@@ -24,7 +24,7 @@ ghost use Prim.Native.Nat.{_<_};
 ghost use lib.ListN.{length};
 ghost use Rattle.numbers.specs.Operations.{zero64};
 ghost use Rattle.day.specs.Refusal.{allPlain};
-ghost use Rattle.evaluation.specs.Columns.{columnsAt, Formed, Visits};
+ghost use Rattle.labels.specs.Columns.{columnsAt, Formed, Visits};
 ghost use Rattle.descent.specs.Permitted.{two-opt};
 ghost use Rattle.descent.specs.Search.{run};
 ghost use Rattle.descent.specs.Engines.{run-of};

@@ -14,7 +14,7 @@ use Rattle.day.specs.Customer.{hasSoftWindows}
 use Rattle.day.specs.declared.vehicle.RouteLimits.{RouteLimits}
 use Rattle.edits.specs.Total.{SameVisits}
 use Rattle.edits.proofs.Kept.{same-each, same-length}
-use Rattle.evaluation.specs.Columns.{Columns, Visits}
+use Rattle.labels.specs.Columns.{Columns, Visits}
 use Rattle.descent.specs.Permitted.{two-opt, or-opt, three-opt, n-minus-length}
 use Rattle.descent.proofs.Always.{kept-by}
 use Rattle.deltas.specs.Judged.{float-judge}

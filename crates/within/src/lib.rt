@@ -10,7 +10,7 @@ ghost use mathlib.Core.Path.{_≡_};
 ghost use mathlib.Core.Bool.{true};
 ghost use Prim.Native.Nat.{_<_};
 ghost use Rattle.day.specs.Refusal.{allPlain};
-ghost use Rattle.evaluation.specs.Columns.{columnsAt, Formed, Visits};
+ghost use Rattle.labels.specs.Columns.{columnsAt, Formed, Visits};
 ghost use Rattle.engine.specs.Engine.{endedAs};
 ghost use Rattle.within.specs.Within.{hardRan, ranBy};
 

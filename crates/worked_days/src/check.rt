@@ -3,7 +3,7 @@ use crate::line;
 use crate::print::number;
 use crate::print::text;
 use day::vehicle::Van;
-use evaluation::label::Taken;
+use labels::label::Taken;
 use planner::check::Distance;
 use planner::check::Evaluated;
 use planner::check::Feasibility;

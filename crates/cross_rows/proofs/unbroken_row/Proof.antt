@@ -4,7 +4,7 @@ use mathlib.Core.Logic.{⊎-elim}
 use Prim.Native.Nat.{_-_, _≤_}
 use native.Mathlib.Omega.{arith}
 use borrow.Author.Needs.{needs}
-use Rattle.evaluation.specs.Columns.{columns}
+use Rattle.labels.specs.Columns.{columns}
 use Rattle.cross_rows.proofs.Rows.{Costing, cost-skipped, cost-asked, costing-starts, costing-turns, costing-ends}
 use Rattle.cross_rows.proofs.unbroken_row.Statement.{statement}
 use Rattle.cross_rows.proofs.unbroken_row.Tie as tie

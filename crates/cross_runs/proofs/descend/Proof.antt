@@ -7,7 +7,7 @@ use Prim.Native.Nat.{_-_}
 use native.Mathlib.Omega.{arith}
 use lib.ListN.{length, take}
 use Rattle.edits.proofs.Kept.{same-length as kept-length}
-use Rattle.evaluation.specs.Columns.{columns}
+use Rattle.labels.specs.Columns.{columns}
 use Rattle.fleet.specs.Fleet.{fleetOf}
 use Rattle.cross_moves.specs.CrossDepot.{planOf}
 use Rattle.cross_search.specs.Deltas.{Kept}

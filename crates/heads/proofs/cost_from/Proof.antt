@@ -3,11 +3,11 @@ use native.Mathlib.Omega.{arith}
 use Prim.Native.Nat.{_-_, _≤_, _<_}
 use mathlib.Core.Path.{_≡_, refl, ap, _∙_}
 use lib.ListN.{length, drop}
-use Rattle.evaluation.specs.Columns.{columns, stop-in}
-use Rattle.evaluation.specs.Walk.{walk, tourOf}
+use Rattle.labels.specs.Columns.{columns, stop-in}
+use Rattle.labels.specs.Walk.{walk, tourOf}
 use Rattle.evaluation.specs.Route.{tick, tick-is, home, evaluated, costOf, unbroken-turns, unbroken-stops, unbroken-ends}
-use Rattle.evaluation.specs.declared.label.Reached.the-variants.{Served}
-use Rattle.evaluation.specs.declared.schedule.Outcome.{Outcome}
+use Rattle.labels.specs.declared.label.Reached.the-variants.{Served}
+use Rattle.break_clock.specs.declared.Outcome.{Outcome}
 use Rattle.heads.specs.Head.{costFrom}
 use Rattle.heads.proofs.Heads.{end-costs, missed-costs}
 use borrow.Author.Needs.{needs}

@@ -4,10 +4,10 @@ use Prim.Native.Nat.{_-_, _≤_, _<_}
 use mathlib.Core.Path.{_≡_}
 use lib.ListN.{length}
 use lib.Seq.{slice, slice-empty}
-use Rattle.evaluation.specs.Columns.{columns, stop-in}
-use Rattle.evaluation.specs.Walk.{walk, tourOf}
+use Rattle.labels.specs.Columns.{columns, stop-in}
+use Rattle.labels.specs.Walk.{walk, tourOf}
 use Rattle.evaluation.specs.Route.{tick, tick-is}
-use Rattle.evaluation.specs.declared.label.Reached.the-variants.{Served}
+use Rattle.labels.specs.declared.label.Reached.the-variants.{Served}
 use Rattle.heads.proofs.Heads.{drive-turn}
 use borrow.Author.Needs.{needs}
 use Rattle.heads.proofs.drive.Statement.{statement}

@@ -4,7 +4,7 @@ use Prim.Native.Nat.{_-_}
 use native.Mathlib.Omega.{arith}
 use lib.ListN.{length}
 use borrow.Author.Needs.{needs}
-use Rattle.evaluation.specs.Columns.{columns}
+use Rattle.labels.specs.Columns.{columns}
 use Rattle.heads.proofs.Keeping.{Keeping, keeping-starts, keeping-turns, keeping-stops, keeping-ends}
 use Rattle.heads.proofs.fill_heads.Statement.{statement}
 use Rattle.heads.proofs.fill_heads.Tie as tie

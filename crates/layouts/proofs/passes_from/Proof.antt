@@ -4,10 +4,10 @@ use native.Mathlib.Omega.{arith}
 use Prim.Native.Nat.{_-_, _<_}
 use mathlib.Core.Path.{_≡_, refl, ap, _∙_}
 use lib.ListN.{length, drop}
-use Rattle.evaluation.specs.Columns.{columns, stop-in}
-use Rattle.evaluation.specs.Walk.{walk, tourOf}
+use Rattle.labels.specs.Columns.{columns, stop-in}
+use Rattle.labels.specs.Walk.{walk, tourOf}
 use Rattle.evaluation.specs.Route.{tick, tick-is, home, unbroken-ends}
-use Rattle.evaluation.specs.declared.label.Reached.the-variants.{Served}
+use Rattle.labels.specs.declared.label.Reached.the-variants.{Served}
 use Rattle.layouts.specs.Layout.{laid, passesFrom}
 use Rattle.layouts.proofs.Layouts.{laid-below, laid-long, laid-short}
 use Rattle.layouts.proofs.Onward.{turns, misses, end-passes}

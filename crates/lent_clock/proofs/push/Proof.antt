@@ -47,19 +47,19 @@ use denote.Triple.Table.{entered, cited}
 use denote.Triple.Walked.{says, needs, Stays, stay-ref, stay-none, stay-none-slice, walkOf, AllGo, goes-none, goes-none-slice, goes-ref}
 use denote.Triple.Walked.{Walks, ends-at, walked, walk-meets}
 use denote.Exit.{yes}
-use Rattle.evaluation.specs.Columns.{Columns, columns, Formed}
-use Rattle.evaluation.specs.Schedule.{pushed, anyLeft}
-use Rattle.evaluation.specs.declared.schedule.BreakClock.{BreakClock}
-use Rattle.evaluation.proofs.schedule.BreakClock as T
-use Rattle.evaluation.proofs.schedule.BreakClock.Laws as T′
-use Rattle.evaluation.proofs.schedule.BreakClock.push as push
-use Rattle.evaluation.proofs.schedule.BreakClock.push.Symbol as push-def
-use Rattle.evaluation.proofs.schedule.BreakClock.push.Symbol.{name as #push}
-use Rattle.evaluation.proofs.schedule.BreakClock.push.Met as push-thm
-use Rattle.evaluation.proofs.schedule.BreakClock.any_left as any-left
-use Rattle.evaluation.proofs.schedule.BreakClock.any_left.Symbol as any-left-def
-use Rattle.evaluation.proofs.schedule.BreakClock.any_left.Symbol.{name as #any-left}
-use Rattle.evaluation.proofs.schedule.BreakClock.any_left.Met as any-left-thm
+use Rattle.labels.specs.Columns.{Columns, columns, Formed}
+use Rattle.break_clock.specs.Schedule.{pushed, anyLeft}
+use Rattle.break_clock.specs.declared.BreakClock.{BreakClock}
+use Rattle.break_clock.proofs.BreakClock as T
+use Rattle.break_clock.proofs.BreakClock.Laws as T′
+use Rattle.break_clock.proofs.BreakClock.push as push
+use Rattle.break_clock.proofs.BreakClock.push.Symbol as push-def
+use Rattle.break_clock.proofs.BreakClock.push.Symbol.{name as #push}
+use Rattle.break_clock.proofs.BreakClock.push.Met as push-thm
+use Rattle.break_clock.proofs.BreakClock.any_left as any-left
+use Rattle.break_clock.proofs.BreakClock.any_left.Symbol as any-left-def
+use Rattle.break_clock.proofs.BreakClock.any_left.Symbol.{name as #any-left}
+use Rattle.break_clock.proofs.BreakClock.any_left.Met as any-left-thm
 use Rattle.lent_clock.proofs.push.Key.{name as #lent}
 use Rattle.lent_clock.proofs.push as lent
 use Rattle.lent_clock.proofs.push.Statement as stated
@@ -400,6 +400,6 @@ push-spec 𝓤 H 𝓜 𝓖 𝓡 =
     (tables 𝓤 H 𝓜 𝓡 code.env .C) (tables 𝓤 H 𝓜 𝓡 code.env .Λ) #lent code.function (code.unfolded 𝓤 H 𝓜 𝓡)
     (lent-meets 𝓤 H (𝓖 .A) (givenOf 𝓤 H 𝓜 𝓖) (𝓜 .mem) (𝓡 .run) (tablesOf 𝓤 H 𝓜 (tables 𝓤 H 𝓜 𝓡 code.env))
     (cited 𝓤 H (Push 𝓤 H (𝓖 .A) (𝓜 .mem) (𝓡 .run)) 𝓜 𝓡 code.env #push push-def.routine
-    code.calls-evaluation·schedule·BreakClock·push (push-thm.met 𝓤 H 𝓜 𝓖 𝓡))
+    code.calls-break-clock·BreakClock·push (push-thm.met 𝓤 H 𝓜 𝓖 𝓡))
     (cited 𝓤 H (AnyLeft 𝓤 H (𝓖 .A) (𝓜 .mem) (𝓡 .run)) 𝓜 𝓡 code.env #any-left any-left-def.routine
-    code.calls-evaluation·schedule·BreakClock·any-left (any-left-thm.met 𝓤 H 𝓜 𝓖 𝓡)))
+    code.calls-break-clock·BreakClock·any-left (any-left-thm.met 𝓤 H 𝓜 𝓖 𝓡)))

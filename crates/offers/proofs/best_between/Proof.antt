@@ -5,7 +5,7 @@ use Prim.Native.Nat.{_-_}
 use native.Mathlib.Omega.{arith}
 use lib.ListN.{length}
 use Rattle.lists.proofs.Tables.{length-list}
-use Rattle.evaluation.specs.Columns.{columns}
+use Rattle.labels.specs.Columns.{columns}
 use Rattle.loads.proofs.Tables.{list-visits, lent-visits, one-more}
 use Rattle.offers.proofs.Trying.{Pairing, pairing-start, pairing-turn, pairing-end, pair-empty, pair-none}
 use Rattle.offers.proofs.best_between.Statement.{statement}

@@ -3,7 +3,7 @@ use mathlib.Core.Path.{_≡_, refl, sym, ap, _∙_}
 use Prim.Native.Nat.{_-_}
 use native.Mathlib.Omega.{arith}
 use borrow.Author.Needs.{needs}
-use Rattle.evaluation.specs.Columns.{columns}
+use Rattle.labels.specs.Columns.{columns}
 use Rattle.descent.specs.Order.{range}
 use Rattle.descent.specs.Search.{firstMove}
 use Rattle.segments.specs.Segments.{searchOf, judgeOf, pieceOf}

@@ -6,7 +6,7 @@ use native.Mathlib.Omega.{arith}
 use borrow.Author.Needs.{needs}
 use lib.ListN.{length}
 use Rattle.numbers.specs.Floor.{gainFloor}
-use Rattle.evaluation.specs.Columns.{columns}
+use Rattle.labels.specs.Columns.{columns}
 use Rattle.descent.specs.Order.{range}
 use Rattle.descent.specs.Search.{Sweep, next}
 use Rattle.descent.specs.Engines.{run-of}

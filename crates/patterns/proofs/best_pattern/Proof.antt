@@ -5,7 +5,7 @@ use mathlib.Core.Path.{_≡_, refl, sym, _∙_}
 use Prim.Native.Nat.{_-_, _<_}
 use native.Mathlib.Omega.{arith}
 use lib.ListN.{length}
-use Rattle.evaluation.specs.Columns.{columns}
+use Rattle.labels.specs.Columns.{columns}
 use Rattle.patterns.proofs.Choosing.{Scan, scan-start, scan-turn, scan-end}
 use Rattle.patterns.proofs.Judging.{listed, cut-placed}
 use Rattle.patterns.proofs.Gate.{none-below}

@@ -5,7 +5,7 @@ use Prim.Native.Nat.{ℕ, suc, _-_, _≤_}
 use native.Mathlib.Omega.{arith}
 use lib.ListN.{length}
 use Rattle.day.specs.Matrix.{leg}
-use Rattle.evaluation.specs.Columns.{columns}
+use Rattle.labels.specs.Columns.{columns}
 use Rattle.descent.specs.Order.{range}
 use Rattle.deltas.specs.Deltas.{insertionDelta}
 use Rattle.insertions.specs.Cache.{leastBelow}

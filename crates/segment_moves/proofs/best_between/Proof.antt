@@ -4,7 +4,7 @@ use mathlib.Core.Logic.{⊎-elim, inl, inr}
 use Prim.Native.Nat.{_-_, _≤_}
 use native.Mathlib.Omega.{arith}
 use borrow.Author.Needs.{needs}
-use Rattle.evaluation.specs.Columns.{columns}
+use Rattle.labels.specs.Columns.{columns}
 use Rattle.descent.specs.Order.{range}
 use Rattle.segments.specs.Segments.{choice, to-each, pieceOf, Known}
 use Rattle.segments.proofs.Choosing.{turn-one, end-one}

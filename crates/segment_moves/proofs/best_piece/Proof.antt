@@ -3,7 +3,7 @@ use mathlib.Core.Path.{_≡_, refl, sym, _∙_}
 use Prim.Native.Nat.{suc, _-_, _≤_, _<_}
 use native.Mathlib.Omega.{arith}
 use lib.ListN.{length}
-use Rattle.evaluation.specs.Columns.{columns}
+use Rattle.labels.specs.Columns.{columns}
 use Rattle.descent.specs.Order.{range, each}
 use Rattle.segments.specs.Segments.{choice, pieceOf, Known}
 use Rattle.segment_moves.specs.Row.{row}

@@ -1,7 +1,7 @@
 -- `best_neighbour`. The invariant: what is chosen from here on is what the whole scan chooses, and the head is driven. The measure: the neighbours left.
 use mathlib.Core.Path.{_≡_, refl, _∙_}
 use lib.ListN.{length}
-use Rattle.evaluation.specs.Columns.{columns}
+use Rattle.labels.specs.Columns.{columns}
 use Rattle.evaluation.specs.Route.{effectiveCost}
 use Rattle.heads.specs.Head.{Driven}
 use Rattle.heads.proofs.Heads.{depot-driven}

@@ -4,7 +4,7 @@ use Prim.Native.Nat.{_-_, _<_}
 use mathlib.Core.Path.{_≡_, refl, ap, _∙_}
 use mathlib.Core.List.{List}
 use lib.ListN.{length}
-use Rattle.evaluation.specs.Columns.{columns, Visits}
+use Rattle.labels.specs.Columns.{columns, Visits}
 use Rattle.evaluation.specs.Route.{effectiveCost}
 use Rattle.descent.specs.Search.{Sweep}
 use Rattle.soft.specs.Soft.{soft-run}

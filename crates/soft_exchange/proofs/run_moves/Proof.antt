@@ -4,7 +4,7 @@ use mathlib.Core.List.{List, []}
 use Prim.Native.Nat.{ℕ, _-_}
 use native.Mathlib.Omega.{arith}
 use lib.ListN.{length}
-use Rattle.evaluation.specs.Columns.{columns}
+use Rattle.labels.specs.Columns.{columns}
 use Rattle.lists.specs.Table.{lists}
 use Rattle.list_changes.specs.Edits.{Edited}
 use Rattle.list_changes.proofs.Edited.{edited-on}

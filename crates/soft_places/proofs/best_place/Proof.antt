@@ -5,7 +5,7 @@ use mathlib.Core.Path.{_≡_, refl, sym, ap, _∙_}
 use Prim.Native.Nat.{suc, _+_, _-_, _≤_}
 use native.Mathlib.Omega.{arith}
 use lib.ListN.{length, take}
-use Rattle.evaluation.specs.Columns.{columns}
+use Rattle.labels.specs.Columns.{columns}
 use Rattle.heads.proofs.Heads.{depot-driven}
 use Rattle.descent.specs.Order.{range}
 use Rattle.soft_places.specs.Prices.{inserted}

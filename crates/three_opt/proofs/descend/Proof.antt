@@ -3,7 +3,7 @@ use mathlib.Core.Path.{_≡_, refl, _∙_}
 use Prim.Native.Nat.{_+_, _-_, _*_}
 use native.Mathlib.Omega.{arith}
 use lib.ListN.{length}
-use Rattle.evaluation.specs.Columns.{columns, Visits}
+use Rattle.labels.specs.Columns.{columns, Visits}
 use Rattle.three_opt.proofs.Places.{cutsFrom, standing-inside, cuts-fewer, few-cuts}
 use Rattle.reconnections.proofs.Reconnected.{visits-reconnected}
 use Rattle.three_opt.proofs.Going.{Sweeping, sweep-start, sweep-settled, sweep-passed, sweep-stopped, sweep-moved}

@@ -4,7 +4,7 @@ use borrow.Author.Needs.{needs}
 use native.Mathlib.Omega.{arith}
 use mathlib.Core.Path.{_≡_, refl, ap, _∙_}
 use lib.ListN.{length}
-use Rattle.evaluation.specs.Columns.{columns}
+use Rattle.labels.specs.Columns.{columns}
 use Rattle.two_opt.specs.TwoOpt.{InSweep, Shared, from, firstTurn, leaves, Inside}
 use Rattle.two_opt.proofs.Places.{left-less, still-in, none-shared, still-behind}
 use Rattle.two_opt.proofs.Turns.{found-here, not-here, none-left}

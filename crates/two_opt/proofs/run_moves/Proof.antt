@@ -4,7 +4,7 @@ use native.Mathlib.Omega.{arith}
 use Prim.Native.Nat.{_-_}
 use mathlib.Core.Path.{_≡_, refl, sym, ap, _∙_}
 use lib.ListN.{length}
-use Rattle.evaluation.specs.Columns.{columns, Visits}
+use Rattle.labels.specs.Columns.{columns, Visits}
 use Rattle.two_opt.specs.TwoOpt.{InSweep}
 use Rattle.two_opt.proofs.Places.{none-ahead, still-in, from-end}
 use Rattle.two_opt.proofs.Turns.{left-as-it-was, left-turned, turned-visits, turned-back}

@@ -6,10 +6,10 @@ use mathlib.Core.Path.{_≡_, refl, _∙_}
 use lib.ListN.{length, drop}
 use lib.Ieee.{ofBits}
 use Rattle.numbers.specs.Operations.{zero64}
-use Rattle.evaluation.specs.Columns.{columns, stop-in}
-use Rattle.evaluation.specs.Walk.{walk, tourOf}
+use Rattle.labels.specs.Columns.{columns, stop-in}
+use Rattle.labels.specs.Walk.{walk, tourOf}
 use Rattle.evaluation.specs.Route.{tick, tick-is, unbroken-turns, unbroken-stops, unbroken-ends, unbroken-is}
-use Rattle.evaluation.specs.declared.label.Reached.the-variants.{Served}
+use Rattle.labels.specs.declared.label.Reached.the-variants.{Served}
 use Rattle.evaluation.proofs.route.unbroken_schedule.Statement.{statement}
 use Rattle.evaluation.proofs.route.unbroken_schedule.Tie as tie
 

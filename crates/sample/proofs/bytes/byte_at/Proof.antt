@@ -1,4 +1,4 @@
--- `replay::bytes::byte_at` is safe: the position was tested to be within the bytes.
+-- `sample::bytes::byte_at` is safe: the position was tested to be within the bytes.
 use native.Mathlib.Omega.{arith}
 use borrow.Author.Needs.{needs}
 use Rattle.sample.proofs.bytes.byte_at.Statement.{statement}

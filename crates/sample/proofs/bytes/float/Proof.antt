@@ -1,4 +1,4 @@
--- `replay::bytes::float` is safe: the word was tested not to be a NaN's.
+-- `sample::bytes::float` is safe: the word was tested not to be a NaN's.
 use mathlib.Core.Path.{sym, subst}
 use lib.Dec.{T}
 use borrow.Author.Needs.{needs}

@@ -1,4 +1,4 @@
--- `replay::bytes::is_float` meets its contract: its two tests are the two fields of a NaN's bits.
+-- `sample::bytes::is_float` meets its contract: its two tests are the two fields of a NaN's bits.
 use mathlib.Core.Bool.{not, true, false}
 use mathlib.Core.Path.{_≡_, refl}
 use borrow.Author.Tests.{eq-eqb, ne-eqb}

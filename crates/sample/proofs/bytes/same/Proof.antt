@@ -1,4 +1,4 @@
--- `replay::bytes::same` is safe: what equals a number is no NaN.
+-- `sample::bytes::same` is safe: what equals a number is no NaN.
 use mathlib.Core.Path.{sym, subst}
 use lib.Dec.{T}
 use borrow.Author.Needs.{needs}

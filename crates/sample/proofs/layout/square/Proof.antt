@@ -1,4 +1,4 @@
--- `replay::layout::square` meets its contract: 64 times 64 is 4,096.
+-- `sample::layout::square` meets its contract: 64 times 64 is 4,096.
 use Prim.Native.Nat.{_≤_, _*_}
 use native.Mathlib.Nat.{mul-le-mul}
 use native.Mathlib.Omega.{arith}

@@ -1,4 +1,4 @@
--- `replay::layout::visits_end` is safe and ends: the lists left fall.
+-- `sample::layout::visits_end` is safe and ends: the lists left fall.
 use Prim.Native.Nat.{_-_}
 use borrow.Author.Needs.{needs}
 use Rattle.sample.proofs.layout.visits_end.Statement.{statement}

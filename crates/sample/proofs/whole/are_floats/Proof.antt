@@ -1,4 +1,4 @@
--- `replay::whole::are_floats` is safe and ends: the words left fall.
+-- `sample::whole::are_floats` is safe and ends: the words left fall.
 use Prim.Native.Nat.{_-_}
 use borrow.Author.Needs.{needs}
 use Rattle.sample.proofs.whole.are_floats.Statement.{statement}

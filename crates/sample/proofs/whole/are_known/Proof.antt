@@ -1,4 +1,4 @@
--- `replay::whole::are_known` is safe and ends: the bytes left fall.
+-- `sample::whole::are_known` is safe and ends: the bytes left fall.
 use Prim.Native.Nat.{_-_}
 use lib.ListN.{length}
 use borrow.Author.Needs.{needs}

@@ -1,4 +1,4 @@
--- `replay::whole::file_is_whole` is safe and ends: the days left fall.
+-- `sample::whole::file_is_whole` is safe and ends: the days left fall.
 use Prim.Native.Nat.{_-_}
 use borrow.Author.Needs.{needs}
 use Rattle.sample.proofs.whole.file_is_whole.Statement.{statement}

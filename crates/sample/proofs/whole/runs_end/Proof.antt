@@ -1,4 +1,4 @@
--- `replay::whole::runs_end` is safe and ends: the runs left fall.
+-- `sample::whole::runs_end` is safe and ends: the runs left fall.
 use Prim.Native.Nat.{_-_}
 use borrow.Author.Needs.{needs}
 use Rattle.sample.proofs.whole.runs_end.Statement.{statement}
