@@ -14,7 +14,7 @@ use Rattle.exchange.specs.declared.Place.{Place}
 use Rattle.tails.specs.declared.Choice.{Choice}
 use Rattle.exchange.proofs.Choosing.{best-first}
 use Rattle.soft_tails.specs.Parts.{passesOf, judgeOf, bestOf, takenAt}
-use Rattle.soft_tails.specs.declared.Terms.{Terms}
+use Rattle.tail_prices.specs.declared.Terms.{Terms}
 
 module _ (c : Columns) (demand : List ℤ) (t : Terms) (ls : List (List ℕ)) (p : Pair) where
   -- the best of all is what is taken

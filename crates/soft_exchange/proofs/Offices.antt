@@ -26,7 +26,7 @@ use Rattle.descent.proofs.Sweeps.{next-some}
 use Rattle.descent.proofs.Claims.{Tried, handed-total}
 use Rattle.descent.proofs.Demand3.{faithful}
 use Rattle.loads.specs.Loads.{boxesOf, boxes}
-use Rattle.soft_tails.specs.Tails.{priced, soft-exchange-search, soft-exchange-judge}
+use Rattle.tail_prices.specs.Tails.{priced, soft-exchange-search, soft-exchange-judge}
 use Rattle.soft_exchange.specs.SoftExchange.{soft-exchange-run}
 
 -- the loads are tested, and nothing else

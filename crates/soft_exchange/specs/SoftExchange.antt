@@ -10,7 +10,7 @@ use Rattle.evaluation.specs.Route.{effectiveCost}
 use Rattle.descent.specs.Search.{Sweep, Outcome, next, run}
 use Rattle.descent.specs.Across.{Pair}
 use Rattle.loads.specs.Loads.{boxes}
-use Rattle.soft_tails.specs.Tails.{soft-exchange-search, soft-exchange-judge}
+use Rattle.tail_prices.specs.Tails.{soft-exchange-search, soft-exchange-judge}
 
 -- `exchange_improve` with soft windows under a limit: what it leaves, how it ends, and the moves made
 unfoldable pub soft-exchange-run : Columns → List ℤ → RouteLimits → ℤ → ℕ → Float → ℕ → List (List ℕ) → Outcome (Sweep (List (List ℕ)) Pair)

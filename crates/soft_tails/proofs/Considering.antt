@@ -10,7 +10,6 @@ use lib.IntN.{ℤ}
 use lib.ListN.{length}
 use lib.Ieee.{Float, lt}
 use lib.Ieee.Scale.{finite}
-use Rattle.numbers.specs.Operations.{_⊕_, _⊖_}
 use Rattle.tests.specs.Pick.{picked, other}
 use Rattle.labels.specs.Columns.{Columns}
 use Rattle.edits.specs.Total.{total}
@@ -21,10 +20,10 @@ use Rattle.descent.proofs.Members.{and-both}
 use Rattle.loads.specs.Loads.{boxesOf}
 use Rattle.tails.specs.Best.{scan, nothing, betterBy, rowBy, bestBy}
 use Rattle.tails.specs.declared.Choice.{Choice}
-use Rattle.soft_tails.specs.Tails.{priced, change}
-use Rattle.soft_tails.specs.Parts.{costIn, measuresFor, Priced, changeOf, better, bestRow, bestOf}
-use Rattle.soft_tails.specs.declared.Terms.{Terms}
-use Rattle.soft_tails.specs.declared.Figures.{Figures}
+use Rattle.tail_prices.specs.Tails.{priced, change}
+use Rattle.tail_prices.specs.Changes.{costIn, changeOf}
+use Rattle.tail_prices.specs.declared.Terms.{Terms}
+use Rattle.soft_tails.specs.Parts.{measuresFor, better, bestRow, bestOf}
 
 left-out : (a b : Bool) → a ≡ false → (a && b) ≡ false
 left-out false b e = refl
@@ -39,11 +38,6 @@ scan-same : {A B : Type 0} (f : A → B → B) → ((x : A) (b : B) → f x b �
 unfolding scan
 scan-same f same [] b = refl
 scan-same f same (x ∷ xs) b = ap (scan f xs) (same x b) ∙ scan-same f same xs b
-
--- what the code computes is the definition's change
-pub same-change : (c : Columns) (t : Terms) (X Y newX newY : List ℕ) (f : Figures) → Priced c t X Y f → (x new1 new2 : Float) → new1 ≡ costIn c t newX
-    → new2 ≡ costIn c t newY → x ≡ new1 ⊕ new2 ⊖ f .cost1 ⊖ f .cost2 → x ≡ change (costIn c t) X Y newX newY
-same-change c t X Y newX newY f costs x new1 new2 e1 e2 e = rw (e, e1, e2, costs .first-cost, costs .second-cost)
 
 -- both lists have a price
 pub prices-known : (c : Columns) (t : Terms) (X Y : List ℕ) (cost1 cost2 : Float) (a b : Bool) → cost1 ≡ costIn c t X → cost2 ≡ costIn c t Y

@@ -1,5 +1,5 @@
 -- Soft tail exchange as its functions state it: what stays the same over a run, what is known of a pair, the best exchange so far, and the next move.
--- For src/; the engine's own definition is in Tails.antt, and places and moves are those of `exchange`. Assumes nothing.
+-- For src/; the engine's own definition is in tail_prices/specs/Tails.antt, and places and moves are those of `exchange`. Assumes nothing.
 use mathlib.Core.Path.{_≡_}
 use mathlib.Core.Bool.{Bool, _&&_}
 use mathlib.Core.Option.{Option}
@@ -9,24 +9,18 @@ use lib.IntN.{ℤ}
 use lib.ListN.{length}
 use lib.Ieee.{Float}
 use Rattle.labels.specs.Columns.{Columns, Formed}
-use Rattle.evaluation.specs.Route.{effectiveCost}
 use Rattle.edits.specs.Total.{total}
 use Rattle.list_changes.specs.Edits.{joined}
 use Rattle.descent.specs.Permitted.{Measure, room}
 use Rattle.descent.specs.Search.{Search, Judge, Sweep, taken, firstMove, next}
 use Rattle.descent.specs.Across.{Pair, Tails}
 use Rattle.loads.specs.Loads.{boxesOf, Loaded}
-use Rattle.heads.specs.Head.{Driven}
-use Rattle.heads.specs.declared.Head.{Head}
 use Rattle.tails.specs.Best.{exchanging, betterBy, rowBy, bestBy}
 use Rattle.tails.specs.declared.Choice.{Choice}
-use Rattle.soft_tails.specs.Tails.{priced, change, soft-exchange-search, soft-exchange-judge}
-use Rattle.soft_tails.specs.declared.Terms.{Terms}
-use Rattle.soft_tails.specs.declared.Figures.{Figures}
-
--- what a list costs
-abbrev pub costIn : Columns → Terms → List ℕ → Float
-costIn c t = effectiveCost c (t .limits) (t .depot)
+use Rattle.tail_prices.specs.Tails.{priced, soft-exchange-search, soft-exchange-judge}
+use Rattle.tail_prices.specs.Changes.{costIn, Priced, changeOf}
+use Rattle.tail_prices.specs.declared.Terms.{Terms}
+use Rattle.tail_prices.specs.declared.Figures.{Figures}
 
 -- the boxes against what the van holds
 abbrev pub measuresFor : List ℤ → Terms → List Measure
@@ -50,15 +44,6 @@ pub record Asked (c : Columns) (demand : List ℤ) (t : Terms) : Type 0 where
   pub loaded : Loaded (c .l) demand
   pub depot-there : t .depot < c .l
 
--- a head of a list, driven by the van with these terms
-abbrev pub DrivenBy : Columns → Terms → List ℕ → Head → Type 0
-DrivenBy c t = Driven c (t .limits .rest) (t .depot)
-
--- the costs of two lists as they are
-pub record Priced (c : Columns) (t : Terms) (X Y : List ℕ) (f : Figures) : Type 0 where
-  pub first-cost : f .cost1 ≡ costIn c t X
-  pub second-cost : f .cost2 ≡ costIn c t Y
-
 -- and their loads
 pub record Figured (c : Columns) (demand : List ℤ) (t : Terms) (X Y : List ℕ) (f : Figures) : Type 0 where
   pub first-load : f .load1 ≡ total (boxesOf demand) X
@@ -67,15 +52,10 @@ pub record Figured (c : Columns) (demand : List ℤ) (t : Terms) (X Y : List ℕ
 
 -- ---- the best exchange of two lists
 
-module _ (c : Columns) (t : Terms) (X Y : List ℕ) where
-  -- what an exchange changes
-  abbrev pub changeOf : ℕ → ℕ → Float
-  changeOf cut1 cut2 = change (costIn c t) X Y (joined X cut1 Y cut2) (joined Y cut2 X cut1)
-
-  module _ (demand : List ℤ) where
-    -- whether both new lists have room; both lists have a price
-    abbrev pub passBy : ℕ → ℕ → Bool
-    passBy cut1 cut2 = (room (measuresFor demand t) (joined X cut1 Y cut2) && room (measuresFor demand t) (joined Y cut2 X cut1)) && priced (costIn c t) X Y
+module _ (c : Columns) (t : Terms) (X Y : List ℕ) (demand : List ℤ) where
+  -- whether both new lists have room; both lists have a price
+  abbrev pub passBy : ℕ → ℕ → Bool
+  passBy cut1 cut2 = (room (measuresFor demand t) (joined X cut1 Y cut2) && room (measuresFor demand t) (joined Y cut2 X cut1)) && priced (costIn c t) X Y
 
 -- the best so far as in `exchange`
 module _ (c : Columns) (demand : List ℤ) (t : Terms) (X Y : List ℕ) where

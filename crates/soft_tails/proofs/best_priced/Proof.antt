@@ -12,8 +12,9 @@ use Rattle.loads.specs.Loads.{boxesOf}
 use Rattle.tails.specs.Best.{scan, bestBy}
 use Rattle.tails.proofs.Turns.{scan-turn, scan-end}
 use Rattle.loads.proofs.Boxes.{load-more, sum-small}
-use Rattle.soft_tails.specs.Parts.{DrivenBy, bestRow, bestOf}
-use Rattle.soft_tails.proofs.Behind.{first-visits}
+use Rattle.tail_prices.specs.Changes.{DrivenBy}
+use Rattle.soft_tails.specs.Parts.{bestRow, bestOf}
+use Rattle.tail_prices.proofs.Behind.{first-visits}
 use Rattle.soft_tails.proofs.best_priced.Statement.{statement}
 use Rattle.soft_tails.proofs.best_priced.Tie as tie
 

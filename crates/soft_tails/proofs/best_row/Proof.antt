@@ -12,8 +12,9 @@ use Rattle.loads.specs.Loads.{boxesOf}
 use Rattle.tails.specs.Best.{scan, rowBy}
 use Rattle.tails.proofs.Turns.{scan-turn, scan-end}
 use Rattle.loads.proofs.Boxes.{load-small, load-more, load-joined, sum-small, head-small}
-use Rattle.soft_tails.specs.Parts.{DrivenBy, better, bestRow}
-use Rattle.soft_tails.proofs.Behind.{second-visits}
+use Rattle.tail_prices.specs.Changes.{DrivenBy}
+use Rattle.soft_tails.specs.Parts.{better, bestRow}
+use Rattle.tail_prices.proofs.Behind.{second-visits}
 use Rattle.soft_tails.proofs.best_row.Statement.{statement}
 use Rattle.soft_tails.proofs.best_row.Tie as tie
 

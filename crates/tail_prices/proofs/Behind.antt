@@ -1,10 +1,13 @@
--- A new list behind the first list's head: where the head ends at the cut, it is the other list's tail, and the new list shares the head. Assumes nothing.
+-- A new list behind the first list's head: where the head ends at the cut, it is the other list's tail, and the new list shares the head. And what an
+-- exchange changes, as the code adds it up. Assumes nothing.
 use mathlib.Core.Path.{_≡_, ap, _∙_}
 use mathlib.Core.List.{List}
 use Prim.Native.Nat.{ℕ, _+_, _-_, _≤_}
 use native.Mathlib.Omega.{arith}
 use lib.ListN.{length, take, drop, length-drop}
+use lib.Ieee.{Float}
 use lib.Seq.{take-at, drop-at, getD-drop, length-take-le}
+use Rattle.numbers.specs.Operations.{_⊕_, _⊖_}
 use Rattle.edits.proofs.Cuts.{to-end, lent}
 use Rattle.day.specs.declared.vehicle.RouteLimits.{RouteLimits}
 use Rattle.labels.specs.Columns.{Columns, Visits}
@@ -14,6 +17,10 @@ use Rattle.heads.specs.declared.Head.{Head}
 use Rattle.heads.proofs.Heads.{from-head}
 use Rattle.list_changes.specs.Edits.{joined}
 use Rattle.tails.specs.Best.{Two}
+use Rattle.tail_prices.specs.Tails.{change}
+use Rattle.tail_prices.specs.Changes.{costIn, Priced}
+use Rattle.tail_prices.specs.declared.Terms.{Terms}
+use Rattle.tail_prices.specs.declared.Figures.{Figures}
 
 module _ (l : ℕ) (X Y : List ℕ) (two : Two l X Y) where
   -- each of two lists
@@ -48,3 +55,8 @@ pub price-behind : (c : Columns) (limits : RouteLimits) (depot : ℕ) (X Y : Lis
 price-behind c limits depot X Y cut1 cut2 head driven at-cut within =
     ap (priceFrom c limits depot head) (tail-behind X Y cut1 cut2 (head .visits) (within .0) at-cut (within .1))
     ∙ from-head c limits depot X (joined X cut1 Y cut2) head driven (shares X Y cut1 cut2 (head .visits) (within .0) at-cut)
+
+-- what the code computes is the definition's change
+pub same-change : (c : Columns) (t : Terms) (X Y newX newY : List ℕ) (f : Figures) → Priced c t X Y f → (x new1 new2 : Float) → new1 ≡ costIn c t newX
+    → new2 ≡ costIn c t newY → x ≡ new1 ⊕ new2 ⊖ f .cost1 ⊖ f .cost2 → x ≡ change (costIn c t) X Y newX newY
+same-change c t X Y newX newY f costs x new1 new2 e1 e2 e = rw (e, e1, e2, costs .first-cost, costs .second-cost)

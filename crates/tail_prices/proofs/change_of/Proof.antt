@@ -4,8 +4,8 @@ use mathlib.Core.Path.{sym, _∙_}
 use borrow.Author.Tests.{not-false, eqb-true}
 use lib.Dec.{eqb}
 use Rattle.tests.specs.All.{and-first, and-second}
-use Rattle.soft_tails.proofs.change_of.Statement.{statement}
-use Rattle.soft_tails.proofs.change_of.Tie as tie
+use Rattle.tail_prices.proofs.change_of.Statement.{statement}
+use Rattle.tail_prices.proofs.change_of.Tie as tie
 
 both-requires : tie.Need-both-requires
 both-requires c κs = search needs

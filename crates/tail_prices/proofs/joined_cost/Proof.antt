@@ -3,8 +3,8 @@ use borrow.Author.Needs.{needs}
 use mathlib.Core.Path.{ap, _∙_}
 use Rattle.evaluation.specs.Route.{effectiveCost}
 use Rattle.tails.proofs.Joined.{visits-joined, built, front}
-use Rattle.soft_tails.proofs.joined_cost.Statement.{statement}
-use Rattle.soft_tails.proofs.joined_cost.Tie as tie
+use Rattle.tail_prices.proofs.joined_cost.Statement.{statement}
+use Rattle.tail_prices.proofs.joined_cost.Tie as tie
 
 slice-aggregate-append-stretch : tie.Need-slice-aggregate-append-stretch
 slice-aggregate-append-stretch c = search needs

@@ -2,10 +2,9 @@
 use borrow.Author.Needs.{needs}
 use mathlib.Core.Path.{_∙_}
 use Rattle.tails.proofs.Joined.{two-turned}
-use Rattle.soft_tails.proofs.Behind.{tail-visits, price-behind}
-use Rattle.soft_tails.proofs.Considering.{same-change}
-use Rattle.soft_tails.proofs.change_behind.Statement.{statement}
-use Rattle.soft_tails.proofs.change_behind.Tie as tie
+use Rattle.tail_prices.proofs.Behind.{tail-visits, price-behind, same-change}
+use Rattle.tail_prices.proofs.change_behind.Statement.{statement}
+use Rattle.tail_prices.proofs.change_behind.Tie as tie
 
 mul-price-from : tie.Need-mul-price-from
 mul-price-from c = search needs

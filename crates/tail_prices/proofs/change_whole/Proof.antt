@@ -1,9 +1,9 @@
 -- `change_whole`: each new list's cost is its callee's answer.
 use borrow.Author.Needs.{needs}
 use Rattle.tails.proofs.Joined.{two-turned}
-use Rattle.soft_tails.proofs.Considering.{same-change}
-use Rattle.soft_tails.proofs.change_whole.Statement.{statement}
-use Rattle.soft_tails.proofs.change_whole.Tie as tie
+use Rattle.tail_prices.proofs.Behind.{same-change}
+use Rattle.tail_prices.proofs.change_whole.Statement.{statement}
+use Rattle.tail_prices.proofs.change_whole.Tie as tie
 
 joined-cost-requires : tie.Need-joined-cost-requires
 joined-cost-requires c κs =
