@@ -1,14 +1,14 @@
 // The clock of a list that carries the driver's break, evaluation/schedule.rs. The break can go at any stop, and the best one depends on the
 // windows after it. So the clock keeps two labels: the earliest with the break still to take, and with it taken. To be earlier is never worse.
+use day::matrix::get;
+use day::matrix::travel_time;
+use day::vehicle::VehicleBreak;
 use labels::label::Label;
 use labels::label::Reached;
 use labels::label::Taken;
 use labels::label::at_start;
 use labels::label::earlier;
 use labels::stop::stop_of;
-use day::matrix::get;
-use day::matrix::travel_time;
-use day::vehicle::VehicleBreak;
 use tests::either;
 ghost use mathlib.Core.Path.{_≡_};
 ghost use Prim.Native.Nat.{_<_};

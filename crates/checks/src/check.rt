@@ -1,9 +1,9 @@
 // The entries that look at one list and change nothing: its distance, whether it passes, what it comes to, and its schedule.
+use break_clock::Outcome;
 use day::vehicle::RouteLimits;
 use day::vehicle::Van;
-use labels::label::Taken;
 use evaluation::route::Evaluation;
-use break_clock::Outcome;
+use labels::label::Taken;
 use lists::list_of;
 use refusals::refusal_of;
 ghost use mathlib.Core.Path.{_≡_};

@@ -1,20 +1,20 @@
 // evaluation/mod.rs: whether a list passes, what it costs, and whether a search has to ask.
-use labels::label::Reached;
-use labels::label::Taken;
-use labels::label::at_start;
-use labels::label::serve;
-use break_clock::Outcome;
-use break_clock::end_with;
-use break_clock::schedule;
-use labels::stop::stop_of;
 use crate::unclocked::Unclocked;
 use crate::unclocked::is_clockless;
 use crate::unclocked::unclocked_distance;
+use break_clock::Outcome;
+use break_clock::end_with;
+use break_clock::schedule;
 use day::customer::has_time_windows;
 use day::matrix::get;
 use day::matrix::travel_time;
 use day::vehicle::Rest;
 use day::vehicle::RouteLimits;
+use labels::label::Reached;
+use labels::label::Taken;
+use labels::label::at_start;
+use labels::label::serve;
+use labels::stop::stop_of;
 use numbers::infinite;
 use tests::either;
 ghost use mathlib.Core.Path.{_≡_};

@@ -11,13 +11,13 @@ use Rattle.descent.specs.Within.{Reversal}
 use Rattle.engine.specs.declared.Ended.{Ended}
 use Rattle.engine.specs.declared.Ended.the-variants.{Settled, Stopped}
 use Rattle.engine.specs.Engine.{endedAs}
-use Rattle.two_opt.specs.declared.Terms.{Terms}
-use Rattle.two_opt.specs.declared.Place.{Place}
-use Rattle.two_opt.specs.declared.Found.{Found}
-use Rattle.two_opt.specs.declared.Found.the-variants.{At, Nothing}
-use Rattle.two_opt.specs.TwoOpt.{placeAfter, from, turnedAt, nextTurn, led, Searched}
+use Rattle.reversals.specs.declared.Terms.{Terms}
+use Rattle.reversals.specs.declared.Place.{Place}
+use Rattle.reversals.specs.declared.Found.{Found}
+use Rattle.reversals.specs.declared.Found.the-variants.{At, Nothing}
+use Rattle.reversals.specs.Reversals.{placeAfter, from, turnedAt, nextTurn, led, Searched}
 use Rattle.engine.proofs.Running.{Going, going-starts, going-settles, going-stops, going-moves}
-use Rattle.two_opt.proofs.Turns.{left-as-it-was, left-turned, turned-back}
+use Rattle.reversals.proofs.Turns.{left-as-it-was, left-turned, turned-back}
 
 -- a run of a list that stands at a list, with the places from one on ahead
 abbrev pub Turning : Columns → Terms → ℕ → List ℕ → ℕ → List ℕ → Place → Type 0

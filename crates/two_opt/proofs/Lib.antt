@@ -1,5 +1,2 @@
-pub mod Places
-pub mod Turns
-pub mod Tried
 pub mod Going
 pub mod Claimed

@@ -5,9 +5,9 @@ use Prim.Native.Nat.{_-_}
 use mathlib.Core.Path.{_≡_, refl, sym, ap, _∙_}
 use lib.ListN.{length}
 use Rattle.labels.specs.Columns.{columns, Visits}
-use Rattle.two_opt.specs.TwoOpt.{InSweep}
-use Rattle.two_opt.proofs.Places.{none-ahead, still-in, from-end}
-use Rattle.two_opt.proofs.Turns.{left-as-it-was, left-turned, turned-visits, turned-back}
+use Rattle.reversals.specs.Reversals.{InSweep}
+use Rattle.reversals.proofs.Places.{none-ahead, still-in, from-end}
+use Rattle.reversals.proofs.Turns.{left-as-it-was, left-turned, turned-visits, turned-back}
 use Rattle.two_opt.proofs.Going.{Turning, turning-starts, settles, stops, goes}
 use Rattle.two_opt.proofs.run_moves.Statement.{statement}
 use Rattle.two_opt.proofs.run_moves.Tie as tie

@@ -1,7 +1,7 @@
 -- `two_opt_improve`: the constants are those of the day and the van, so that the run is the definition's.
 use borrow.Author.Needs.{needs}
 use Rattle.descent.specs.Engines.{run-of}
-use Rattle.two_opt.specs.TwoOpt.{nextTurn}
+use Rattle.reversals.specs.Reversals.{nextTurn}
 use Rattle.two_opt.proofs.two_opt_improve.Statement.{statement}
 use Rattle.two_opt.proofs.two_opt_improve.Tie as tie
 

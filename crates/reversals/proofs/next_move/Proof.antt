@@ -1,9 +1,9 @@
 -- `next_move`: the first search covers the places ahead; where it finds nothing the list is as it was, and the second covers all places.
 use borrow.Author.Needs.{needs}
-use Rattle.two_opt.proofs.Places.{start-in}
-use Rattle.two_opt.proofs.Turns.{left-as-it-was, found-ahead, found-anew}
-use Rattle.two_opt.proofs.next_move.Statement.{statement}
-use Rattle.two_opt.proofs.next_move.Tie as tie
+use Rattle.reversals.proofs.Places.{start-in}
+use Rattle.reversals.proofs.Turns.{left-as-it-was, found-ahead, found-anew}
+use Rattle.reversals.proofs.next_move.Statement.{statement}
+use Rattle.reversals.proofs.next_move.Tie as tie
 
 first-move-requires : tie.Need-first-move-requires
 first-move-requires c κs =

@@ -17,13 +17,13 @@ use Rattle.labels.specs.Columns.{Columns, Visits}
 use Rattle.descent.specs.Search.{Sweep, taken, firstMove}
 use Rattle.descent.specs.Within.{Reversal, turned}
 use Rattle.descent.proofs.Loops.{place-passed, place-moved, one-taken, one-left, next-ahead, next-sweep}
-use Rattle.two_opt.specs.declared.Terms.{Terms}
-use Rattle.two_opt.specs.declared.Place.{Place}
-use Rattle.two_opt.specs.declared.Found.{Found}
-use Rattle.two_opt.specs.declared.Found.the-variants.{At, Nothing}
-use Rattle.two_opt.specs.TwoOpt.{searching, judging, InSweep, reversalAt, placeAfter, from, gains, turnedAt, firstTurn, nextTurn}
-use Rattle.two_opt.specs.TwoOpt.{led, leaves, Inside, Searched}
-use Rattle.two_opt.proofs.Places.{from-turn, from-end, from-start}
+use Rattle.reversals.specs.declared.Terms.{Terms}
+use Rattle.reversals.specs.declared.Place.{Place}
+use Rattle.reversals.specs.declared.Found.{Found}
+use Rattle.reversals.specs.declared.Found.the-variants.{At, Nothing}
+use Rattle.reversals.specs.Reversals.{searching, judging, InSweep, reversalAt, placeAfter, from, gains, turnedAt, firstTurn, nextTurn}
+use Rattle.reversals.specs.Reversals.{led, leaves, Inside, Searched}
+use Rattle.reversals.proofs.Places.{from-turn, from-end, from-start}
 
 -- a reversal in the definition's words
 pub turned-is : (xs : List ℕ) (p : Place) → turned xs (reversalAt p) ≡ turnedAt xs p

@@ -5,11 +5,11 @@ use native.Mathlib.Omega.{arith}
 use mathlib.Core.Path.{_≡_, refl, ap, _∙_}
 use lib.ListN.{length}
 use Rattle.labels.specs.Columns.{columns}
-use Rattle.two_opt.specs.TwoOpt.{InSweep, Shared, from, firstTurn, leaves, Inside}
-use Rattle.two_opt.proofs.Places.{left-less, still-in, none-shared, still-behind}
-use Rattle.two_opt.proofs.Turns.{found-here, not-here, none-left}
-use Rattle.two_opt.proofs.first_move.Statement.{statement}
-use Rattle.two_opt.proofs.first_move.Tie as tie
+use Rattle.reversals.specs.Reversals.{InSweep, Shared, from, firstTurn, leaves, Inside}
+use Rattle.reversals.proofs.Places.{left-less, still-in, none-shared, still-behind}
+use Rattle.reversals.proofs.Turns.{found-here, not-here, none-left}
+use Rattle.reversals.proofs.first_move.Statement.{statement}
+use Rattle.reversals.proofs.first_move.Tie as tie
 
 abbrev Inv-loop : tie.InvT-loop
 Inv-loop terms flags service ready due penalty distances times list₀ n rest head₀ place₀ list head place =

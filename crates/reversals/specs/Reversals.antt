@@ -22,10 +22,10 @@ use Rattle.descent.specs.Within.{Reversal, two-opt-search}
 use Rattle.descent.proofs.Loops.{reversals-from}
 use Rattle.deltas.specs.Judged.{float-judge}
 use Rattle.engine.specs.Engine.{checksOf, mapOf}
-use Rattle.two_opt.specs.declared.Terms.{Terms}
-use Rattle.two_opt.specs.declared.Place.{Place}
-use Rattle.two_opt.specs.declared.Found.{Found}
-use Rattle.two_opt.specs.declared.Found.the-variants.{At, Nothing}
+use Rattle.reversals.specs.declared.Terms.{Terms}
+use Rattle.reversals.specs.declared.Place.{Place}
+use Rattle.reversals.specs.declared.Found.{Found}
+use Rattle.reversals.specs.declared.Found.the-variants.{At, Nothing}
 
 -- what a run works out once, before its first move, from the day's columns and the van
 pub record Worked (c : Columns) (t : Terms) : Type 0 where

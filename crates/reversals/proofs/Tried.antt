@@ -11,10 +11,10 @@ use Rattle.labels.specs.Columns.{Columns, Visits}
 use Rattle.descent.specs.Search.{ok}
 use Rattle.deltas.specs.Deltas.{Marked, Listed, twoOptDelta}
 use Rattle.engine.specs.Engine.{passing}
-use Rattle.two_opt.specs.declared.Terms.{Terms}
-use Rattle.two_opt.specs.declared.Place.{Place}
-use Rattle.two_opt.specs.TwoOpt.{Worked, judging, reversalAt, gains, turnedAt}
-use Rattle.two_opt.proofs.Turns.{turned-is}
+use Rattle.reversals.specs.declared.Terms.{Terms}
+use Rattle.reversals.specs.declared.Place.{Place}
+use Rattle.reversals.specs.Reversals.{Worked, judging, reversalAt, gains, turnedAt}
+use Rattle.reversals.proofs.Turns.{turned-is}
 
 -- what the delta asks
 pub delta-asks : (c : Columns) (t : Terms) (xs : List ℕ) → Worked c t → Visits (c .l) xs

@@ -3,9 +3,9 @@ use borrow.Author.Needs.{needs}
 use borrow.Author.Tests.{lt-ltb, le-ltb}
 use mathlib.Core.Path.{refl}
 use Rattle.tests.specs.Pick.{picked, other}
-use Rattle.two_opt.specs.TwoOpt.{placeAfter}
-use Rattle.two_opt.proofs.place_after.Statement.{statement}
-use Rattle.two_opt.proofs.place_after.Tie as tie
+use Rattle.reversals.specs.Reversals.{placeAfter}
+use Rattle.reversals.proofs.place_after.Statement.{statement}
+use Rattle.reversals.proofs.place_after.Tie as tie
 
 add-if1 : tie.Need-add-if1
 add-if1 c = search needs

@@ -4,9 +4,9 @@ use borrow.Author.Tests.{not-true, not-false}
 use native.Mathlib.Omega.{arith}
 use mathlib.Core.Path.{_≡_, refl, sym, _∙_}
 use Rattle.layouts.proofs.Layouts.{reversal-cut, reversal-laid}
-use Rattle.two_opt.proofs.Tried.{delta-asks, no-gain, checked}
-use Rattle.two_opt.proofs.try_reversal.Statement.{statement}
-use Rattle.two_opt.proofs.try_reversal.Tie as tie
+use Rattle.reversals.proofs.Tried.{delta-asks, no-gain, checked}
+use Rattle.reversals.proofs.try_reversal.Statement.{statement}
+use Rattle.reversals.proofs.try_reversal.Tie as tie
 
 add-end : tie.Need-add-end
 add-end c =
