@@ -1,9 +1,9 @@
 // A run of relocate where the best move of every pair of lists is known (relocate.rs, the loop of `relocate_improve`): the least of the table is made, and
 // the table follows, until none gains or the limit is used up.
-use changes::move_and_search;
 use engine::Ended;
 use pairs::best_pair;
 use places::Setup;
+use relocation_changes::move_and_search;
 ghost use mathlib.Core.Path.{_≡_};
 ghost use mathlib.Core.Bool.{false};
 ghost use mathlib.Core.List.{[], _∷_};

@@ -2,9 +2,9 @@
 use mathlib.Core.Path.{_∙_}
 use native.Mathlib.Omega.{arith}
 use Rattle.loads.proofs.Tables.{list-visits, visit-below, still-held}
-use Rattle.changes.proofs.Moving.{position-small, place-small, giver-room, receiver-room, place-low, known-after}
-use Rattle.changes.proofs.make_move.Statement.{statement}
-use Rattle.changes.proofs.make_move.Tie as tie
+use Rattle.relocation_changes.proofs.Moving.{position-small, place-small, giver-room, receiver-room, place-low, known-after}
+use Rattle.relocation_changes.proofs.make_move.Statement.{statement}
+use Rattle.relocation_changes.proofs.make_move.Tie as tie
 
 visit-of-requires : tie.Need-visit-of-requires
 visit-of-requires c κs =

@@ -3,8 +3,8 @@ use mathlib.Core.Path.{_∙_}
 use native.Mathlib.Omega.{arith}
 use Rattle.loads.proofs.Tables.{still-held}
 use Rattle.relocations.proofs.Searching.{moved-right}
-use Rattle.changes.proofs.move_and_search.Statement.{statement}
-use Rattle.changes.proofs.move_and_search.Tie as tie
+use Rattle.relocation_changes.proofs.move_and_search.Statement.{statement}
+use Rattle.relocation_changes.proofs.move_and_search.Tie as tie
 
 make-move-requires : tie.Need-make-move-requires
 make-move-requires c κs =

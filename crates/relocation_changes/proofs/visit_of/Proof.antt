@@ -6,8 +6,8 @@ use Prim.Native.Nat.{ℕ}
 use native.Mathlib.Omega.{arith}
 use lib.ListN.{length, getD}
 use Rattle.lists.proofs.Tables.{start-within, length-list}
-use Rattle.changes.proofs.visit_of.Statement.{statement}
-use Rattle.changes.proofs.visit_of.Tie as tie
+use Rattle.relocation_changes.proofs.visit_of.Statement.{statement}
+use Rattle.relocation_changes.proofs.visit_of.Tie as tie
 
 list-of-requires : tie.Need-list-of-requires
 list-of-requires c κs = (c .before .before .pre .0, c .before .before .pre .1)
