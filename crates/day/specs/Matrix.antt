@@ -4,7 +4,8 @@ use native.Mathlib.Nat.{suc-mul, mul-le-mul-right}
 use native.Mathlib.Omega.{arith}
 use mathlib.Core.Path.{_≡_, refl, sym, _∙_}
 use mathlib.Core.List.{List}
-use mathlib.Core.Bool.{Bool, false, cond}
+use mathlib.Core.Bool.{Bool, true, false, not, cond}
+use borrow.Author.Tests.{not-true}
 use lib.Dec.{eqb}
 use lib.ListN.{length, getD, drop, drop-of-length-le}
 use lib.Seq.{drop-cons}
@@ -12,7 +13,7 @@ use native.Mathlib.Numerals.{add-one}
 use lib.Ieee.{Float, nan, eq, lt}
 use Rattle.numbers.specs.Operations.{zero64}
 use Rattle.numbers.specs.Total.{larger, largest}
-use Rattle.tests.specs.All.{allBelow}
+use Rattle.tests.specs.All.{allBelow, allFour, of-four}
 
 -- 01: 'Distances: L times L numbers, row = from' (`get`)
 unfoldable pub leg : ℕ → List Float → ℕ → ℕ → Float
@@ -66,3 +67,14 @@ module _ (table : List Float) (i : ℕ) (most : Float) where
   pub largest-end : length table ≤ i → largest most (drop i table) ≡ most
   unfolding largest
   largest-end h = rw (drop-of-length-le table h)
+
+-- four entries that aren't larger change nothing
+pub largest-passed-four : (table : List Float) (i : ℕ) (most : Float) → i + 4 ≤ length table → allFour (λ k. not (lt most (getD table k nan))) i ≡ true
+    → largest most (drop (i + 4) table) ≡ largest most (drop i table)
+largest-passed-four table i most h smaller =
+    let each = of-four (λ k. not (lt most (getD table k nan))) i smaller in
+    past (i + 3) (i + 4) (omega arith) (omega (arith, h)) (each .3) ∙ past (i + 2) (i + 3) (omega arith) (omega (arith, h)) (each .2)
+    ∙ past (i + 1) (i + 2) (omega arith) (omega (arith, h)) (each .1) ∙ past i (i + 1) refl (omega (arith, h)) (each .0)
+  where
+    past : (k n : ℕ) → n ≡ k + 1 → k < length table → not (lt most (getD table k nan)) ≡ true → largest most (drop n table) ≡ largest most (drop k table)
+    past k n e below s = rw e (largest-passed table k most below (not-true (lt most (getD table k nan)) s))

@@ -1,9 +1,12 @@
 // distance/matrix.rs over lent tables. The infinite answers outside the size can't occur: callers show that both places are locations.
 use numbers::larger_of;
 ghost use mathlib.Core.Path.{_≡_};
-ghost use Prim.Native.Nat.{_≤_, _<_};
-ghost use lib.ListN.{length, drop};
+ghost use mathlib.Core.Bool.{not};
+ghost use Prim.Native.Nat.{_+_, _≤_, _<_};
+ghost use lib.ListN.{length, getD, drop};
+ghost use lib.Ieee.{nan, lt};
 ghost use Rattle.numbers.specs.Total.{largest};
+ghost use Rattle.tests.specs.All.{allFour};
 ghost use Rattle.day.specs.Matrix.{leg, travel, scaleOf, mirrored, symmetric, Square, Tables};
 
 // The distance from a location to a location.
@@ -25,13 +28,38 @@ pub fn travel_time(l: usize, distances: &[f64], times: &[f64], from: usize, to: 
     get(l, times, from, to)
 }
 
+// Whether none of the four entries from a position on is larger than `most`.
+fn four_smaller(distances: &[f64], i: usize, most: f64) -> bool
+    requires { ⌜ i + 4 ≤ length (now distances) ⌝ }
+    ensures { λ r. ⌜ r ≡ allFour (λ k. not (lt most (getD (now (distances .entry)) k nan))) i ⌝ }
+{
+    !(most < distances[i])
+        & (!(most < distances[i + 1]) & (!(most < distances[i + 2]) & !(most < distances[i + 3])))
+}
+
+// From a position on, over fours of which none is larger than `most`: what is passed over changes nothing.
+fn past_smaller(distances: &[f64], from: usize, most: f64) -> usize
+    requires { ⌜ from ≤ length (now distances) ⌝ }
+    ensures { λ r. ⌜ (from ≤ r) × (r ≤ length (now (distances .entry))) ⌝ }
+    ensures { λ r. ⌜ largest most (drop r (now (distances .entry))) ≡ largest most (drop from (now (distances .entry))) ⌝ }
+{
+    let mut i = from;
+    while distances.len() - i >= 4 {
+        if !four_smaller(distances, i, most) {
+            return i;
+        }
+        i += 4;
+    }
+    i
+}
+
 // Where, from a position on, an entry is larger than `most`, and behind the table where none is: what lies before it changes nothing.
 fn next_larger(distances: &[f64], from: usize, most: f64) -> usize
     requires { ⌜ from ≤ length (now distances) ⌝ }
     ensures { λ r. ⌜ (from ≤ r) × (r ≤ length (now (distances .entry))) ⌝ }
     ensures { λ r. ⌜ largest most (drop r (now (distances .entry))) ≡ largest most (drop from (now (distances .entry))) ⌝ }
 {
-    let mut i = from;
+    let mut i = past_smaller(distances, from, most);
     while i < distances.len() {
         if most < distances[i] {
             return i;

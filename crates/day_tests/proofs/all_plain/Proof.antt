@@ -6,7 +6,7 @@ use mathlib.Core.Bool.{true}
 use lib.ListN.{length, getD}
 use lib.Ieee.{nan}
 use Rattle.numbers.specs.Plain.{plain}
-use Rattle.tests.specs.All.{allBelow, all-none, all-more, all-fails, all-end, no, yes}
+use Rattle.tests.specs.All.{allBelow, all-more, all-fails, all-end, no, yes}
 use Rattle.day.specs.Refusal.{allPlain}
 use Rattle.day_tests.proofs.all_plain.Statement.{statement}
 use Rattle.day_tests.proofs.all_plain.Tie as tie
@@ -17,8 +17,11 @@ Inv-loop table i₀ i = (i ≤ length table) × (allBelow (λ k. plain (getD tab
 abbrev μ-loop : tie.MeasureT-loop
 μ-loop table i₀ i = length table - i
 
+plain-fours-requires : tie.Need-plain-fours-requires Inv-loop μ-loop
+plain-fours-requires c κs = search needs
+
 loop-holds : tie.Need-loop-holds Inv-loop μ-loop
-loop-holds c = (search needs, all-none _)
+loop-holds c = c .plain-fours .ensures
 
 mul-is-plain : tie.Need-mul-is-plain Inv-loop μ-loop
 mul-is-plain c = search needs
@@ -52,6 +55,7 @@ all-plain-spec =
     (tie.spec
     Inv-loop
     μ-loop
+    plain-fours-requires
     loop-holds
     mul-is-plain
     shared-slice-read-is-plain

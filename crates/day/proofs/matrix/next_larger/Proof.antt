@@ -16,8 +16,11 @@ Inv-loop distances from most i₀ i =
 abbrev μ-loop : tie.MeasureT-loop
 μ-loop distances from most i₀ i = length distances - i
 
+past-smaller-requires : tie.Need-past-smaller-requires Inv-loop μ-loop
+past-smaller-requires c κs = search needs
+
 loop-holds : tie.Need-loop-holds Inv-loop μ-loop
-loop-holds c = (omega arith, c .pre, refl)
+loop-holds c = let past = c .past-smaller .ensures in (past .0 .0, past .0 .1, past .1)
 
 mul-if1 : tie.Need-mul-if1 Inv-loop μ-loop
 mul-if1 c = search needs
@@ -48,6 +51,7 @@ next-larger-spec =
     (tie.spec
     Inv-loop
     μ-loop
+    past-smaller-requires
     loop-holds
     mul-if1
     shared-slice-read-if1
