@@ -1,6 +1,6 @@
 // The entry across depots, which changes all lists in place and the ids of their vans. `settled`, `moves` and `remaining` are written as by the entries of
 // rearrange.rt.
-use crate::rearrange::write_rearranged;
+use written::write_rearranged;
 ghost use mathlib.Core.Path.{_≡_};
 ghost use lib.ListN.{take};
 ghost use Rattle.day.specs.Day.{dayAt};
@@ -10,7 +10,7 @@ ghost use Rattle.fleet.specs.Fleet.{fleetAt};
 ghost use Rattle.cross_moves.specs.CrossDepot.{Carried};
 ghost use Rattle.crossings.specs.CrossDepot.{crossAnswer, crossVisits, crossLengths, crossIds};
 ghost use Rattle.rearrangements.specs.Rearrange.{remainingIn};
-ghost use Rattle.planner_c.specs.Written.{rearrangeCode, overSettledIn, overMovesIn, remainingWritten};
+ghost use Rattle.written.specs.Written.{rearrangeCode, overSettledIn, overMovesIn, remainingWritten};
 
 // Relocation, swap and tail exchange between lists, each under the van of its id.
 #[no_mangle]

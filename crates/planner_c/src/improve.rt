@@ -1,6 +1,6 @@
 // The entries that change one list in place. `settled` is written 1 where no permitted move gains any more, and 0 where the limit was used up.
 use day::vehicle::Van;
-use planner::improve::Improved;
+use written::write_improved;
 ghost use mathlib.Core.Path.{_≡_};
 ghost use Rattle.day.specs.Day.{dayAt};
 ghost use Rattle.edits.specs.Total.{SameVisits};
@@ -9,38 +9,7 @@ ghost use Rattle.descent.specs.Permitted.{two-opt, or-opt, three-opt, n-minus-l
 ghost use Rattle.neighbours.specs.declared.Neighbourhood.the-variants.{Reverse, Relocate, Reconnect};
 ghost use Rattle.improvements.specs.Improve.{improveAnswer, improveVisits, reported};
 ghost use Rattle.claims.specs.Demand3.{Claimed};
-ghost use Rattle.planner_c.specs.Written.{improveCode, settledIn, movesIn, endDistanceIn};
-
-// Writes how a run ended, if it was not refused.
-fn write_improved(answer: Improved, settled: &mut u8, moves: &mut u32, distance: &mut f64) -> u8
-    ensures { λ r.
-        ⌜ (r ≡ improveCode answer)
-        × (now (settled .exit) ≡ settledIn answer (now (settled .entry)))
-        × (now (moves .exit) ≡ movesIn answer (now (moves .entry)))
-        × (now (distance .exit) ≡ endDistanceIn answer (now (distance .entry))) ⌝ }
-{
-    match answer {
-        Improved::Refused(n) => n,
-        Improved::Settled {
-            moves: m,
-            distance: x,
-        } => {
-            *settled = 1;
-            *moves = m;
-            *distance = x;
-            0
-        }
-        Improved::Stopped {
-            moves: m,
-            distance: x,
-        } => {
-            *settled = 0;
-            *moves = m;
-            *distance = x;
-            0
-        }
-    }
-}
+ghost use Rattle.written.specs.Written.{improveCode, settledIn, movesIn, endDistanceIn};
 
 // 2-opt of the list asked for.
 #[no_mangle]

@@ -5,21 +5,22 @@ pub mod rearrange; // engines over all lists
 pub mod depots; // the engine over all lists and a fleet
 
 use day::vehicle::Van;
-use labels::label::Taken;
 use planner::check::Distance;
 use planner::check::Evaluated;
 use planner::check::Feasibility;
 use planner::check::Timetable;
 use planner::table::Table;
+use written::bit_of;
+use written::write_taken;
 ghost use mathlib.Core.Path.{_≡_};
 ghost use Rattle.day.specs.Day.{dayAt};
 ghost use Rattle.fleet.specs.Fleet.{fleetAt};
 ghost use Rattle.refusals.specs.Refusal.{refusal, refusalOfLists, refusalOfFleet};
 ghost use Rattle.checks.specs.Answer.{tableAnswer, distanceAnswer, feasibleAnswer, evalAnswer, scheduleAnswer};
-ghost use Rattle.planner_c.specs.Written.{distanceCode, distanceIn, feasibleCode, passesIn, evalCode, evalPasses, evalIn};
-ghost use Rattle.planner_c.specs.Written.{scheduleCode, foundIn, scheduleIn, takenIn, positionIn, startIn};
-ghost use Rattle.planner_c.specs.Written.{distanceOf, durationOf, latenessOf, latenessCostOf, takenCode, takenPosition, takenStart};
-ghost use Rattle.planner_c.specs.Written.{tableCode, scaleIn, floorIn, bitOf, symmetricIn, fixedIn, depotsIn};
+ghost use Rattle.written.specs.Written.{distanceCode, distanceIn, feasibleCode, passesIn, evalCode, evalPasses, evalIn};
+ghost use Rattle.written.specs.Written.{scheduleCode, foundIn, scheduleIn, takenIn, positionIn, startIn};
+ghost use Rattle.written.specs.Written.{distanceOf, durationOf, latenessOf, latenessCostOf};
+ghost use Rattle.written.specs.Written.{tableCode, scaleIn, floorIn, symmetricIn, fixedIn, depotsIn};
 
 // The number of the first refusal of a call that asks for a list, 0 where there is none.
 #[no_mangle]
@@ -332,24 +333,6 @@ pub extern "C" fn planner_route_eval(
     }
 }
 
-// Writes where the break is taken, if it is.
-fn write_taken(rest: Taken, taken: &mut u8, position: &mut usize, start: &mut f64)
-    ensures { λ _.
-        ⌜ (now (taken .exit) ≡ takenCode rest) × (now (position .exit) ≡ takenPosition rest (now (position .entry))) ×
-        (now (start .exit) ≡ takenStart rest (now (start .entry))) ⌝ }
-{
-    match rest {
-        Taken::Untaken => {
-            *taken = 0;
-        }
-        Taken::At(p, s) => {
-            *taken = 1;
-            *position = p;
-            *start = s;
-        }
-    }
-}
-
 // The schedule of the list asked for, where it has one.
 #[no_mangle]
 pub extern "C" fn planner_schedule(
@@ -426,15 +409,6 @@ pub extern "C" fn planner_schedule(
             0
         }
     }
-}
-
-fn bit_of(b: bool) -> u8
-    ensures { λ r. ⌜ r ≡ bitOf b ⌝ }
-{
-    if b {
-        return 1;
-    }
-    0
 }
 
 // What the searches work out of the day and the van before the first move.

@@ -1,7 +1,7 @@
 // The entries across lists, which change all lists in place. `settled` is written 1 where no permitted move gains any more, and 0 where the limit was
 // used up; `remaining` is the number of lists handed back.
 use day::vehicle::Van;
-use planner::rearrange::Rearranged;
+use written::write_rearranged;
 ghost use mathlib.Core.Path.{_≡_};
 ghost use mathlib.Core.Bool.{false};
 ghost use lib.ListN.{take};
@@ -12,43 +12,7 @@ ghost use Rattle.descent.specs.Permitted.{relocate, tail-exchange};
 ghost use Rattle.across.specs.Across.{relocateRan, exchangeRan};
 ghost use Rattle.rearrangements.specs.Rearrange.{rearrangeAnswer, rearrangeVisits, rearrangeLengths, reportedOver, remainingIn};
 ghost use Rattle.claims.specs.Demand3.{Claimed};
-ghost use Rattle.planner_c.specs.Written.{rearrangeCode, overSettledIn, overMovesIn, remainingWritten};
-
-// Writes how a run ended, if it was not refused.
-pub fn write_rearranged(
-    answer: Rearranged,
-    settled: &mut u8,
-    moves: &mut u32,
-    remaining: &mut usize,
-) -> u8
-    ensures { λ r.
-        ⌜ (r ≡ rearrangeCode answer)
-        × (now (settled .exit) ≡ overSettledIn answer (now (settled .entry)))
-        × (now (moves .exit) ≡ overMovesIn answer (now (moves .entry)))
-        × (now (remaining .exit) ≡ remainingWritten answer (now (remaining .entry))) ⌝ }
-{
-    match answer {
-        Rearranged::Refused(n) => n,
-        Rearranged::Settled {
-            moves: m,
-            remaining: k,
-        } => {
-            *settled = 1;
-            *moves = m;
-            *remaining = k;
-            0
-        }
-        Rearranged::Stopped {
-            moves: m,
-            remaining: k,
-        } => {
-            *settled = 0;
-            *moves = m;
-            *remaining = k;
-            0
-        }
-    }
-}
+ghost use Rattle.written.specs.Written.{rearrangeCode, overSettledIn, overMovesIn, remainingWritten};
 
 // Relocate over all lists; with `pruning` 0 every candidate is tried, and the outcome is the same.
 #[no_mangle]

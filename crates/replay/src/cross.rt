@@ -3,15 +3,15 @@
 use crate::rearrange::BEFORE;
 use crate::rearrange::are_handed_back;
 use crate::rearrange::ends_as_stored;
-use sample::bytes::behind;
-use sample::bytes::byte_at;
-use sample::bytes::count_at;
-use sample::bytes::part;
-use sample::bytes::value;
 use sample::columns;
 use sample::columns::room_for;
 use sample::layout::gap;
 use sample::whole::are_known;
+use sample_bytes::behind;
+use sample_bytes::byte_at;
+use sample_bytes::count_at;
+use sample_bytes::part;
+use sample_bytes::value;
 
 pub const CROSS: u8 = 22;
 

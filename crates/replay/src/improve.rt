@@ -4,16 +4,16 @@ use day::vehicle::Van;
 use lists::length_of;
 use lists::start_of;
 use planner::improve::Improved;
-use sample::bytes::byte_at;
-use sample::bytes::count_at;
-use sample::bytes::is_known;
-use sample::bytes::part;
-use sample::bytes::value;
 use sample::columns;
 use sample::columns::room_for;
 use sample::stored;
 use sample::stored::is_count;
 use sample::stored::is_number;
+use sample_bytes::byte_at;
+use sample_bytes::count_at;
+use sample_bytes::is_known;
+use sample_bytes::part;
+use sample_bytes::value;
 
 pub const TWO_OPT: u8 = 16;
 

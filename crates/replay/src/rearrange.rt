@@ -2,15 +2,15 @@
 // agrees if the end word, the moves, the lists that remain and every entry of both tables are the stored ones.
 use day::vehicle::Van;
 use planner::rearrange::Rearranged;
-use sample::bytes::byte_at;
-use sample::bytes::count_at;
-use sample::bytes::is_known;
-use sample::bytes::part;
-use sample::bytes::value;
 use sample::columns;
 use sample::columns::room_for;
 use sample::stored;
 use sample::stored::is_count;
+use sample_bytes::byte_at;
+use sample_bytes::count_at;
+use sample_bytes::is_known;
+use sample_bytes::part;
+use sample_bytes::value;
 
 pub const RELOCATE: u8 = 19;
 

@@ -9,9 +9,9 @@ use planner::check::Distance;
 use planner::check::Evaluated;
 use planner::check::Feasibility;
 use planner::check::Timetable;
-use sample::bytes::byte_at;
-use sample::bytes::count_at;
 use sample::stored::is_number;
+use sample_bytes::byte_at;
+use sample_bytes::count_at;
 
 pub const FEASIBLE: u8 = 1;
 

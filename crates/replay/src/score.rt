@@ -1,16 +1,16 @@
 // How many runs of one kind agree with the stored answers.
 use crate::runs::agrees;
 use day::vehicle::Van;
-use sample::bytes::behind;
-use sample::bytes::byte_at;
-use sample::bytes::count_at;
-use sample::bytes::pair;
-use sample::bytes::part;
 use sample::columns;
 use sample::layout::Head;
 use sample::layout::Tail;
 use sample::layout::head_of;
 use sample::layout::tail_of;
+use sample_bytes::behind;
+use sample_bytes::byte_at;
+use sample_bytes::count_at;
+use sample_bytes::pair;
+use sample_bytes::part;
 
 pub struct Score {
     pub agree: u64,

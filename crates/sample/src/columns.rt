@@ -1,9 +1,9 @@
 // The parts of a day as tables to lend. Each is read whole, zeros behind what the day has, and lent as its beginning.
-use crate::bytes::byte_at;
-use crate::bytes::number;
-use crate::bytes::part;
-use crate::bytes::value;
 use day::vehicle::Van;
+use sample_bytes::byte_at;
+use sample_bytes::number;
+use sample_bytes::part;
+use sample_bytes::value;
 ghost use Prim.Native.Nat.{_≤_};
 ghost use mathlib.Core.Path.{_≡_};
 ghost use lib.ListN.{length};

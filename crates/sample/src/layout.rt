@@ -1,6 +1,6 @@
 // Where the parts of a day lie, and how long they are, as the day says itself. Where it is too short, the later positions are NOWHERE.
-use crate::bytes::behind;
-use crate::bytes::count_at;
+use sample_bytes::behind;
+use sample_bytes::count_at;
 ghost use Prim.Native.Nat.{_≤_};
 
 // The parts up to the distances. Positions, but for the locations and the bytes of the two tables.

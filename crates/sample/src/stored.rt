@@ -1,9 +1,9 @@
 // Whether an answer is the one stored at a place of a run.
-use crate::bytes::byte_at;
-use crate::bytes::is_known;
-use crate::bytes::number;
-use crate::bytes::same;
-use crate::bytes::value;
+use sample_bytes::byte_at;
+use sample_bytes::is_known;
+use sample_bytes::number;
+use sample_bytes::same;
+use sample_bytes::value;
 
 // The end words.
 pub const SETTLED: u8 = 0;

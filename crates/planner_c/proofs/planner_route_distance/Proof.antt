@@ -1,7 +1,7 @@
 -- `planner_route_distance`: one arm for each case of the entry's answer; a refusal writes nothing.
 use borrow.Author.Needs.{needs}
 use mathlib.Core.Path.{refl}
-use Rattle.planner_c.specs.Written.{distanceCode, distanceIn}
+use Rattle.written.specs.Written.{distanceCode, distanceIn}
 use Rattle.planner_c.proofs.planner_route_distance.Statement.{statement}
 use Rattle.planner_c.proofs.planner_route_distance.Tie as tie
 

@@ -1,7 +1,7 @@
 -- `planner_route_eval`: one arm for each case of the entry's answer; a refusal writes nothing.
 use borrow.Author.Needs.{needs}
 use mathlib.Core.Path.{refl}
-use Rattle.planner_c.specs.Written.{evalCode, evalPasses, evalIn}
+use Rattle.written.specs.Written.{evalCode, evalPasses, evalIn}
 use Rattle.planner_c.proofs.planner_route_eval.Statement.{statement}
 use Rattle.planner_c.proofs.planner_route_eval.Tie as tie
 

@@ -1,7 +1,7 @@
 -- `planner_route_feasible`: one arm for each case of the entry's answer; a refusal writes nothing.
 use borrow.Author.Needs.{needs}
 use mathlib.Core.Path.{refl}
-use Rattle.planner_c.specs.Written.{feasibleCode, passesIn}
+use Rattle.written.specs.Written.{feasibleCode, passesIn}
 use Rattle.planner_c.proofs.planner_route_feasible.Statement.{statement}
 use Rattle.planner_c.proofs.planner_route_feasible.Tie as tie
 

@@ -1,7 +1,7 @@
 -- `planner_schedule`: one arm for each case of the entry's answer; a refusal writes nothing.
 use borrow.Author.Needs.{needs}
 use mathlib.Core.Path.{refl}
-use Rattle.planner_c.specs.Written.{scheduleCode, foundIn, scheduleIn, takenIn, positionIn, startIn}
+use Rattle.written.specs.Written.{scheduleCode, foundIn, scheduleIn, takenIn, positionIn, startIn}
 use Rattle.planner_c.proofs.planner_schedule.Statement.{statement}
 use Rattle.planner_c.proofs.planner_schedule.Tie as tie
 

@@ -1,7 +1,7 @@
 -- `planner_table`: one arm for each case of the entry's answer; a refusal writes nothing.
 use borrow.Author.Needs.{needs}
 use mathlib.Core.Path.{refl}
-use Rattle.planner_c.specs.Written.{tableCode, scaleIn, floorIn, symmetricIn, fixedIn, depotsIn}
+use Rattle.written.specs.Written.{tableCode, scaleIn, floorIn, symmetricIn, fixedIn, depotsIn}
 use Rattle.planner_c.proofs.planner_table.Statement.{statement}
 use Rattle.planner_c.proofs.planner_table.Tie as tie
 

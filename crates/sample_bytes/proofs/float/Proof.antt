@@ -1,9 +1,9 @@
--- `sample::bytes::float` is safe: the word was tested not to be a NaN's.
+-- `sample_bytes::float` is safe: the word was tested not to be a NaN's.
 use mathlib.Core.Path.{sym, subst}
 use lib.Dec.{T}
 use borrow.Author.Needs.{needs}
-use Rattle.sample.proofs.bytes.float.Statement.{statement}
-use Rattle.sample.proofs.bytes.float.Tie as tie
+use Rattle.sample_bytes.proofs.float.Statement.{statement}
+use Rattle.sample_bytes.proofs.float.Tie as tie
 
 is-float-requires : tie.Need-is-float-requires
 is-float-requires c κs = search needs

@@ -1,9 +1,9 @@
--- `write_rearranged`: one arm for each case of the answer; a refusal writes nothing.
+-- `write_improved`: one arm for each case of the answer; a refusal writes nothing.
 use borrow.Author.Needs.{needs}
-use Rattle.planner_c.specs.Written.{rearrangeCode, overSettledIn, overMovesIn, remainingWritten}
+use Rattle.written.specs.Written.{improveCode, settledIn, movesIn, endDistanceIn}
 use mathlib.Core.Path.{refl}
-use Rattle.planner_c.proofs.rearrange.write_rearranged.Statement.{statement}
-use Rattle.planner_c.proofs.rearrange.write_rearranged.Tie as tie
+use Rattle.written.proofs.write_improved.Statement.{statement}
+use Rattle.written.proofs.write_improved.Tie as tie
 
 enum-known-answer : tie.Need-enum-known-answer
 enum-known-answer c = search needs
@@ -15,19 +15,19 @@ enum-known-answer-3 : tie.Need-enum-known-answer-3
 enum-known-answer-3 c = search needs
 
 returns : tie.Need-returns
-unfolding rearrangeCode overSettledIn overMovesIn remainingWritten
+unfolding improveCode settledIn movesIn endDistanceIn
 returns c = rw (c .before .answer .given .1) (refl, refl, refl, refl)
 
 returns-2 : tie.Need-returns-2
-unfolding rearrangeCode overSettledIn overMovesIn remainingWritten
+unfolding improveCode settledIn movesIn endDistanceIn
 returns-2 c = rw (c .before .answer2 .given .1) (refl, refl, refl, refl)
 
 returns-3 : tie.Need-returns-3
-unfolding rearrangeCode overSettledIn overMovesIn remainingWritten
+unfolding improveCode settledIn movesIn endDistanceIn
 returns-3 c = rw (c .before .answer3 .given .1) (refl, refl, refl, refl)
 
-pub write-rearranged-spec : {M : Type 1} → statement M
-write-rearranged-spec =
+pub write-improved-spec : {M : Type 1} → statement M
+write-improved-spec =
     tie.close
     (tie.spec
     enum-known-answer

@@ -1,10 +1,10 @@
--- `sample::bytes::same` is safe: what equals a number is no NaN.
+-- `sample_bytes::same` is safe: what equals a number is no NaN.
 use mathlib.Core.Path.{sym, subst}
 use lib.Dec.{T}
 use borrow.Author.Needs.{needs}
 use Rattle.numbers.proofs.Total.{le-left, le-right, eq→le}
-use Rattle.sample.proofs.bytes.same.Statement.{statement}
-use Rattle.sample.proofs.bytes.same.Tie as tie
+use Rattle.sample_bytes.proofs.same.Statement.{statement}
+use Rattle.sample_bytes.proofs.same.Tie as tie
 
 float-to-bits-result : tie.Need-float-to-bits-result
 float-to-bits-result c = le-left _ _ (eq→le (c .before .args .x) (c .before .args .y) (subst T (sym (c .if1 .taken)) tt))

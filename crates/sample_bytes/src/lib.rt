@@ -1,4 +1,4 @@
-// Bytes by position, and the words, values and numbers made of them. A position past the end is NOWHERE, and stays there; what lies there reads as 0.
+// The stored sample byte by byte: words, values and numbers by position. A position past the end is NOWHERE, and stays there; what lies there reads as 0.
 ghost use Prim.Native.Nat.{_≤_};
 ghost use mathlib.Core.Bool.{not};
 ghost use mathlib.Core.Path.{_≡_};

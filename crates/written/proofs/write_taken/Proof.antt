@@ -1,9 +1,9 @@
 -- `write_taken`: one arm for each case of the rest.
 use borrow.Author.Needs.{needs}
 use mathlib.Core.Path.{refl}
-use Rattle.planner_c.specs.Written.{takenCode, takenPosition, takenStart}
-use Rattle.planner_c.proofs.write_taken.Statement.{statement}
-use Rattle.planner_c.proofs.write_taken.Tie as tie
+use Rattle.written.specs.Written.{takenCode, takenPosition, takenStart}
+use Rattle.written.proofs.write_taken.Statement.{statement}
+use Rattle.written.proofs.write_taken.Tie as tie
 
 enum-told : tie.Need-enum-told
 enum-told c = search needs

@@ -1,8 +1,8 @@
 -- `bit_of`: one return for each case of the bool.
 use mathlib.Core.Path.{refl}
-use Rattle.planner_c.specs.Written.{bitOf}
-use Rattle.planner_c.proofs.bit_of.Statement.{statement}
-use Rattle.planner_c.proofs.bit_of.Tie as tie
+use Rattle.written.specs.Written.{bitOf}
+use Rattle.written.proofs.bit_of.Statement.{statement}
+use Rattle.written.proofs.bit_of.Tie as tie
 
 returns : tie.Need-returns
 unfolding bitOf

@@ -1,8 +1,8 @@
--- `sample::bytes::byte_at` is safe: the position was tested to be within the bytes.
+-- `sample_bytes::byte_at` is safe: the position was tested to be within the bytes.
 use native.Mathlib.Omega.{arith}
 use borrow.Author.Needs.{needs}
-use Rattle.sample.proofs.bytes.byte_at.Statement.{statement}
-use Rattle.sample.proofs.bytes.byte_at.Tie as tie
+use Rattle.sample_bytes.proofs.byte_at.Statement.{statement}
+use Rattle.sample_bytes.proofs.byte_at.Tie as tie
 
 shared-slice-read-result : tie.Need-shared-slice-read-result
 shared-slice-read-result c = omega arith

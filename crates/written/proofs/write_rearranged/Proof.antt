@@ -1,9 +1,9 @@
--- `write_improved`: one arm for each case of the answer; a refusal writes nothing.
+-- `write_rearranged`: one arm for each case of the answer; a refusal writes nothing.
 use borrow.Author.Needs.{needs}
-use Rattle.planner_c.specs.Written.{improveCode, settledIn, movesIn, endDistanceIn}
+use Rattle.written.specs.Written.{rearrangeCode, overSettledIn, overMovesIn, remainingWritten}
 use mathlib.Core.Path.{refl}
-use Rattle.planner_c.proofs.improve.write_improved.Statement.{statement}
-use Rattle.planner_c.proofs.improve.write_improved.Tie as tie
+use Rattle.written.proofs.write_rearranged.Statement.{statement}
+use Rattle.written.proofs.write_rearranged.Tie as tie
 
 enum-known-answer : tie.Need-enum-known-answer
 enum-known-answer c = search needs
@@ -15,19 +15,19 @@ enum-known-answer-3 : tie.Need-enum-known-answer-3
 enum-known-answer-3 c = search needs
 
 returns : tie.Need-returns
-unfolding improveCode settledIn movesIn endDistanceIn
+unfolding rearrangeCode overSettledIn overMovesIn remainingWritten
 returns c = rw (c .before .answer .given .1) (refl, refl, refl, refl)
 
 returns-2 : tie.Need-returns-2
-unfolding improveCode settledIn movesIn endDistanceIn
+unfolding rearrangeCode overSettledIn overMovesIn remainingWritten
 returns-2 c = rw (c .before .answer2 .given .1) (refl, refl, refl, refl)
 
 returns-3 : tie.Need-returns-3
-unfolding improveCode settledIn movesIn endDistanceIn
+unfolding rearrangeCode overSettledIn overMovesIn remainingWritten
 returns-3 c = rw (c .before .answer3 .given .1) (refl, refl, refl, refl)
 
-pub write-improved-spec : {M : Type 1} → statement M
-write-improved-spec =
+pub write-rearranged-spec : {M : Type 1} → statement M
+write-rearranged-spec =
     tie.close
     (tie.spec
     enum-known-answer

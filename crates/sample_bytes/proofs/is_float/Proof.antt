@@ -1,10 +1,10 @@
--- `sample::bytes::is_float` meets its contract: its two tests are the two fields of a NaN's bits.
+-- `sample_bytes::is_float` meets its contract: its two tests are the two fields of a NaN's bits.
 use mathlib.Core.Bool.{not, true, false}
 use mathlib.Core.Path.{_≡_, refl}
 use borrow.Author.Tests.{eq-eqb, ne-eqb}
 use lib.Ieee.{nanBits}
-use Rattle.sample.proofs.bytes.is_float.Statement.{statement}
-use Rattle.sample.proofs.bytes.is_float.Tie as tie
+use Rattle.sample_bytes.proofs.is_float.Statement.{statement}
+use Rattle.sample_bytes.proofs.is_float.Tie as tie
 
 twice : (b : _) → b ≡ not (not b)
 twice true = refl
