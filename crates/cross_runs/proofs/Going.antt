@@ -28,7 +28,7 @@ use Rattle.cross_moves.specs.CrossDepot.{Plan, afterMove, searchOf, judgeOf, ru
 use Rattle.cross_choices.specs.Scan.{Held, isFound, moveOf}
 use Rattle.cross_changes.specs.Tables.{Made}
 use Rattle.cross_runs.specs.Tables.{MadeIn, Chosen, Handed, crossedOf}
-use Rattle.cross_search.specs.Deltas.{Kept, keptOf}
+use Rattle.cross_deltas.specs.Deltas.{Kept, keptOf}
 use Rattle.cross_moves.specs.declared.pair.Move.{Move}
 use Rattle.cross_choices.specs.declared.Choice.{Choice}
 use Rattle.cross_runs.specs.declared.Crossed.{Crossed}

@@ -2,6 +2,7 @@
 // limit is used up.
 use cross_changes::make_move;
 use cross_choices::Choice;
+use cross_deltas::kept_of;
 use cross_search::best_move;
 use engine::Ended;
 ghost use mathlib.Core.Path.{_≡_};
@@ -16,7 +17,7 @@ ghost use Rattle.fleet.specs.Fleet.{fleetAt, Manned};
 ghost use Rattle.cross_moves.specs.CrossDepot.{runOf, ranOf, planOf};
 ghost use Rattle.cross_choices.specs.Scan.{Asked, Held};
 ghost use Rattle.cross_changes.specs.Tables.{Makes};
-ghost use Rattle.cross_search.specs.Deltas.{Kept, keptOf};
+ghost use Rattle.cross_deltas.specs.Deltas.{Kept};
 ghost use Rattle.cross_runs.specs.Tables.{MadeIn, Chosen, Handed, crossedOf};
 
 // How a run ended, and how many lists remain.
@@ -153,16 +154,6 @@ fn make_best(
         best.cost1,
         best.cost2,
     )
-}
-
-// How many of the first lists are as they were after a move, but for its two: all n where none was dropped, else none, since the numbers shift.
-fn kept_of(n: usize, left: usize) -> usize
-    ensures { λ r. ⌜ r ≡ keptOf n left ⌝ }
-{
-    if left == n {
-        return n;
-    }
-    0
 }
 
 // Makes move after move until none is left or the limit is used up. The first n lists of the tables are the plan's.

@@ -11,7 +11,6 @@ use lib.Ieee.{Float, lt, le, neg}
 use Rattle.numbers.specs.Operations.{_⊕_, _⊖_}
 use Rattle.numbers.specs.Value.{ordered}
 use Rattle.numbers.proofs.Total as Total
-use Rattle.tests.specs.Pick.{picked, other}
 use Rattle.labels.specs.Columns.{Columns}
 use Rattle.descent.proofs.Members.{T-true, true-T}
 use Rattle.fleet.specs.Fleet.{Fleet}
@@ -22,7 +21,8 @@ use Rattle.cross_moves.specs.declared.pair.Pair.{Pair}
 use Rattle.cross_moves.specs.declared.pair.Move.{Move}
 use Rattle.cross_choices.specs.Scan.{scan, decided, better, betterIn, nothing, bestOfPair, bestFrom}
 use Rattle.cross_choices.specs.declared.Choice.{Choice}
-use Rattle.cross_search.specs.Deltas.{joined, Sunk, leastOf}
+use Rattle.cross_deltas.specs.Deltas.{joined, Sunk, leastOf}
+use Rattle.cross_deltas.proofs.Kept.{takes, stays}
 use Rattle.cross_search.proofs.Choosing.{all-of-pair}
 
 -- ---- tests
@@ -50,14 +50,6 @@ not-below x y z number e f = fails (lt z x) refute
         true≢false (sym (T-true (lt y x) (Total.le-lt-trans y z x above below)) ∙ f)
 
 -- ---- the better of two
-
-pub takes : (x y : Choice) → lt (y .delta) (x .delta) ≡ true → joined x y ≡ y
-unfolding joined
-takes x y e = sym (picked (lt (y .delta) (x .delta)) y x y e refl)
-
-pub stays : (x y : Choice) → lt (y .delta) (x .delta) ≡ false → joined x y ≡ x
-unfolding joined
-stays x y e = sym (other (lt (y .delta) (x .delta)) y x x e refl)
 
 joined-assoc : (x y z : Choice) → T (ordered (y .delta)) → joined (joined x y) z ≡ joined x (joined y z)
 joined-assoc x y z number = by (lt (y .delta) (x .delta)) refl (lt (z .delta) (y .delta)) refl

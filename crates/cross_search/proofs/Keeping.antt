@@ -2,18 +2,18 @@
 -- since what such a pair's search reads is as it was. Assumes nothing.
 use mathlib.Core.Path.{_≡_, refl, sym, ap, subst, _∙_}
 use mathlib.Core.Logic.{_≢_}
-use mathlib.Core.Bool.{Bool, true, false, cond, not, true≢false}
+use mathlib.Core.Bool.{Bool, true, false, cond, not}
 use mathlib.Core.List.{List, [], _∷_}
 use Prim.Native.Nat.{ℕ, _+_, _*_, _≤_, _<_}
 use native.Mathlib.Omega.{arith}
-use borrow.Author.Tests.{not-true, ltb-true, eqb-true, eqb-false, eq-eqb, ne-eqb}
+use borrow.Author.Tests.{not-true, ltb-true, eqb-true, eqb-false}
 use lib.Dec.{eqb, ltb}
 use lib.IntN.{ℤ}
 use lib.ListN.{length, getD, set, length-set}
 use lib.Seq.{getD-set-same, getD-set-other, set-getD}
 use lib.Ieee.{Float, nan, lt}
 use Rattle.numbers.specs.Operations.{_⊕_}
-use Rattle.tests.specs.Pick.{picked, other}
+use Rattle.tests.specs.Pick.{other}
 use Rattle.lists.specs.Table.{lengthsOf}
 use Rattle.list_changes.specs.Edits.{at, filled}
 use Rattle.lists.proofs.Tables.{length-lists}
@@ -21,22 +21,14 @@ use Rattle.labels.specs.Columns.{Columns}
 use Rattle.descent.proofs.Members.{and-parts}
 use Rattle.fleet.specs.Fleet.{Fleet, fleetVehicle}
 use Rattle.cross_moves.specs.CrossDepot.{Plan, pairOf, sameDepot, exchangedBy, ofFilled, dropped, afterMove, first, second, planOf}
-use Rattle.cross_moves.specs.declared.pair.Pair.{Pair}
 use Rattle.cross_moves.specs.declared.pair.Move.{Move}
 use Rattle.cross_choices.specs.Scan.{nothing, bestBetween, bestOfPair}
 use Rattle.cross_choices.specs.declared.Choice.{Choice}
-use Rattle.cross_search.specs.Deltas.{isOld, keptOf, leastOf, Sunk, Kept}
+use Rattle.cross_deltas.specs.Deltas.{isOld, keptOf, leastOf, Sunk, Kept}
+use Rattle.cross_deltas.proofs.Kept.{kept-none}
 use Rattle.cross_search.proofs.Joining.{pair-skipped}
 
 -- ---- old lists
-
-pub kept-all : (n left : ℕ) → left ≡ n → n ≡ keptOf n left
-unfolding keptOf
-kept-all n left e = picked (eqb left n) n 0 n (eq-eqb left n e) refl
-
-pub kept-none : (n left : ℕ) → left ≢ n → 0 ≡ keptOf n left
-unfolding keptOf
-kept-none n left e = other (eqb left n) n 0 0 (ne-eqb left n e) refl
 
 record Old (kept one other a : ℕ) : Type 0 where
   below : a < kept

@@ -1,67 +1,22 @@
 // The best move over all pairs of lists of different depots (`best_move` of local_search/cross_depot.rs). The least delta of each pair is kept over a run,
 // and a pair whose two lists are as they were is searched again only where its delta is below the best so far.
 use cross_choices::Choice;
-use cross_moves::pair::Move;
+use cross_deltas::are_old;
+use cross_deltas::better_of;
+use cross_deltas::no_choice;
 use cross_moves::pair::is_same_depot;
 use cross_moves::pair::pair_at;
 use cross_pairs::between_lists;
 use lists::list_of;
 use tests::both;
 ghost use mathlib.Core.Path.{_≡_};
-ghost use mathlib.Core.Bool.{_&&_};
-ghost use Prim.Native.Nat.{_+_, _*_, _≤_, _<_};
+ghost use Prim.Native.Nat.{_+_, _*_, _<_};
 ghost use lib.ListN.{length, set};
 ghost use Rattle.labels.specs.Columns.{columnsAt};
 ghost use Rattle.cross_moves.specs.CrossDepot.{planOf};
 ghost use Rattle.cross_choices.specs.Scan.{Asked, Held, nothing, bestOfPair, bestFrom, bestOf};
 ghost use Rattle.fleet.specs.Fleet.{fleetAt, Manned};
-ghost use Rattle.cross_search.specs.Deltas.{isOld, joined, leastOf, Sunk, Kept};
-
-// No move so far.
-fn no_choice(floor: f64) -> Choice
-    ensures { λ r. ⌜ r ≡ nothing floor ⌝ }
-{
-    let none = Move {
-        one: 0,
-        from1: 0,
-        to1: 0,
-        other: 0,
-        from2: 0,
-        to2: 0,
-        tested: 0,
-    };
-    Choice {
-        found: 0,
-        chosen: none,
-        delta: -floor,
-        cost1: 0.0,
-        cost2: 0.0,
-    }
-}
-
-// The better of two choices, the first of equals.
-fn better_of(best: Choice, fresh: Choice) -> Choice
-    ensures { λ r. ⌜ r ≡ joined best fresh ⌝ }
-{
-    if fresh.delta < best.delta {
-        return fresh;
-    }
-    best
-}
-
-// Whether a list is as it was when the table was filled in: one of the first `kept`, and neither of the two that the last move changed.
-fn is_old(kept: usize, one: usize, other: usize, a: usize) -> bool
-    ensures { λ r. ⌜ r ≡ isOld kept one other a ⌝ }
-{
-    both(a < kept, both(a != one, a != other))
-}
-
-// Whether both lists of a pair are as they were.
-fn are_old(kept: usize, one: usize, other: usize, a: usize, b: usize) -> bool
-    ensures { λ r. ⌜ r ≡ (isOld kept one other a && isOld kept one other b) ⌝ }
-{
-    both(is_old(kept, one, other, a), is_old(kept, one, other, b))
-}
+ghost use Rattle.cross_deltas.specs.Deltas.{leastOf, Sunk, Kept};
 
 // The best after every move between lists a and b, if their vans start from different depots.
 fn best_of_pair(

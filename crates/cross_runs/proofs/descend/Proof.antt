@@ -10,7 +10,7 @@ use Rattle.edits.proofs.Kept.{same-length as kept-length}
 use Rattle.labels.specs.Columns.{columns}
 use Rattle.fleet.specs.Fleet.{fleetOf}
 use Rattle.cross_moves.specs.CrossDepot.{planOf}
-use Rattle.cross_search.specs.Deltas.{Kept}
+use Rattle.cross_deltas.specs.Deltas.{Kept}
 use Rattle.cross_search.proofs.Keeping.{kept-start}
 use Rattle.cross_runs.proofs.Going.{Live, Running, part, live-asks, kept-part, begins, answers-settled, answers-stopped, goes-on-made, still-kept}
 use Rattle.cross_runs.proofs.descend.Statement.{statement}

@@ -8,7 +8,7 @@ use Rattle.descent.specs.Order.{range}
 use Rattle.fleet.specs.Fleet.{fleetOf}
 use Rattle.cross_choices.specs.Scan.{scan, bestOfPair, bestFrom}
 use Rattle.cross_moves.specs.CrossDepot.{planOf}
-use Rattle.cross_search.specs.Deltas.{Sunk, Kept}
+use Rattle.cross_deltas.specs.Deltas.{Sunk, Kept}
 use Rattle.cross_search.proofs.Pairs.{from-start, scan-turn, scan-done}
 use Rattle.cross_search.proofs.Joining.{after-sunk}
 use Rattle.cross_search.proofs.Keeping.{kept-at, table-turn, table-row}

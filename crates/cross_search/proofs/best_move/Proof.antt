@@ -10,7 +10,7 @@ use Rattle.descent.specs.Order.{range}
 use Rattle.fleet.specs.Fleet.{fleetOf}
 use Rattle.cross_choices.specs.Scan.{scan, bestFrom, bestOf, nothing}
 use Rattle.cross_moves.specs.CrossDepot.{planOf}
-use Rattle.cross_search.specs.Deltas.{Sunk, Kept}
+use Rattle.cross_deltas.specs.Deltas.{Sunk, Kept}
 use Rattle.cross_search.proofs.Pairs.{all-start, scan-turn, scan-done}
 use Rattle.cross_search.proofs.Joining.{from-sunk}
 use Rattle.cross_search.proofs.Keeping.{kept-at, table-whole}

@@ -1,7 +1,7 @@
 -- `are_old`: the tests as the definition has them.
 use borrow.Author.Needs.{needs}
-use Rattle.cross_search.proofs.are_old.Statement.{statement}
-use Rattle.cross_search.proofs.are_old.Tie as tie
+use Rattle.cross_deltas.proofs.are_old.Statement.{statement}
+use Rattle.cross_deltas.proofs.are_old.Tie as tie
 
 is-old-requires : tie.Need-is-old-requires
 is-old-requires c κs = search needs

@@ -1,8 +1,8 @@
 -- `is_old`: the tests as the definition has them.
 use borrow.Author.Needs.{needs}
-use Rattle.cross_search.specs.Deltas.{isOld}
-use Rattle.cross_search.proofs.is_old.Statement.{statement}
-use Rattle.cross_search.proofs.is_old.Tie as tie
+use Rattle.cross_deltas.specs.Deltas.{isOld}
+use Rattle.cross_deltas.proofs.is_old.Statement.{statement}
+use Rattle.cross_deltas.proofs.is_old.Tie as tie
 
 both-requires : tie.Need-both-requires
 both-requires c κs = search needs

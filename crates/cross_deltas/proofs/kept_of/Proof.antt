@@ -1,7 +1,7 @@
 -- `kept_of`: one return for each side of the test.
-use Rattle.cross_search.proofs.Keeping.{kept-all, kept-none}
-use Rattle.cross_runs.proofs.kept_of.Statement.{statement}
-use Rattle.cross_runs.proofs.kept_of.Tie as tie
+use Rattle.cross_deltas.proofs.Kept.{kept-all, kept-none}
+use Rattle.cross_deltas.proofs.kept_of.Statement.{statement}
+use Rattle.cross_deltas.proofs.kept_of.Tie as tie
 
 returns : tie.Need-returns
 returns c = kept-all _ _ (c .if1 .taken)

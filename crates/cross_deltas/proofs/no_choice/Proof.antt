@@ -1,8 +1,8 @@
 -- `no_choice`: field by field.
 use mathlib.Core.Path.{refl}
 use lib.Ieee.{ofBits}
-use Rattle.cross_search.proofs.no_choice.Statement.{statement}
-use Rattle.cross_search.proofs.no_choice.Tie as tie
+use Rattle.cross_deltas.proofs.no_choice.Statement.{statement}
+use Rattle.cross_deltas.proofs.no_choice.Tie as tie
 
 returns : tie.Need-returns
 unfolding ofBits

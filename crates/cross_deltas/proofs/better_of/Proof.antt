@@ -1,8 +1,8 @@
 -- `better_of`: one return for each side of the test.
 use mathlib.Core.Path.{sym}
-use Rattle.cross_search.proofs.Joining.{takes, stays}
-use Rattle.cross_search.proofs.better_of.Statement.{statement}
-use Rattle.cross_search.proofs.better_of.Tie as tie
+use Rattle.cross_deltas.proofs.Kept.{takes, stays}
+use Rattle.cross_deltas.proofs.better_of.Statement.{statement}
+use Rattle.cross_deltas.proofs.better_of.Tie as tie
 
 returns : tie.Need-returns
 returns c = sym (takes _ _ (c .if1 .taken))
