@@ -9,11 +9,12 @@ use lists::list_of;
 use tests::both;
 ghost use mathlib.Core.Path.{_≡_};
 ghost use mathlib.Core.Bool.{_&&_};
-ghost use Prim.Native.Nat.{_+_, _*_, _≤_, _<_};
+ghost use Prim.Native.Nat.{_+_, _*_, _<_};
 ghost use lib.ListN.{length, set};
 ghost use Rattle.labels.specs.Columns.{columnsAt};
 ghost use Rattle.cross_moves.specs.CrossDepot.{planOf};
-ghost use Rattle.cross_choices.specs.Scan.{Asked, Held, nothing, bestOfPair, bestFrom, bestOf};
+ghost use Rattle.loads.specs.Loads.{Held};
+ghost use Rattle.cross_choices.specs.Scan.{Asked, nothing, bestOfPair, bestFrom, bestOf};
 ghost use Rattle.fleet.specs.Fleet.{fleetAt, Manned};
 ghost use Rattle.cross_search.specs.Deltas.{isOld, joined, leastOf, Sunk, Kept};
 
