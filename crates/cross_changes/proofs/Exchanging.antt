@@ -1,16 +1,16 @@
 -- Two stretches exchanged by exchanging tails twice: first those behind the stretches, then those from their starts on. Assumes nothing.
-use mathlib.Core.Path.{_≡_, refl, sym, ap, _∙_}
+use mathlib.Core.Path.{_≡_, sym, ap, _∙_}
 use mathlib.Core.Logic.{_≢_}
-use mathlib.Core.List.{List, [], _++_, append-assoc}
+use mathlib.Core.List.{List, [], append-assoc}
 use Prim.Native.Nat.{ℕ, _+_, _-_, _≤_, _<_}
 use native.Mathlib.Omega.{arith}
 use lib.ListN.{length, getD, set, take, drop, length-set, length-append, length-drop}
 use lib.Seq.{slice, take-append-le, drop-append-le, take-take, length-take-le, getD-set-same, getD-set-other, set-set, set-comm}
-use Rattle.lists.specs.Table.{Laid, lists, listOf}
+use Rattle.lists.specs.Table.{lists}
 use Rattle.list_changes.specs.Edits.{at, joined, tailsExchanged, Cuts, Edited}
-use Rattle.lists.proofs.Tables.{at-lists, length-lists, length-list}
+use Rattle.lists.proofs.Tables.{at-lists, length-lists, length-list, length-at}
 use Rattle.list_changes.proofs.Edited.{edited-on}
-use Rattle.cross_moves.specs.CrossDepot.{replaced, first, second, exchangedBy}
+use Rattle.cross_moves.specs.CrossDepot.{replaced, exchangedBy}
 use Rattle.cross_changes.specs.Tables.{Makes, turned}
 use Rattle.cross_moves.specs.declared.pair.Move.{Move}
 
@@ -45,14 +45,11 @@ module _ (visits lengths : List ℕ) (m : Move) (makes : Makes visits lengths m)
   abbrev Y : List ℕ
   Y = at (lists visits lengths) (m .other)
 
-  length-at : (r : ℕ) → length (at (lists visits lengths) r) ≡ getD lengths r 0
-  length-at r = ap length (at-lists visits lengths r) ∙ length-list visits lengths (makes .laid .add-up) r
-
   within-first : m .to1 ≤ length X
-  within-first = rw (length-at (m .one)) (makes .within1)
+  within-first = rw (length-at visits lengths (makes .laid .add-up) (m .one)) (makes .within1)
 
   within-second : m .to2 ≤ length Y
-  within-second = rw (length-at (m .other)) (makes .within2)
+  within-second = rw (length-at visits lengths (makes .laid .add-up) (m .other)) (makes .within2)
 
   first-there : m .one < length (lists visits lengths)
   first-there = rw length-lists (makes .one-there)

@@ -4,7 +4,6 @@ use mathlib.Core.Path.{_≡_, refl, sym, ap, _∙_}
 use mathlib.Core.Bool.{Bool, true, false, cond, not, _&&_, _||_}
 use mathlib.Core.List.{List}
 use Prim.Native.Nat.{ℕ, zero, suc, _+_, _≤_, _<_}
-use native.Mathlib.Numerals.{add-one}
 use native.Mathlib.Omega.{arith}
 use borrow.Author.Tests.{ltb-true, ltb-false, eq-eqb, ne-eqb, eqb-true, eqb-false, not-true}
 use lib.Dec.{eqb, ltb}
@@ -16,8 +15,8 @@ use Rattle.numbers.specs.Operations.{_⊕_, _⊖_, zero64}
 use Rattle.tests.specs.All.{all-at}
 use Rattle.tests.specs.Pick.{picked, other}
 use Rattle.labels.specs.Columns.{Columns}
-use Rattle.descent.specs.Order.{range}
-use Rattle.descent.proofs.Loops.{range-step, range-done}
+use Rattle.descent.specs.Order.{range, scan}
+use Rattle.descent.proofs.Loops.{scan-turn, scan-done}
 use Rattle.cross_moves.specs.CrossDepot.{holds, pricedAs, allowed, isTested, amount, replaced, relocation}
 use Rattle.cross_moves.specs.declared.price.Price.{Price}
 use Rattle.cross_moves.specs.declared.price.Price.the-variants.{Unallowed, Costs}
@@ -27,7 +26,7 @@ use Rattle.day.specs.declared.vehicle.Van.{Van}
 use Rattle.cross_rows.specs.declared.Stretch.{Stretch}
 use Rattle.cross_rows.specs.Row.{fromAt, toAt, changed, costUnless}
 use Rattle.cross_kinds.specs.Kinds.{testedIn, moveAt, rowOf}
-use Rattle.cross_choices.specs.Scan.{scan, made1, made2, decided, better}
+use Rattle.cross_choices.specs.Scan.{made1, made2, decided, better}
 use Rattle.cross_choices.specs.Rows.{markOf, Marked, allShut, Extended, lesserOf, deltaAt, leastOf, chosenBy, bestOfRow}
 use Rattle.cross_kinds.specs.declared.kind.Kind.{Kind}
 use Rattle.cross_kinds.specs.declared.kind.Kind.the-variants.{Relocation, Swap, Tails}
@@ -37,17 +36,6 @@ use Rattle.cross_choices.specs.declared.Least.{Least}
 use Rattle.cross_kinds.proofs.Fitting.{holds-anywhere}
 use Rattle.cross_choices.proofs.Numbers.{first-lost, second-lost}
 use Rattle.cross_kinds.proofs.Along.{row-stretches, move-tested}
-
--- ---- a loop
-
-module _ {B : Type 0} (f : ℕ → B → B) (k n : ℕ) (b : B) where
-  pub scan-turn : (after : B) → k < n → after ≡ f k b → scan f (range (k + 1) n) after ≡ scan f (range k n) b
-  unfolding scan
-  scan-turn after h e = rw (add-one k, range-step k n h, e)
-
-  pub scan-done : n ≤ k → scan f (range k n) b ≡ b
-  unfolding scan
-  scan-done h = rw (range-done k n h)
 
 -- ---- a table filled in from its start
 

@@ -10,14 +10,14 @@ use lib.Ieee.{Float, nan, inf, lt}
 use Rattle.numbers.specs.Operations.{_⊕_, _⊖_, zero64}
 use Rattle.tests.specs.All.{allBelow}
 use Rattle.labels.specs.Columns.{Columns}
-use Rattle.descent.specs.Order.{range}
+use Rattle.descent.specs.Order.{range, scan}
 use Rattle.day.specs.declared.vehicle.Van.{Van}
 use Rattle.cross_moves.specs.CrossDepot.{holds}
 use Rattle.cross_moves.specs.declared.pair.Pair.{Pair}
 use Rattle.cross_rows.specs.Row.{changed}
 use Rattle.cross_kinds.specs.Kinds.{moveAt, rowOf, rowsIn}
 use Rattle.cross_rows.specs.declared.Stretch.{Stretch}
-use Rattle.cross_choices.specs.Scan.{scan, better}
+use Rattle.cross_choices.specs.Scan.{better}
 use Rattle.cross_kinds.specs.declared.kind.Kind.{Kind}
 use Rattle.cross_choices.specs.declared.Choice.{Choice}
 use Rattle.cross_choices.specs.declared.Least.{Least}

@@ -3,19 +3,18 @@
 use mathlib.Core.Path.{_≡_}
 use mathlib.Core.Bool.{Bool, true, false, cond}
 use mathlib.Core.Option.{Option, none, some}
-use mathlib.Core.List.{List, [], _∷_}
-use Prim.Native.Nat.{ℕ, _+_, _≤_, _<_}
+use mathlib.Core.List.{List}
+use Prim.Native.Nat.{ℕ, _+_}
 use lib.Dec.{eqb, ltb}
 use lib.IntN.{ℤ}
-use lib.ListN.{length, getD}
+use lib.ListN.{length}
 use lib.Seq.{slice}
 use lib.Ieee.{Float, lt, neg}
 use Rattle.numbers.specs.Operations.{_⊕_, _⊖_, zero64}
-use Rattle.lists.specs.Table.{Laid}
 use Rattle.list_changes.specs.Edits.{at}
 use Rattle.labels.specs.Columns.{Columns, Formed}
-use Rattle.descent.specs.Order.{range}
-use Rattle.cross_moves.specs.Boxes.{Loaded, Prefixed}
+use Rattle.descent.specs.Order.{range, scan}
+use Rattle.cross_moves.specs.Boxes.{Prefixed}
 use Rattle.fleet.specs.Fleet.{Fleet, Driven}
 use Rattle.cross_moves.specs.CrossDepot.{Plan, allowed, isTested, replaced, relocation, exchange, cuts, pairOf, sameDepot}
 use Rattle.cross_moves.specs.declared.price.Price.{Price}
@@ -23,13 +22,8 @@ use Rattle.cross_moves.specs.declared.price.Price.the-variants.{Unallowed, Cost
 use Rattle.cross_moves.specs.declared.pair.Pair.{Pair}
 use Rattle.cross_moves.specs.declared.pair.Move.{Move}
 use Rattle.heads.specs.Kept.{Kept}
-use Rattle.cross_prices.specs.Candidate.{Two}
+use Rattle.loads.specs.Loads.{Two, Loaded}
 use Rattle.cross_choices.specs.declared.Choice.{Choice}
-
--- a loop: what f makes of the value, for one after another
-unfoldable pub scan : {A B : Type 0} → (A → B → B) → List A → B → B
-scan f [] b = b
-scan f (x ∷ xs) b = scan f xs (f x b)
 
 -- ---- what a caller shows
 
@@ -57,12 +51,6 @@ pub record Ready (c : Columns) (demand : List ℤ) (pair : Pair) (X Y loads1 loa
 pub record Roomy (costs1 costs2 : List Float) : Type 0 where
   pub costs1-long : length costs1 ≡ 64
   pub costs2-long : length costs2 ≡ 64
-
--- of the tables: the lists are laid out, each visit is a location, and there are at most 63
-pub record Held (l : ℕ) (visits lengths : List ℕ) : Type 0 where
-  pub laid : Laid visits lengths
-  pub below : (k : ℕ) → k < length visits → getD visits k 0 < l
-  pub few : length visits ≤ 63
 
 -- the two lists that a move makes
 abbrev pub made1 : List ℕ → List ℕ → Move → List ℕ

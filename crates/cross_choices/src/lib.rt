@@ -16,8 +16,8 @@ ghost use mathlib.Core.Path.{_≡_};
 ghost use Prim.Native.Nat.{_≤_, _<_};
 ghost use lib.ListN.{length};
 ghost use Rattle.fleet.specs.Fleet.{Driven};
-ghost use Rattle.cross_moves.specs.Boxes.{Loaded, Prefixed};
-ghost use Rattle.cross_prices.specs.Candidate.{Two};
+ghost use Rattle.cross_moves.specs.Boxes.{Prefixed};
+ghost use Rattle.loads.specs.Loads.{Two, Loaded};
 ghost use Rattle.cross_rows.specs.Row.{Rowed};
 ghost use Rattle.cross_choices.specs.Rows.{markOf, Marked, allShut, Extended, lesserOf, leastOf, chosenBy};
 

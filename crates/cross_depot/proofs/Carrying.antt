@@ -26,12 +26,12 @@ use Rattle.descent.proofs.Runs.{ran, chain-map}
 use Rattle.descent.proofs.Sweeps.{next-some}
 use Rattle.fleet.specs.Fleet.{Fleet, fleetVehicle}
 use Rattle.fleet.proofs.Numbered.{found-again}
-use Rattle.cross_moves.specs.Boxes.{boxesAt}
+use Rattle.loads.specs.Loads.{boxesOf}
 use Rattle.cross_moves.specs.CrossDepot.{Plan, isTested, foundIds, lentPlan, pricedAs, holds, allowed, hasPrice, first, second, exchangedBy, ofFilled, dropped}
 use Rattle.cross_moves.specs.CrossDepot.{afterMove, firstPrice, secondPrice, moved, searchOf, judgeOf, runOf, Carries, Carried}
 use Rattle.cross_moves.specs.declared.price.Price.the-variants.{Unallowed}
 use Rattle.cross_moves.specs.declared.pair.Move.{Move}
-use Rattle.cross_kinds.proofs.Loads.{load-parts}
+use Rattle.loads.proofs.Boxes.{load-parts}
 use Rattle.cross_runs.proofs.Sound.{TestedOrLess, move-tested}
 
 -- ---- something of every list and the id of its van
@@ -68,9 +68,9 @@ module _ (P : List ℕ → ℕ → Type 0) where
 
 -- a list has a price where its load isn't tested, or is within the capacity
 price-holds : (c : Columns) (demand : List ℤ) (tested : Bool) (van : Van) (list : List ℕ) → hasPrice (allowed c demand tested van list) ≡ true
-    → tested ≡ true → total (boxesAt demand) list ≤ natAbs (van .capacity)
+    → tested ≡ true → total (boxesOf demand) list ≤ natAbs (van .capacity)
 unfolding allowed holds hasPrice
-price-holds c demand tested van list e t = leb-true _ _ (by-test tested (leb (total (boxesAt demand) list) (natAbs (van .capacity))) t e)
+price-holds c demand tested van list e t = leb-true _ _ (by-test tested (leb (total (boxesOf demand) list) (natAbs (van .capacity))) t e)
   where
     by-test : (tested within : Bool) → tested ≡ true → hasPrice (cond (not tested || within) (pricedAs c van list) Unallowed) ≡ true → within ≡ true
     by-test true true t e = refl
@@ -95,7 +95,7 @@ module _ (c : Columns) (demand : List ℤ) (fleet : Fleet) (lent : List (List �
   Kept = Carries demand fleet lent lent-ids
 
   -- a list that carries no more is kept under the same van
-  lighter : (list less : List ℕ) (id : ℕ) → Kept list id → total (boxesAt demand) less ≤ total (boxesAt demand) list → Kept less id
+  lighter : (list less : List ℕ) (id : ℕ) → Kept list id → total (boxesOf demand) less ≤ total (boxesOf demand) list → Kept less id
   lighter list less id (inl within) h = inl (omega arith)
   lighter list less id (inr (j, there, van, most)) h = inr (j, there, van, omega arith)
 
@@ -112,7 +112,7 @@ module _ (c : Columns) (demand : List ℤ) (fleet : Fleet) (lent : List (List �
     first-kept (inl tested) e = inl (price-holds c demand (isTested m) _ _ e tested)
     first-kept (inr (ordered, none)) e =
         lighter (at (p .lists) (m .one)) (first (p .lists) m) (getD (p .ids) (m .one) 0) (loaded .1 (m .one) one-there)
-        (rw (← none) (less-than-before (boxesAt demand) (at (p .lists) (m .one)) (at (p .lists) (m .other)) (m .from1) (m .to1) (m .from2) ordered))
+        (rw (← none) (less-than-before (boxesOf demand) (at (p .lists) (m .one)) (at (p .lists) (m .other)) (m .from1) (m .to1) (m .from2) ordered))
 
     move-keeps : TestedOrLess m → (hasPrice (firstPrice c demand fleet p m) && hasPrice (secondPrice c demand fleet p m)) ≡ true
         → Loaded (moved c demand fleet p m)

@@ -16,7 +16,8 @@ ghost use Rattle.lists.specs.Table.{lists};
 ghost use Rattle.labels.specs.Columns.{columnsAt};
 ghost use Rattle.fleet.specs.Fleet.{fleetAt, Crewed, Manned};
 ghost use Rattle.cross_moves.specs.CrossDepot.{lentPlan, runOf, ranOf, crossRan, Carried};
-ghost use Rattle.cross_choices.specs.Scan.{Asked, Held};
+ghost use Rattle.loads.specs.Loads.{Held};
+ghost use Rattle.cross_choices.specs.Scan.{Asked};
 ghost use Rattle.cross_runs.specs.Tables.{Handed, crossedOf};
 
 // A run from the lists and prices that are lent, with an entry of `costs` for each list.

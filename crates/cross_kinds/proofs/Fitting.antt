@@ -13,10 +13,11 @@ use lib.Seq.{slice, take-all, slice-empty, getD-set-same, getD-set-other}
 use Rattle.day.specs.declared.vehicle.Van.{Van}
 use Rattle.edits.specs.Total.{total}
 use Rattle.labels.specs.Columns.{Visits}
-use Rattle.cross_moves.specs.Boxes.{boxesAt, Loaded, Prefixed}
+use Rattle.cross_moves.specs.Boxes.{Prefixed}
 use Rattle.cross_moves.specs.CrossDepot.{holds, replaced}
-use Rattle.cross_prices.specs.Candidate.{Two}
-use Rattle.cross_kinds.proofs.Loads.{load-small, load-more, load-parts}
+use Rattle.loads.specs.Loads.{Two, boxesOf, Loaded}
+use Rattle.loads.proofs.Visits.{visits-first, visits-second}
+use Rattle.loads.proofs.Boxes.{load-small, load-more, load-parts}
 use Rattle.cross_prices.proofs.Stretch.{in-three, total-replaced}
 
 -- ---- the table is filled
@@ -25,9 +26,9 @@ module _ (demand : List ℤ) (list : List ℕ) where
   -- so far: the loads up to the first k visits
   pub record Filling (loads : List ℕ) (load k : ℕ) : Type 0 where
     pub within : k ≤ length list
-    pub is-load : load ≡ total (boxesAt demand) (take k list)
+    pub is-load : load ≡ total (boxesOf demand) (take k list)
     pub same-length : length loads ≡ 64
-    pub so-far : (j : ℕ) → j ≤ k → getD loads j 0 ≡ total (boxesAt demand) (take j list)
+    pub so-far : (j : ℕ) → j ≤ k → getD loads j 0 ≡ total (boxesOf demand) (take j list)
 
   pub filling-starts : (loads : List ℕ) → length loads ≡ 64 → Filling (set loads 0 0) 0 0
   filling-starts loads long = record {
@@ -37,11 +38,11 @@ module _ (demand : List ℤ) (list : List ℕ) where
     so-far = λ j h. at-none j (omega arith);
   }
     where
-      at-none : (j : ℕ) → j ≡ 0 → getD (set loads 0 0) j 0 ≡ total (boxesAt demand) (take j list)
+      at-none : (j : ℕ) → j ≡ 0 → getD (set loads 0 0) j 0 ≡ total (boxesOf demand) (take j list)
       at-none j e = rw e (getD-set-same loads 0 0 0 (omega (arith, long)))
 
   pub filling-turns : (loads : List ℕ) (load k more : ℕ) → Filling loads load k → k < length list → length list ≤ 63
-      → more ≡ boxesAt demand (getD list k 0) → Filling (set loads (k + 1) (load + more)) (load + more) (k + 1)
+      → more ≡ boxesOf demand (getD list k 0) → Filling (set loads (k + 1) (load + more)) (load + more) (k + 1)
   filling-turns loads load k more w h few e = record {
     within = omega (arith, h);
     is-load = sum;
@@ -49,10 +50,10 @@ module _ (demand : List ℤ) (list : List ℕ) where
     so-far = λ j below. entry j below (eqb j (k + 1)) refl;
   }
     where
-      sum : load + more ≡ total (boxesAt demand) (take (k + 1) list)
-      sum = load-more (boxesAt demand) list k load more h (w .is-load) e
+      sum : load + more ≡ total (boxesOf demand) (take (k + 1) list)
+      sum = load-more (boxesOf demand) list k load more h (w .is-load) e
 
-      entry : (j : ℕ) → j ≤ k + 1 → (t : Bool) → eqb j (k + 1) ≡ t → getD (set loads (k + 1) (load + more)) j 0 ≡ total (boxesAt demand) (take j list)
+      entry : (j : ℕ) → j ≤ k + 1 → (t : Bool) → eqb j (k + 1) ≡ t → getD (set loads (k + 1) (load + more)) j 0 ≡ total (boxesOf demand) (take j list)
       entry j below true t =
           rw (eqb-true j (k + 1) t) (getD-set-same loads (k + 1) (load + more) 0 (omega (arith, h, few, w .same-length)) ∙ sum)
       entry j below false t =
@@ -81,18 +82,12 @@ leb-alike a b c d e = by-test (leb c d) refl
     by-test true h = le-leb a b (omega (arith, e, leb-true c d h)) ∙ sym h
     by-test false h = lt-leb a b (omega (arith, e, leb-false c d h)) ∙ sym h
 
-pub visits-first : (l : ℕ) (X Y : List ℕ) → Two l X Y → Visits l X
-visits-first l X Y two = record { few = omega (arith, two .few); below = two .one-below }
-
-pub visits-second : (l : ℕ) (X Y : List ℕ) → Two l X Y → Visits l Y
-visits-second l X Y two = record { few = omega (arith, two .few); below = two .other-below }
-
 -- no load of a table is over 63,000,000
 load-few : (l : ℕ) (demand : List ℤ) (X loads : List ℕ) → Loaded l demand → Visits l X → Prefixed demand X loads → (k : ℕ) → k ≤ length X
     → getD loads k 0 ≤ 63000000
 load-few l demand X loads loaded visits prefixed k h =
     let entry = prefixed .load-at k h in
-    let parts = load-parts (boxesAt demand) k X in
+    let parts = load-parts (boxesOf demand) k X in
     let all = load-small l demand X loaded (visits .below) (visits .few) in
     omega (arith, entry, parts, all)
 
@@ -116,19 +111,19 @@ module _ (l : ℕ) (demand : List ℤ) (X Y loads others : List ℕ) (loaded : L
       ≡ holds demand van (replaced X from to (slice from2 to2 Y))
   unfolding holds
   fits-is van boxes is =
-      let all : getD loads (length X) 0 ≡ total (boxesAt demand) X =
-      of-X .load-at (length X) (omega arith) ∙ ap (total (boxesAt demand)) (take-all (length X) X (omega arith)) in
+      let all : getD loads (length X) 0 ≡ total (boxesOf demand) X =
+      of-X .load-at (length X) (omega arith) ∙ ap (total (boxesOf demand)) (take-all (length X) X (omega arith)) in
       let head = of-X .load-at from (omega (arith, ordered, within)) in
       let reach = of-X .load-at to within in
       let head2 = of-Y .load-at from2 (omega (arith, ordered2, within2)) in
       let reach2 = of-Y .load-at to2 within2 in
-      let stretch = load-stretch (boxesAt demand) X from to ordered in
-      let stretch2 = load-stretch (boxesAt demand) Y from2 to2 ordered2 in
-      let new = total-replaced (boxesAt demand) X from to (slice from2 to2 Y) ordered in
+      let stretch = load-stretch (boxesOf demand) X from to ordered in
+      let stretch2 = load-stretch (boxesOf demand) Y from2 to2 ordered2 in
+      let new = total-replaced (boxesOf demand) X from to (slice from2 to2 Y) ordered in
       leb-alike
       (getD loads (length X) 0 + getD loads from 0 + getD others to2 0)
       (boxes + (getD loads to 0 + getD others from2 0))
-      (total (boxesAt demand) (replaced X from to (slice from2 to2 Y)))
+      (total (boxesOf demand) (replaced X from to (slice from2 to2 Y)))
       (natAbs (van .capacity))
       (omega (arith, is, all, head, reach, head2, reach2, stretch, stretch2, new))
 
@@ -144,4 +139,4 @@ pub holds-anywhere : (demand : List ℤ) (van : Van) (Y : List ℕ) (place : ℕ
     → holds demand van (replaced Y place place part) ≡ holds demand van (replaced Y 0 0 part)
 unfolding holds
 holds-anywhere demand van Y place part =
-    ap (λ (n : ℕ). leb n (natAbs (van .capacity))) (total-anywhere (boxesAt demand) Y place part ∙ sym (total-anywhere (boxesAt demand) Y 0 part))
+    ap (λ (n : ℕ). leb n (natAbs (van .capacity))) (total-anywhere (boxesOf demand) Y place part ∙ sym (total-anywhere (boxesOf demand) Y 0 part))

@@ -1,34 +1,16 @@
 // Whether the load of a list is within its van's capacity.
 use day::vehicle::Van;
+use loads::boxes_at;
+use loads::boxes_in;
 ghost use mathlib.Core.Path.{_≡_};
-ghost use mathlib.Core.Bool.{true};
 ghost use Prim.Native.Nat.{_+_, _≤_, _<_};
-ghost use lib.IntN.{pos, natAbs};
-ghost use lib.Signed.{leZ};
-ghost use lib.ListN.{length, getD};
+ghost use lib.ListN.{length};
 ghost use lib.Seq.{slice};
 ghost use Rattle.labels.specs.Columns.{Visits};
-ghost use Rattle.cross_moves.specs.Boxes.{boxesAt, Loaded, Prefixed};
+ghost use Rattle.cross_moves.specs.Boxes.{Prefixed};
 ghost use Rattle.fleet.specs.Fleet.{Driven};
 ghost use Rattle.cross_moves.specs.CrossDepot.{holds, replaced};
-ghost use Rattle.cross_prices.specs.Candidate.{Two};
-
-// A number of boxes, which is not below 0.
-fn boxes_of(x: i32) -> usize
-    requires { ⌜ leZ (pos 0) x ≡ true ⌝ }
-    ensures { λ r. ⌜ r ≡ natAbs x ⌝ }
-{
-    x as usize
-}
-
-// The boxes of the visit at a position.
-fn boxes_at(l: usize, demand: &[i32], list: &[u16], k: usize) -> usize
-    requires { ⌜ Loaded l (now demand) × (k < length (now list)) × (getD (now list) k 0 < l) ⌝ }
-    ensures { λ r. ⌜ r ≡ boxesAt (now (demand .entry)) (getD (now (list .entry)) k 0) ⌝ }
-{
-    let visit = list[k] as usize;
-    boxes_of(demand[visit])
-}
+ghost use Rattle.loads.specs.Loads.{Two, Loaded};
 
 // The load of the first k visits of a list at k of the table, for k from 0 to the list's length.
 pub fn prefix_loads(l: usize, demand: &[i32], list: &[u16], loads: &mut [usize])
@@ -67,5 +49,5 @@ pub fn fits(
 {
     let come = loads[list.len()] + loads[from] + other_loads[other_to];
     let gone = loads[to] + other_loads[other_from];
-    come <= boxes_of(van.capacity) + gone
+    come <= boxes_in(van.capacity) + gone
 }

@@ -27,7 +27,7 @@ use Rattle.evaluation.specs.declared.route.Evaluation.{Evaluation}
 use Rattle.evaluation.specs.declared.route.Evaluation.the-variants.{Fails, Passes}
 use Rattle.descent.specs.Order.{range, each}
 use Rattle.descent.specs.Search.{begins-again, Search, Judge, Sweep, Word, settled, Outcome, next, run}
-use Rattle.cross_moves.specs.Boxes.{boxesAt}
+use Rattle.loads.specs.Loads.{boxesOf}
 use Rattle.fleet.specs.Fleet.{Fleet, fleetVehicle}
 use Rattle.cross_moves.specs.declared.price.Price.{Price}
 use Rattle.cross_moves.specs.declared.price.Price.the-variants.{Unallowed, Costs}
@@ -78,7 +78,7 @@ pricedAs c van (visit ∷ rest) = priceOf van (eval c (limitsOf van) (van .depot
 
 -- the load is within the van's capacity
 unfoldable pub holds : List ℤ → Van → List ℕ → Bool
-holds demand van list = leb (total (boxesAt demand) list) (natAbs (van .capacity))
+holds demand van list = leb (total (boxesOf demand) list) (natAbs (van .capacity))
 
 -- the price of a list that a move makes, where its load, if it is tested, is within the capacity
 unfoldable pub allowed : Columns → List ℤ → Bool → Van → List ℕ → Price
@@ -262,9 +262,9 @@ crossRan c demand fleet limit ls ids prices =
 -- more than a list did that was lent under the same van
 abbrev pub Carries : List ℤ → Fleet → List (List ℕ) → List ℕ → List ℕ → ℕ → Type 0
 Carries demand fleet lent lent-ids list id =
-    (total (boxesAt demand) list ≤ natAbs (fleetVehicle fleet id .capacity))
+    (total (boxesOf demand) list ≤ natAbs (fleetVehicle fleet id .capacity))
     ⊎ ((j : ℕ) × (j < length lent) × (fleetVehicle fleet id ≡ fleetVehicle fleet (getD lent-ids j 0))
-    × (total (boxesAt demand) list ≤ total (boxesAt demand) (at lent j)))
+    × (total (boxesOf demand) list ≤ total (boxesOf demand) (at lent j)))
 
 -- so each list handed back. Where all lists lent are within their vans' capacities, all handed back are
 abbrev pub Carried : List ℤ → Fleet → List (List ℕ) → List ℕ → List (List ℕ) → List ℕ → Type 0

@@ -4,32 +4,26 @@ use mathlib.Core.Path.{_≡_, refl, ap, _∙_}
 use mathlib.Core.Logic.{_≢_}
 use mathlib.Core.Bool.{Bool, true, false, cond, not, _||_}
 use mathlib.Core.List.{List, [], _∷_, _++_}
-use Prim.Native.Nat.{ℕ, _+_, _-_, _≤_, _<_}
+use Prim.Native.Nat.{ℕ, _+_, _-_, _≤_}
 use native.Mathlib.Omega.{arith}
-use borrow.Author.Tests.{lt-leb}
 use lib.IntN.{ℤ}
-use lib.ListN.{length, getD, take, drop, length-append, length-drop}
+use lib.ListN.{length, take, drop, length-append, length-drop}
 use lib.Seq.{slice, length-take-le, length-slice}
 use Rattle.numbers.specs.Operations.{zero64}
 use Rattle.day.specs.Vehicle.{limitsOf}
 use Rattle.day.specs.declared.vehicle.Van.{Van}
 use Rattle.day.specs.declared.vehicle.RouteLimits.{RouteLimits}
-use Rattle.edits.specs.Total.{total, bit, total-append, total-none}
-use Rattle.edits.proofs.Cuts.{cut, to-end, lent}
+use Rattle.edits.specs.Total.{total, total-append}
+use Rattle.edits.proofs.Cuts.{cut, to-end}
 use Rattle.labels.specs.Columns.{Columns, Visits}
 use Rattle.evaluation.specs.Route.{eval}
 use Rattle.evaluation.specs.declared.route.Evaluation.{Evaluation}
-use Rattle.descent.proofs.Below.{over, Below, below-at}
+use Rattle.descent.proofs.Below.{over, Below, below-of}
 use Rattle.cross_moves.specs.CrossDepot.{priceOf, pricedAs, holds, allowed, replaced}
-use Rattle.cross_prices.specs.Candidate.{Two}
+use Rattle.loads.specs.Loads.{Two}
+use Rattle.loads.proofs.Visits.{visits-of}
 use Rattle.cross_moves.specs.declared.price.Price.{Price}
 use Rattle.cross_moves.specs.declared.price.Price.the-variants.{Unallowed, Costs}
-
-below-all : (l : ℕ) (xs : List ℕ) → ((k : ℕ) → k < length xs → getD xs k 0 < l) → Below l xs
-below-all l xs h = total-none (over l) xs 0 (λ k there. ap bit (lt-leb l (getD xs k 0) (h k there)))
-
-pub two-turned : (l : ℕ) (X Y : List ℕ) → Two l X Y → Two l Y X
-two-turned l X Y two = record { one-below = two .other-below; other-below = two .one-below; few = omega (arith, two .few) }
 
 -- a list cut in three
 pub in-three : (f : ℕ → ℕ) (xs : List ℕ) (from to : ℕ) → from ≤ to
@@ -57,24 +51,18 @@ module _ (l : ℕ) (X Y : List ℕ) (two : Two l X Y) (from to from2 to2 : ℕ) 
     (within2 : to2 ≤ length Y) where
   pub visits-replaced : Visits l (replaced X from to (slice from2 to2 Y))
   visits-replaced =
-      let x = below-all l X (two .one-below) in
-      let y = below-all l Y (two .other-below) in
+      let x = below-of l X (two .one-below) in
+      let y = below-of l Y (two .other-below) in
       let ys = in-three (over l) Y from2 to2 ordered2 in
       let new = total-replaced (over l) X from to (slice from2 to2 Y) ordered in
       let none : Below l (replaced X from to (slice from2 to2 Y)) = omega arith in
-      record {
-        few = omega (arith, length-replaced X from to (slice from2 to2 Y) ordered within, length-slice from2 to2 Y within2, two .few);
-        below = λ k h. below-at l (replaced X from to (slice from2 to2 Y)) k 0 none h;
-      }
+      visits-of l (replaced X from to (slice from2 to2 Y))
+      (omega (arith, length-replaced X from to (slice from2 to2 Y) ordered within, length-slice from2 to2 Y within2, two .few)) none
 
 -- the parts appended are the list
 pub built : (X part : List ℕ) (from to : ℕ) {head middle all : List ℕ} → head ≡ slice 0 from X → middle ≡ head ++ part
     → all ≡ middle ++ slice to (length X) X → all ≡ replaced X from to part
 built X part from to e f g = rw (g, f, e, to-end to X)
-
--- a buffer's front, lent
-pub front : (end : ℕ) (buffer ys : List ℕ) → take end buffer ≡ ys → take (end - 0) (drop 0 buffer) ≡ ys
-front end buffer ys e = lent 0 end buffer (omega arith) ∙ e
 
 -- ---- prices
 

@@ -2,8 +2,7 @@
 use mathlib.Core.Path.{_≡_}
 use mathlib.Core.Bool.{cond}
 use mathlib.Core.List.{List}
-use Prim.Native.Nat.{ℕ, _+_, _≤_, _<_}
-use lib.ListN.{length, getD}
+use Prim.Native.Nat.{ℕ}
 use lib.Ieee.{Float}
 use Rattle.numbers.specs.Operations.{_⊕_}
 use Rattle.day.specs.Vehicle.{routeCost, limitsOf, allows}
@@ -19,12 +18,6 @@ use Rattle.heads.specs.declared.Head.{Head}
 use Rattle.cross_moves.specs.CrossDepot.{priceOf}
 use Rattle.cross_moves.specs.declared.price.Price.{Price}
 use Rattle.cross_moves.specs.declared.price.Price.the-variants.{Unallowed, Costs}
-
--- of two lists of the tables
-pub record Two (l : ℕ) (X Y : List ℕ) : Type 0 where
-  pub one-below : (k : ℕ) → k < length X → getD X k 0 < l
-  pub other-below : (k : ℕ) → k < length Y → getD Y k 0 < l
-  pub few : length X + length Y ≤ 63
 
 -- the van's limits, and no break among them
 pub record Unbroken (van : Van) (limits : RouteLimits) : Type 0 where

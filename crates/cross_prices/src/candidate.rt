@@ -18,7 +18,8 @@ ghost use Rattle.fleet.specs.Fleet.{Driven};
 ghost use Rattle.labels.specs.Columns.{columnsAt, Formed};
 ghost use Rattle.heads.specs.Kept.{Kept};
 ghost use Rattle.cross_moves.specs.CrossDepot.{pricedAs, amount, replaced};
-ghost use Rattle.cross_prices.specs.Candidate.{Two, endedPrice, priceOn, Unbroken};
+ghost use Rattle.loads.specs.Loads.{Two};
+ghost use Rattle.cross_prices.specs.Candidate.{endedPrice, priceOn, Unbroken};
 
 // What a list costs that ends with this label, if the van allows it.
 fn ended_price(van: Van, limits: RouteLimits, label: Label, distance: f64, back: f64) -> Price

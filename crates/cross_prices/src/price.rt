@@ -12,7 +12,7 @@ ghost use lib.Seq.{slice};
 ghost use Rattle.labels.specs.Columns.{columnsAt, Formed, Visits};
 ghost use Rattle.fleet.specs.Fleet.{Driven};
 ghost use Rattle.cross_moves.specs.CrossDepot.{priceOf, pricedAs, replaced};
-ghost use Rattle.cross_prices.specs.Candidate.{Two};
+ghost use Rattle.loads.specs.Loads.{Two};
 
 // The price of an evaluated list.
 fn price_of(van: Van, evaluation: Evaluation) -> Price

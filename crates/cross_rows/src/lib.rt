@@ -12,7 +12,8 @@ ghost use lib.ListN.{length};
 ghost use Rattle.fleet.specs.Fleet.{Driven};
 ghost use Rattle.labels.specs.Columns.{columnsAt, Formed};
 ghost use Rattle.heads.specs.Kept.{Kept};
-ghost use Rattle.cross_prices.specs.Candidate.{Two, Unbroken};
+ghost use Rattle.loads.specs.Loads.{Two};
+ghost use Rattle.cross_prices.specs.Candidate.{Unbroken};
 ghost use Rattle.cross_rows.specs.Row.{fromAt, toAt, Rowed, Costed};
 
 // The stretch of a list that each candidate of a row changes: where that of the first begins and ends, and by how much (0 or 1) that of the next does so later.

@@ -25,7 +25,8 @@ use Rattle.engine.specs.Engine.{endedAs}
 use Rattle.engine.specs.declared.Ended.the-variants.{Settled, Stopped}
 use Rattle.fleet.specs.Fleet.{Fleet}
 use Rattle.cross_moves.specs.CrossDepot.{Plan, afterMove, searchOf, judgeOf, runOf, ranOf, planOf}
-use Rattle.cross_choices.specs.Scan.{Held, isFound, moveOf}
+use Rattle.loads.specs.Loads.{Held}
+use Rattle.cross_choices.specs.Scan.{isFound, moveOf}
 use Rattle.cross_changes.specs.Tables.{Made}
 use Rattle.cross_runs.specs.Tables.{MadeIn, Chosen, Handed, crossedOf}
 use Rattle.cross_deltas.specs.Deltas.{Kept, keptOf}

@@ -1,5 +1,5 @@
 -- Every move of the search can be made: it is between two lists of different depots, and its stretches lie in them. Assumes nothing.
-use mathlib.Core.Path.{_≡_, refl, sym, ap, subst, _∙_}
+use mathlib.Core.Path.{_≡_, refl, sym, subst, _∙_}
 use mathlib.Core.Logic.{_⊎_, inl, inr, _≢_}
 use mathlib.Core.Bool.{Bool, true, false, cond}
 use mathlib.Core.Option.{some}
@@ -8,13 +8,13 @@ use Prim.Native.Nat.{ℕ, _+_, _≤_, _<_}
 use native.Mathlib.Omega.{arith}
 use lib.Dec.{eqb, ltb}
 use lib.IntN.{ℤ}
-use lib.ListN.{length, getD}
+use lib.ListN.{length}
 use lib.Ieee.{Float}
 use Rattle.numbers.specs.Floor.{gainFloor}
 use Rattle.day.specs.Matrix.{scaleOf}
 use Rattle.lists.specs.Table.{Laid, lists}
 use Rattle.list_changes.specs.Edits.{at}
-use Rattle.lists.proofs.Tables.{at-lists, length-lists, length-list}
+use Rattle.lists.proofs.Tables.{length-lists, length-at}
 use Rattle.labels.specs.Columns.{Columns}
 use Rattle.descent.specs.Order.{_∈_, range, each}
 use Rattle.descent.specs.Search.{taken}
@@ -159,9 +159,6 @@ module _ (fleet : Fleet) (p : Plan) (m : Move) where
 
 -- a move of the tables' plan can be made
 module _ (fleet : Fleet) (visits lengths ids : List ℕ) (costs : List Float) (laid : Laid visits lengths) (m : Move) where
-  length-at : (r : ℕ) → length (at (lists visits lengths) r) ≡ getD lengths r 0
-  length-at r = ap length (at-lists visits lengths r) ∙ length-list visits lengths (laid .add-up) r
-
   in-moves : m ∈ moves fleet (planOf visits lengths ids costs) → Makes visits lengths m
   in-moves h =
       let inside = in-plan fleet (planOf visits lengths ids costs) m h in
@@ -173,9 +170,9 @@ module _ (fleet : Fleet) (visits lengths ids : List ℕ) (costs : List Float) (l
         other-there = omega (arith, inside .3, length-lists visits lengths, here .is-other);
         apart = apart;
         ordered1 = here .ordered1;
-        within1 = rw (here .is-one) (rw (length-at (inside .0)) at (here .within1));
+        within1 = rw (here .is-one) (rw (length-at visits lengths (laid .add-up) (inside .0)) at (here .within1));
         ordered2 = here .ordered2;
-        within2 = rw (here .is-other) (rw (length-at (inside .1)) at (here .within2));
+        within2 = rw (here .is-other) (rw (length-at visits lengths (laid .add-up) (inside .1)) at (here .within2));
       }
 
 module _ (c : Columns) (demand : List ℤ) (fleet : Fleet) (visits lengths ids : List ℕ) (costs : List Float) (laid : Laid visits lengths) where

@@ -13,13 +13,13 @@ use Rattle.numbers.specs.Floor.{gainFloor}
 use Rattle.day.specs.Matrix.{scaleOf}
 use Rattle.list_changes.specs.Edits.{at}
 use Rattle.labels.specs.Columns.{Columns}
-use Rattle.descent.specs.Order.{range, each}
+use Rattle.descent.specs.Order.{range, each, scan}
 use Rattle.descent.specs.Search.{ok, taken}
 use Rattle.fleet.specs.Fleet.{Fleet}
 use Rattle.cross_moves.specs.CrossDepot.{Plan, relocation, exchange, cuts, relocations, swaps, tailExchanges, pairOf, sameDepot}
 use Rattle.cross_moves.specs.CrossDepot.{betweenLists, ofPair, moves}
 use Rattle.cross_moves.specs.CrossDepot.{hasPrice, amount, firstPrice, secondPrice, searchOf, judgeOf}
-use Rattle.cross_choices.specs.Scan.{scan, decided, better, tryRelocation, tryExchange, relocateRow, exchangeRow, bestRelocation, bestSwap, bestTails}
+use Rattle.cross_choices.specs.Scan.{decided, better, tryRelocation, tryExchange, relocateRow, exchangeRow, bestRelocation, bestSwap, bestTails}
 use Rattle.cross_choices.specs.Scan.{bestExchange, bestBetween, bestOfPair, bestFrom, bestOf, betterIn, nothing, isFound, moveOf}
 use Rattle.cross_moves.specs.declared.price.Price.{Price}
 use Rattle.cross_moves.specs.declared.price.Price.the-variants.{Unallowed, Costs}

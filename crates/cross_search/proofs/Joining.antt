@@ -19,7 +19,8 @@ use Rattle.cross_moves.specs.declared.price.Price.{Price}
 use Rattle.cross_moves.specs.declared.price.Price.the-variants.{Unallowed, Costs}
 use Rattle.cross_moves.specs.declared.pair.Pair.{Pair}
 use Rattle.cross_moves.specs.declared.pair.Move.{Move}
-use Rattle.cross_choices.specs.Scan.{scan, decided, better, betterIn, nothing, bestOfPair, bestFrom}
+use Rattle.descent.specs.Order.{scan}
+use Rattle.cross_choices.specs.Scan.{decided, better, betterIn, nothing, bestOfPair, bestFrom}
 use Rattle.cross_choices.specs.declared.Choice.{Choice}
 use Rattle.cross_deltas.specs.Deltas.{joined, Sunk, leastOf}
 use Rattle.cross_deltas.proofs.Kept.{takes, stays}

@@ -1,67 +1,24 @@
--- Two lists of the tables: lists of different depots are different lists, so that together they have no more visits than the table; and what a pair makes of
--- the best so far. Assumes nothing.
+-- Two lists of the tables: lists of different depots are different lists; and what a pair makes of the best so far. Assumes nothing.
 use mathlib.Core.Path.{_≡_, refl, sym, ap, _∙_}
 use mathlib.Core.Logic.{_≢_}
 use mathlib.Core.Bool.{Bool, true, false, false≢true}
-use mathlib.Core.List.{List, []}
-use Prim.Native.Nat.{ℕ, _+_, _≤_, _<_}
-use native.Mathlib.Numerals.{add-one}
-use native.Mathlib.Omega.{arith}
-use borrow.Author.Tests.{eq-eqb, ltb-true, ltb-false}
-use lib.Dec.{eqb, ltb}
+use mathlib.Core.List.{List}
+use Prim.Native.Nat.{ℕ}
+use borrow.Author.Tests.{eq-eqb}
 use lib.IntN.{ℤ}
 use lib.ListN.{length, getD}
 use lib.Ieee.{Float}
 use Rattle.tests.specs.Pick.{picked, other}
-use Rattle.lists.specs.Table.{lists, startOf, listOf}
-use Rattle.lists.proofs.Tables.{at-lists, length-lists, length-list, list-at, start-later, start-within}
+use Rattle.lists.specs.Table.{listOf}
+use Rattle.lists.proofs.Tables.{at-lists, length-lists}
 use Rattle.labels.specs.Columns.{Columns}
-use Rattle.descent.specs.Order.{range}
-use Rattle.descent.proofs.Loops.{range-step, range-done}
+use Rattle.descent.specs.Order.{range, scan}
 use Rattle.fleet.specs.Fleet.{Fleet, Manned}
 use Rattle.cross_moves.specs.CrossDepot.{pairOf, sameDepot, planOf}
-use Rattle.cross_prices.specs.Candidate.{Two}
-use Rattle.cross_choices.specs.Scan.{Held, Paired, scan, bestBetween, bestOfPair, bestFrom, bestOf}
+use Rattle.cross_choices.specs.Scan.{Paired, bestBetween, bestOfPair, bestFrom, bestOf}
 use Rattle.cross_moves.specs.declared.pair.Pair.{Pair}
 use Rattle.cross_choices.specs.declared.Choice.{Choice}
 use Rattle.fleet.proofs.Numbered.{vehicle-driven}
-
--- ---- a loop
-
-module _ {B : Type 0} (f : ℕ → B → B) (k n : ℕ) (b : B) where
-  pub scan-turn : (after : B) → k < n → after ≡ f k b → scan f (range (k + 1) n) after ≡ scan f (range k n) b
-  unfolding scan
-  scan-turn after h e = rw (add-one k, range-step k n h, e)
-
-  pub scan-done : n ≤ k → scan f (range k n) b ≡ b
-  unfolding scan
-  scan-done h = rw (range-done k n h)
-
--- ---- two lists
-
-module _ (l : ℕ) (visits lengths : List ℕ) (held : Held l visits lengths) where
-  below-of : (r k : ℕ) → k < length (listOf visits lengths r) → getD (listOf visits lengths r) k 0 < l
-  below-of r k h =
-      let add-up = held .laid .add-up in
-      let there : k < getD lengths r 0 = rw (length-list visits lengths add-up r) at h in
-      rw (list-at visits lengths add-up r k there) (held .below (startOf lengths r + k) (omega (arith, start-within lengths r)))
-
-  -- two lists have together no more visits than the table
-  together : (a b : ℕ) → a ≢ b → getD lengths a 0 + getD lengths b 0 ≤ 63
-  together a b apart = by-order (ltb a b) refl
-    where
-      by-order : (t : Bool) → ltb a b ≡ t → getD lengths a 0 + getD lengths b 0 ≤ 63
-      by-order true e = omega (arith, start-later lengths a b (ltb-true a b e), start-within lengths b, held .laid .add-up, held .few)
-      by-order false e =
-          let before : b < a = omega (arith, ltb-false a b e, apart) in
-          omega (arith, start-later lengths b a before, start-within lengths a, held .laid .add-up, held .few)
-
-  pub two-of : (a b : ℕ) → a ≢ b → Two l (listOf visits lengths a) (listOf visits lengths b)
-  two-of a b apart = record {
-    one-below = below-of a;
-    other-below = below-of b;
-    few = rw (length-list visits lengths (held .laid .add-up) a, length-list visits lengths (held .laid .add-up) b) (together a b apart);
-  }
 
 module _ (fleet : Fleet) (ids : List ℕ) (costs : List Float) (a b : ℕ) where
   -- the vans of a list and itself start from one depot

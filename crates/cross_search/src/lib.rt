@@ -14,7 +14,8 @@ ghost use Prim.Native.Nat.{_+_, _*_, _<_};
 ghost use lib.ListN.{length, set};
 ghost use Rattle.labels.specs.Columns.{columnsAt};
 ghost use Rattle.cross_moves.specs.CrossDepot.{planOf};
-ghost use Rattle.cross_choices.specs.Scan.{Asked, Held, nothing, bestOfPair, bestFrom, bestOf};
+ghost use Rattle.loads.specs.Loads.{Held};
+ghost use Rattle.cross_choices.specs.Scan.{Asked, nothing, bestOfPair, bestFrom, bestOf};
 ghost use Rattle.fleet.specs.Fleet.{fleetAt, Manned};
 ghost use Rattle.cross_deltas.specs.Deltas.{leastOf, Sunk, Kept};
 

@@ -16,8 +16,10 @@ use Rattle.edits.specs.Total.{SameVisits}
 use Rattle.lists.specs.Table.{lists}
 use Rattle.labels.specs.Columns.{columnsOf, formed}
 use Rattle.loads.proofs.Boxes.{loaded-of}
+use Rattle.loads.proofs.Tables.{held-of}
 use Rattle.cross_moves.specs.CrossDepot.{Carried, crossRan}
-use Rattle.cross_choices.specs.Scan.{Asked, Held}
+use Rattle.loads.specs.Loads.{Held}
+use Rattle.cross_choices.specs.Scan.{Asked}
 use Rattle.cross_runs.specs.Tables.{Handed, crossedOf}
 use Rattle.cross_runs.specs.declared.Crossed.{Crossed}
 use Rattle.refusals.specs.Refusal.{refusalOfFleet, FineFleet}
@@ -36,9 +38,10 @@ one-depot flags = omega arith
 
 module _ (d : Day) (fleet : Fleet) (visits lengths ids : List ℕ) (prices : List Float) (f : FineFleet d fleet visits lengths ids prices) where
   pub asked : Asked (columnsOf d) (d .demand)
-  asked =
-      let loads = loaded-of (d .l) (d .flags) (d .demand) (d .service) (d .penalty) (f .day .shaped .demand) (f .day .locations) in
-      record { formed = formed (f .day .shaped); loaded = record { column = loads .column; in-range = loads .in-range } }
+  asked = record {
+    formed = formed (f .day .shaped);
+    loaded = loaded-of (d .l) (d .flags) (d .demand) (d .service) (d .penalty) (f .day .shaped .demand) (f .day .locations);
+  }
 
   pub crewed : Crewed (d .l) fleet
   crewed = record {
@@ -53,11 +56,7 @@ module _ (d : Day) (fleet : Fleet) (visits lengths ids : List ℕ) (prices : Lis
 
   pub held : Held (d .l) visits lengths × (length ids ≡ length lengths) × (length prices ≡ length lengths)
   held = (
-    record {
-      laid = f .table .laid;
-      below = f .table .below;
-      few = omega (arith, f .table .at-most, one-depot (d .flags), f .day .shaped .few);
-    },
+    held-of (numDepots (d .flags)) (d .l) visits lengths (omega (arith, one-depot (d .flags), f .day .shaped .few)) (f .table),
     f .vans .ids-fit,
     f .vans .prices-fit,
   )

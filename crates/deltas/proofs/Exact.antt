@@ -27,7 +27,7 @@ use Rattle.descent.specs.Claim.{Claim, handed}
 use Rattle.descent.proofs.Members.{T-true}
 use Rattle.descent.proofs.Costs.{spared}
 use Rattle.descent.proofs.Legs.{legs-of, pick, between, two-opt-legs, three-opt-legs, or-opt-legs, tail-legs, relocate-legs, exact-by-legs}
-use Rattle.descent.proofs.Below.{Below, AllBelow, below-at, kept-below}
+use Rattle.descent.proofs.Below.{Below, AllBelow, below-of, below-at, kept-below}
 use Rattle.descent.proofs.Claims.{Tried, Exact}
 use Rattle.descent.proofs.Demand3.{Proper, demand-3}
 use Rattle.descent.proofs.Relocate.{relocations-in}
@@ -36,7 +36,7 @@ use Rattle.deltas.specs.Deltas.{Listed, stopAt, stopBefore, around, ends
 use Rattle.deltas.specs.Deltas.{exchangeDelta, removalDelta, insertionCost, insertionDelta, relocateDelta}
 use Rattle.deltas.specs.Judged.{Map, distanceOf, floorOf, deltaOf, float-judge, roadsOf, WholeMap, Lent}
 use Rattle.deltas.specs.declared.Ends.{Ends}
-use Rattle.deltas.proofs.Stops.{getD-any, slice-below, slice-short, below-of, stop-there, around-placed, ends-placed}
+use Rattle.deltas.proofs.Stops.{getD-any, slice-below, slice-short, stop-there, around-placed, ends-placed}
 use Rattle.deltas.proofs.Legs.{zero-whole, leg-whole, turn-whole, tails-whole, detours-whole, pattern-whole, through-number-if, relocate-whole, paid}
 
 -- ---- the lists of a state

@@ -24,10 +24,10 @@ use Rattle.tests.specs.All.{all-at}
 use Rattle.day.specs.Matrix.{leg, mirrored, symmetric, Square, entry-below}
 use Rattle.day.specs.Refusal.{allPlain}
 use Rattle.descent.proofs.Members.{true-T}
-use Rattle.descent.proofs.Below.{Below, over-none}
+use Rattle.descent.proofs.Below.{Below, over-none, below-of}
 use Rattle.deltas.specs.Changes.{turnedLegs, reversalDelta}
 use Rattle.deltas.specs.Deltas.{Visits, Marked}
-use Rattle.deltas.proofs.Stops.{slice-below, below-of}
+use Rattle.deltas.proofs.Stops.{slice-below}
 
 -- ---- 0.0 as the rounding of nothing
 

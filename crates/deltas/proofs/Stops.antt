@@ -4,10 +4,9 @@ use mathlib.Core.Bool.{Bool, true, false}
 use mathlib.Core.List.{List, [], _∷_}
 use Prim.Native.Nat.{ℕ, zero, suc, _-_, _≤_, _<_}
 use native.Mathlib.Omega.{arith}
-use borrow.Author.Tests.{lt-leb}
 use lib.ListN.{length, getD, take, drop, take-append-drop, List·getD-eq-default}
 use lib.Seq.{slice}
-use Rattle.edits.specs.Total.{total, bit, total-append, total-one}
+use Rattle.edits.specs.Total.{total, total-append, total-one}
 use Rattle.descent.proofs.Below.{over, Below}
 use Rattle.deltas.specs.Changes.{Placed, turnedIf}
 use Rattle.deltas.specs.Deltas.{Listed, stopAt, stopBefore, around, endsOf}
@@ -76,11 +75,3 @@ slice-below l i e xs b = omega (arith, slice-le (over l) i e xs)
 
 pub slice-short : (n i e : ℕ) (xs : List ℕ) → length xs ≤ n → length (slice i e xs) ≤ n
 slice-short n i e xs h = omega (arith, slice-le (λ x. 1) i e xs, total-one xs, total-one (slice i e xs))
-
--- each visit is a location, as a sum
-pub below-of : (l : ℕ) (xs : List ℕ) → ((k : ℕ) → k < length xs → getD xs k 0 < l) → Below l xs
-below-of l [] h = refl
-below-of l (x ∷ xs) h =
-    let rest = below-of l xs (λ k t. h (suc k) (omega arith)) in
-    let one : over l x ≡ 0 = ap bit (lt-leb l x (h 0 (omega arith))) in
-    omega arith

@@ -1,14 +1,14 @@
 -- What stays true of the lists that a run can reach: every visit is below a bound if it was, and no list is longer than all were together.
 -- Assumes nothing.
-use mathlib.Core.Path.{_≡_, refl, _∙_}
+use mathlib.Core.Path.{_≡_, refl, ap, _∙_}
 use mathlib.Core.Bool.{Bool, true, false}
 use mathlib.Core.List.{List, []}
 use Prim.Native.Nat.{ℕ, _≤_, _<_}
 use native.Mathlib.Omega.{arith}
-use borrow.Author.Tests.{leb-false}
+use borrow.Author.Tests.{lt-leb, leb-false}
 use lib.Dec.{leb}
 use lib.ListN.{length, getD}
-use Rattle.edits.specs.Total.{total, bit, part-le, total-one}
+use Rattle.edits.specs.Total.{total, bit, part-le, total-none, total-one}
 use Rattle.descent.specs.Permitted.{Checks}
 use Rattle.descent.proofs.Kept.{Kept}
 
@@ -29,6 +29,9 @@ over-none n x e = go (leb n x) refl e
     go : (b : Bool) → leb n x ≡ b → bit b ≡ 0 → x < n
     go true p e = absurd (omega arith)
     go false p e = leb-false n x p
+
+pub below-of : (n : ℕ) (xs : List ℕ) → ((k : ℕ) → k < length xs → getD xs k 0 < n) → Below n xs
+below-of n xs h = total-none (over n) xs 0 (λ k there. ap bit (lt-leb n (getD xs k 0) (h k there)))
 
 pub below-at : (n : ℕ) (xs : List ℕ) (i q : ℕ) → Below n xs → i < length xs → getD xs i q < n
 below-at n xs i q h k = over-none n (getD xs i q) (let le = part-le (over n) xs i q k in omega arith)

@@ -3,11 +3,12 @@ use mathlib.Core.Path.{_≡_, refl}
 use mathlib.Core.Bool.{Bool, true, false, _&&_}
 use mathlib.Core.Option.{Option, none, some}
 use mathlib.Core.List.{List, [], _∷_, _++_, map}
-use Prim.Native.Nat.{ℕ, zero, suc, _-_, _≤_, _<_}
+use Prim.Native.Nat.{ℕ, zero, suc, _+_, _-_, _≤_, _<_}
+use native.Mathlib.Numerals.{add-one}
 use native.Mathlib.Omega.{arith}
 use native.Mathlib.Nat.{mul-le-mul-right}
 use lib.ListN.{length}
-use Rattle.descent.specs.Order.{range, each}
+use Rattle.descent.specs.Order.{range, each, scan}
 use Rattle.descent.specs.Search.{least, firstLeast, goes-on, begins-again, Search, Judge, Sweep, ok, taken, firstMove, next, settled, stopped, run}
 use Rattle.descent.specs.Within.{Reversal, reversals}
 use Rattle.descent.proofs.Counts.{two-opt-tries}
@@ -18,6 +19,16 @@ range-step a b h = let e : b - a ≡ suc (b - suc a) = omega arith in rw e
 
 pub range-done : (a b : ℕ) → b ≤ a → range a b ≡ []
 range-done a b h = let e : b - a ≡ 0 = omega arith in rw e
+
+-- a loop that carries a value: likewise
+module _ {B : Type 0} (f : ℕ → B → B) (k n : ℕ) (b : B) where
+  pub scan-turn : (after : B) → k < n → after ≡ f k b → scan f (range (k + 1) n) after ≡ scan f (range k n) b
+  unfolding scan
+  scan-turn after h e = rw (add-one k, range-step k n h, e)
+
+  pub scan-done : n ≤ k → scan f (range k n) b ≡ b
+  unfolding scan
+  scan-done h = rw (range-done k n h)
 
 -- the best after some candidates is where the rest goes on from
 pub least-append : {C : Type 0} (ok : C → Bool) (less : C → C → Bool) (best : C) (cs ds : List C)

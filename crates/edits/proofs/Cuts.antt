@@ -2,6 +2,7 @@
 use mathlib.Core.Path.{_≡_, ap, _∙_}
 use mathlib.Core.List.{List, [], _∷_, _++_}
 use Prim.Native.Nat.{ℕ, zero, suc, _-_, _≤_}
+use native.Mathlib.Omega.{arith}
 use native.Mathlib.Nat.{sub-zero, suc-sub-suc, le-of-suc-le-suc, not-suc-le-zero}
 use lib.ListN.{length, take, drop, take-append-drop}
 use lib.Seq.{slice, take-take, take-nil, take-length}
@@ -29,3 +30,7 @@ lent zero e xs h = ap (λ (n : ℕ). take n xs) (sub-zero e)
 lent (suc i) zero xs h = absurd (not-suc-le-zero h)
 lent (suc i) (suc e) [] h = take-nil (suc e - suc i)
 lent (suc i) (suc e) (x ∷ xs) h = ap (λ (n : ℕ). take n (drop i xs)) (suc-sub-suc e i) ∙ lent i e xs (le-of-suc-le-suc h)
+
+-- a buffer's front, lent
+pub front : (end : ℕ) (buffer ys : List ℕ) → take end buffer ≡ ys → take (end - 0) (drop 0 buffer) ≡ ys
+front end buffer ys e = lent 0 end buffer (omega arith) ∙ e

@@ -1,15 +1,17 @@
 -- What every edit keeps: every total over the visits, whatever is added up. So how often each office stands in the list, its load, and its length.
--- An edit only arranges the pieces of a list anew, and a total of pieces is the sum of their totals. Assumes nothing.
+-- An edit only arranges the pieces of a list anew, and a total of pieces is the sum of their totals. And the totals of a list with a visit put in, or
+-- taken out. Assumes nothing.
 use mathlib.Core.Path.{_≡_, refl, sym, ap, _∙_}
 use mathlib.Core.Logic.{_⊎_, inl, inr}
 use mathlib.Core.Bool.{Bool, true, false, not}
-use mathlib.Core.List.{List}
-use Prim.Native.Nat.{ℕ, _+_, _<_, _≤_}
+use mathlib.Core.List.{List, _∷_, _++_}
+use Prim.Native.Nat.{ℕ, suc, _+_, _-_, _<_, _≤_}
 use native.Mathlib.Omega.{arith}
 use lib.Dec.{eqb}
-use lib.ListN.{length, getD}
-use Rattle.edits.specs.Total.{total, bit, count, SameVisits, sums, total-one, total-none, part-le}
-use Rattle.edits.specs.Edits.{reversed, exchanged, putBefore, outerExchanged}
+use lib.ListN.{length, getD, take, drop, take-append-drop}
+use lib.Seq.{drop-cons}
+use Rattle.edits.specs.Total.{total, bit, count, SameVisits, sums, total-append, total-one, total-none, part-le}
+use Rattle.edits.specs.Edits.{reversed, exchanged, putBefore, outerExchanged, inserted, without}
 use Rattle.edits.proofs.Cuts.{cut, cut4, cut5}
 use Rattle.edits.proofs.Turns.{put-earlier, put-later}
 
@@ -74,3 +76,25 @@ length-putBefore from size to xs h = same-length xs (putBefore from size to xs) 
 
 pub length-outerExchanged : (from a b to : ℕ) (xs : List ℕ) → from ≤ a → a ≤ b → b ≤ to → length (outerExchanged from a b to xs) ≡ length xs
 length-outerExchanged from a b to xs h₁ h₂ h₃ = same-length xs (outerExchanged from a b to xs) (same-outerExchanged from a b to xs h₁ h₂ h₃)
+
+-- ---- a visit put in, or taken out
+
+pub total-inserted : (f : ℕ → ℕ) (xs : List ℕ) (visit place : ℕ) → total f (inserted xs visit place) ≡ total f xs + f visit
+total-inserted f xs visit place =
+    let whole : total f (take place xs ++ drop place xs) ≡ total f xs = ap (total f) (take-append-drop place xs) in
+    let parts = total-append f (take place xs) (drop place xs) in
+    rw (total-append f (take place xs) (visit ∷ drop place xs)) (omega arith)
+
+pub total-without : (f : ℕ → ℕ) (xs : List ℕ) (position : ℕ) → position < length xs
+    → total f (without xs position) + f (getD xs position 0) ≡ total f xs
+total-without f xs position h =
+    let whole : total f (take position xs ++ drop position xs) ≡ total f xs = ap (total f) (take-append-drop position xs) in
+    let parts = total-append f (take position xs) (drop position xs) in
+    let behind : total f (drop position xs) ≡ f (getD xs position 0) + total f (drop (suc position) xs) = ap (total f) (drop-cons xs position 0 h) in
+    rw (total-append f (take position xs) (drop (suc position) xs)) (omega arith)
+
+pub length-inserted : (xs : List ℕ) (visit place : ℕ) → length (inserted xs visit place) ≡ suc (length xs)
+length-inserted xs visit place = omega (arith, total-inserted (λ w. 1) xs visit place, total-one xs, total-one (inserted xs visit place))
+
+pub length-without : (xs : List ℕ) (position : ℕ) → position < length xs → length (without xs position) ≡ length xs - 1
+length-without xs position h = omega (arith, total-without (λ w. 1) xs position h, total-one xs, total-one (without xs position))

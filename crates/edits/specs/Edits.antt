@@ -2,8 +2,8 @@
 -- Places count from 0; a stretch goes from a place up to, not including, another. Assumes nothing.
 use mathlib.Core.Path.{_≡_}
 use mathlib.Core.Bool.{true, false}
-use mathlib.Core.List.{List, _++_, reverse}
-use Prim.Native.Nat.{ℕ, _+_}
+use mathlib.Core.List.{List, _∷_, _++_, reverse}
+use Prim.Native.Nat.{ℕ, suc, _+_}
 use lib.Dec.{ltb}
 use lib.ListN.{length, take, drop, getD, set}
 use lib.Seq.{slice}
@@ -32,6 +32,14 @@ putBefore from size to xs =
 -- the stretches from..a and b..to exchanged, round the stretch a..b between them, which stays as it is
 unfoldable pub outerExchanged : ℕ → ℕ → ℕ → ℕ → List ℕ → List ℕ
 outerExchanged from a b to xs = take from xs ++ slice b to xs ++ slice a b xs ++ slice from a xs ++ drop to xs
+
+-- a visit put in at a place
+abbrev pub inserted : List ℕ → ℕ → ℕ → List ℕ
+inserted xs visit place = take place xs ++ visit ∷ drop place xs
+
+-- the list that the visit at a position has left
+abbrev pub without : List ℕ → ℕ → List ℕ
+without xs position = take position xs ++ drop (suc position) xs
 
 -- a buffer whose first `count` visits were in use, and are followed now by `part`: the first `end` are in use, and what is behind is kept
 pub record Appended (count : ℕ) (part before : List ℕ) (end : ℕ) (after : List ℕ) : Type 0 where

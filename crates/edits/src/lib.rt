@@ -10,6 +10,13 @@ ghost use lib.ListN.{length};
 ghost use lib.Seq.{slice};
 ghost use Rattle.edits.specs.Edits.{swapped, reversed, exchanged, putBefore, outerExchanged, Appended};
 
+// A visit as a number.
+pub fn wide(v: u16) -> usize
+    ensures { λ r. ⌜ r ≡ v ⌝ }
+{
+    v as usize
+}
+
 // Exchanges the visits at places i and j.
 fn swap(list: &mut [u16], i: usize, j: usize)
     requires { ⌜ i < length (now list) ⌝ }

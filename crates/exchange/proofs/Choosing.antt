@@ -12,14 +12,14 @@ use Rattle.numbers.specs.Floor.{gainFloor}
 use Rattle.numbers.proofs.Total.{lt-trans}
 use Rattle.day.specs.Matrix.{scaleOf}
 use Rattle.labels.specs.Columns.{Columns}
-use Rattle.descent.specs.Order.{from-on, range, each}
+use Rattle.descent.specs.Order.{from-on, range, each, scan}
 use Rattle.descent.specs.Search.{least, firstLeast, ok, taken}
 use Rattle.descent.specs.Across.{at, Pair, Tails}
 use Rattle.descent.proofs.Members.{T-true, true-T, and-parts, and-both}
 use Rattle.descent.proofs.Loops.{least-better, least-stays, first-found, first-passed}
 use Rattle.lists.specs.Table.{lists, listOf}
 use Rattle.lists.proofs.Tables.{at-lists}
-use Rattle.tails.specs.Best.{scan, nothing, betterBy, rowBy, bestBy, bestOf}
+use Rattle.tails.specs.Best.{nothing, betterBy, rowBy, bestBy, bestOf}
 use Rattle.exchange.specs.Exchange.{passesOf, judgeOf, pairAt, movedBy, takenAt}
 use Rattle.tails.specs.declared.Terms.{Terms}
 use Rattle.exchange.specs.declared.Place.{Place}

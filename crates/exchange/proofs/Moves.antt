@@ -9,7 +9,7 @@ use lib.ListN.{length}
 use lib.Ieee.{Float}
 use Rattle.lists.specs.Table.{lists}
 use Rattle.list_changes.specs.Edits.{Edited, Cuts, tailsExchanged}
-use Rattle.lists.proofs.Tables.{length-lists}
+use Rattle.lists.proofs.Tables.{length-lists, length-at}
 use Rattle.descent.specs.Search.{Search, Judge, Sweep, ok, taken, firstMove, next}
 use Rattle.descent.specs.Across.{Pair, Tails, tail-cuts}
 use Rattle.descent.proofs.Loops.{place-passed, place-moved, next-ahead, next-sweep}
@@ -21,7 +21,6 @@ use Rattle.exchange.specs.Exchange.{pairAt, movedBy, from, placeAfter, I
 use Rattle.exchange.specs.declared.Place.{Place}
 use Rattle.exchange.specs.declared.Found.{Found}
 use Rattle.exchange.proofs.Places.{from-turn, from-end, from-start}
-use Rattle.exchange.proofs.Tables.{length-at}
 use Rattle.exchange.proofs.Running.{Going, going-moves}
 
 -- where an exchange leads, in a number of lists
@@ -104,8 +103,8 @@ module _ (passes : List (List ℕ) → Tails → Bool) (judge : Judge (List (Lis
           laid = held .laid;
           before = ordered;
           there = there;
-          within1 = rw (length-at l visits lengths held (p .one)) at (cut .2);
-          within2 = rw (length-at l visits lengths held (p .other)) at (cut .4);
+          within1 = rw (length-at visits lengths (held .laid .add-up) (p .one)) at (cut .2);
+          within2 = rw (length-at visits lengths (held .laid .add-up) (p .other)) at (cut .4);
         }
 
     -- a run goes on behind the move that was made

@@ -13,7 +13,8 @@ use lib.Seq.{getD-set-same, getD-set-other}
 use lib.Ieee.{Float, nan}
 use lib.Ieee.Scale.{finite}
 use Rattle.deltas.specs.Deltas.{insertionDelta}
-use Rattle.insertions.specs.Cache.{LeastAt, inserted, without, cell, knownAt, column, leftAt, cameAt, Known}
+use Rattle.edits.specs.Edits.{inserted, without}
+use Rattle.insertions.specs.Cache.{LeastAt, cell, knownAt, column, leftAt, cameAt, Known}
 use Rattle.insertions.specs.declared.Least.{Least}
 use Rattle.insertions.proofs.Reached.{left-right, came-right}
 use Rattle.insertions.proofs.Shifted.{without-length, with-length, joined, split}

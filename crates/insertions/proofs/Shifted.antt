@@ -10,7 +10,7 @@ use lib.Dec.{eqb}
 use lib.ListN.{length, getD}
 use lib.Ieee.{Float}
 use Rattle.deltas.specs.Deltas.{stopAt, stopBefore, around, insertionCost, insertionDelta}
-use Rattle.insertions.specs.Cache.{inserted, without}
+use Rattle.edits.specs.Edits.{inserted, without}
 use Rattle.insertions.proofs.Reached.{Joined, Split}
 
 -- ---- elements

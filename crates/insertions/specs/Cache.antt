@@ -2,10 +2,10 @@
 -- not a number while it isn't known; what it becomes when the list changes; and what makes it right. For the contracts of src/. Assumes nothing.
 use mathlib.Core.Path.{_≡_}
 use mathlib.Core.Bool.{Bool, false, cond, _||_}
-use mathlib.Core.List.{List, [], _∷_, _++_}
+use mathlib.Core.List.{List, []}
 use Prim.Native.Nat.{ℕ, zero, suc, _+_, _-_, _*_, _≤_, _<_}
 use lib.Dec.{T, ltb, eqb}
-use lib.ListN.{length, getD, set, take, drop}
+use lib.ListN.{length, getD, set}
 use lib.Ieee.{Float, nan, inf, lt, le}
 use lib.Ieee.Scale.{finite}
 use Rattle.insertions.specs.declared.Least.{Least}
@@ -72,14 +72,6 @@ leastCame known position before behind =
     (firstOf (firstOf (record { figure = known .figure; place = movedUp (known .place) position }) (record { figure = before; place = position }))
     (record { figure = behind; place = position + 1 })))
     known
-
--- `routes[mv.to_route].insert(mv.to_pos, customer_id)`: a list with a visit put in at a place
-abbrev pub inserted : List ℕ → ℕ → ℕ → List ℕ
-inserted list visit place = take place list ++ visit ∷ drop place list
-
--- `routes[mv.from_route].remove(mv.from_pos)`: the list that a visit has left
-abbrev pub without : List ℕ → ℕ → List ℕ
-without list position = take position list ++ drop (suc position) list
 
 -- ---- the tables
 

@@ -4,6 +4,7 @@
 //
 // Two lent tables hold it, 1,024 figures and 1,024 places, at 16 times the visit plus the list; a figure that is not finite says nothing.
 use deltas_across::insertion_delta;
+use edits::wide;
 use numbers::is_finite;
 use numbers::unknown;
 ghost use mathlib.Core.Path.{_≡_};
@@ -21,12 +22,6 @@ ghost use Rattle.insertions.specs.Cache.{cell, column, leftAt, cameAt};
 pub struct Least {
     pub figure: f64,
     pub place: u16,
-}
-
-pub fn wide(v: u16) -> usize
-    ensures { λ r. ⌜ r ≡ v ⌝ }
-{
-    v as usize
 }
 
 // The least so far, or one place more where that costs less.

@@ -1,6 +1,6 @@
 -- The edits across lists, of both tables at once: what they make of the table and of the lengths are the tables of the lists that they are to make.
 -- Assumes nothing.
-use mathlib.Core.Path.{_≡_, refl, sym, ap, _∙_}
+use mathlib.Core.Path.{_≡_, refl, _∙_}
 use mathlib.Core.Bool.{Bool, true, false}
 use mathlib.Core.List.{List}
 use Prim.Native.Nat.{ℕ, _+_, _-_, _≤_, _<_}
@@ -14,7 +14,7 @@ use Rattle.edits.specs.Edits.{exchanged, outerExchanged}
 use Rattle.edits.proofs.Kept.{same-exchanged, same-outerExchanged}
 use Rattle.tests.specs.Pick.{picked, other}
 use Rattle.lists.specs.Table.{Laid, lists, flat, lengthsOf, startOf}
-use Rattle.lists.proofs.Tables.{length-lists, at-lengths, flat-lists, lengths-lists, lengths-set}
+use Rattle.lists.proofs.Tables.{length-lists, length-at, at-lengths, flat-lists, lengths-lists, lengths-set}
 use Rattle.lists.proofs.Tables.{start-later, start-within}
 use Rattle.list_changes.specs.Edits.{Edited, at, giver, receiver, relocated, Relocates, movedOne, lengthMoved, joined, tailsExchanged, tailLengths, Cuts}
 use Rattle.list_changes.proofs.Edited.{edited-by}
@@ -27,9 +27,6 @@ module _ (visits lengths : List ℕ) (laid : Laid visits lengths) where
 
   the-lengths : lengthsOf (lists visits lengths) ≡ lengths
   the-lengths = lengths-lists visits lengths (laid .add-up)
-
-  length-at : (r : ℕ) → length (at (lists visits lengths) r) ≡ getD lengths r 0
-  length-at r = sym (at-lengths (lists visits lengths) r) ∙ ap (λ z. getD z r 0) the-lengths
 
 -- ---- a relocation
 
@@ -85,10 +82,10 @@ module _ (visits lengths : List ℕ) (from position to place : ℕ) (r : Relocat
       }
 
   visit-there : position < length (at (lists visits lengths) from)
-  visit-there = rw (length-at visits lengths (r .laid) from) (r .visit-there)
+  visit-there = rw (length-at visits lengths (r .laid .add-up) from) (r .visit-there)
 
   place-there : place ≤ length (at (lists visits lengths) to)
-  place-there = rw (length-at visits lengths (r .laid) to) (r .place-there)
+  place-there = rw (length-at visits lengths (r .laid .add-up) to) (r .place-there)
 
   moved-table : movedOne (startOf lengths from + position) (startOf lengths to + place) visits ≡ flat (relocated (lists visits lengths) from position to place)
   moved-table = by-order (ltb from to) refl
@@ -166,8 +163,8 @@ module _ (visits lengths : List ℕ) (one two cut1 cut2 : ℕ) (r : Cuts visits 
       (tailsExchanged (lists visits lengths) one two cut1 cut2)
   tails-edited from a b to at-from at-a at-b at-to =
       let ls = lists visits lengths in
-      let n1 = length-at visits lengths (r .laid) one in
-      let n2 = length-at visits lengths (r .laid) two in
+      let n1 = length-at visits lengths (r .laid .add-up) one in
+      let n2 = length-at visits lengths (r .laid .add-up) two in
       let within1 : cut1 ≤ length (at ls one) = rw n1 (r .within1) in
       let within2 : cut2 ≤ length (at ls two) = rw n2 (r .within2) in
       let table = tails-made ls one two (r .before) (rw length-lists (r .there)) cut1 cut2 within1 within2 in

@@ -31,6 +31,10 @@ edited-by visits lengths visits′ lengths′ ls laid v n number same =
       same = same;
     }
 
+-- nothing is changed yet
+pub edited-none : (visits lengths : List ℕ) → Laid visits lengths → Edited visits lengths visits lengths (lists visits lengths)
+edited-none visits lengths laid = record { holds = refl; number = refl; laid = laid; same = λ f. refl }
+
 -- every edit keeps every total over the visits of all lists
 pub edited-total : (visits lengths visits′ lengths′ : List ℕ) (ls : List (List ℕ)) → Laid visits lengths → Edited visits lengths visits′ lengths′ ls
     → (f : ℕ → ℕ) → total (total f) ls ≡ total (total f) (lists visits lengths)

@@ -144,6 +144,9 @@ module _ (visits lengths : List ℕ) (add-up : sum lengths ≡ length visits) wh
   unfolding listOf
   length-list r = simp (length-take, length-drop) (omega (arith, start-within lengths r))
 
+  pub length-at : (r : ℕ) → length (getD (lists visits lengths) r []) ≡ getD lengths r 0
+  length-at r = ap length (at-lists visits lengths r) ∙ length-list r
+
   -- its visits are those of the table from its start on
   pub list-at : (r k : ℕ) → k < getD lengths r 0 → getD (listOf visits lengths r) k 0 ≡ getD visits (startOf lengths r + k) 0
   unfolding listOf

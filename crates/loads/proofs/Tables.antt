@@ -4,7 +4,7 @@ use mathlib.Core.Path.{_≡_, refl}
 use mathlib.Core.Logic.{_≢_}
 use mathlib.Core.Bool.{Bool, true, false}
 use mathlib.Core.List.{List}
-use Prim.Native.Nat.{ℕ, _-_, _≤_, _<_}
+use Prim.Native.Nat.{ℕ, _+_, _-_, _≤_, _<_}
 use native.Mathlib.Omega.{arith}
 use borrow.Author.Tests.{lt-ltb, ltb-true, ltb-false}
 use lib.Dec.{ltb}
@@ -15,7 +15,7 @@ use Rattle.list_changes.specs.Edits.{Edited}
 use Rattle.lists.specs.Fine.{TableFine}
 use Rattle.lists.proofs.Tables.{length-list, list-at, start-later, start-within}
 use Rattle.labels.specs.Columns.{Visits}
-use Rattle.loads.specs.Loads.{Held}
+use Rattle.loads.specs.Loads.{Held, Two}
 
 module _ (l : ℕ) (visits lengths : List ℕ) (held : Held l visits lengths) where
   -- each list has at most 63 visits, and these are locations
@@ -33,16 +33,26 @@ module _ (l : ℕ) (visits lengths : List ℕ) (held : Held l visits lengths) wh
   pub lent-visits : (r : ℕ) (xs : List ℕ) → xs ≡ listOf visits lengths r → Visits l xs
   lent-visits r xs e = rw e (list-visits r)
 
+  -- two lists have together no more visits than the table
+  together : (a b : ℕ) → a ≢ b → getD lengths a 0 + getD lengths b 0 ≤ 63
+  together a b apart = by-order (ltb a b) refl
+    where
+      by-order : (t : Bool) → ltb a b ≡ t → getD lengths a 0 + getD lengths b 0 ≤ 63
+      by-order true e = omega (arith, start-later lengths a b (ltb-true a b e), start-within lengths b, held .laid .add-up, held .few)
+      by-order false e =
+          let before : b < a = omega (arith, ltb-false a b e, apart) in
+          omega (arith, start-later lengths b a before, start-within lengths a, held .laid .add-up, held .few)
+
+  pub two-of : (a b : ℕ) → a ≢ b → Two l (listOf visits lengths a) (listOf visits lengths b)
+  two-of a b apart = record {
+    one-below = list-visits a .below;
+    other-below = list-visits b .below;
+    few = rw (length-list visits lengths (held .laid .add-up) a, length-list visits lengths (held .laid .add-up) b) (together a b apart);
+  }
+
   -- and one that another list can give a visit has room for it
   pub one-more : (from to : ℕ) → from ≢ to → 0 < getD lengths from 0 → getD lengths to 0 < 63
-  one-more from to apart some-there = by-order (ltb from to) refl
-    where
-      by-order : (b : Bool) → ltb from to ≡ b → getD lengths to 0 < 63
-      by-order true e =
-          omega (arith, start-later lengths from to (ltb-true from to e), start-within lengths to, held .laid .add-up, held .few)
-      by-order false e =
-          let before : to < from = omega (arith, ltb-false from to e, apart) in
-          omega (arith, start-later lengths to from before, start-within lengths from, held .laid .add-up, held .few)
+  one-more from to apart some-there = omega (arith, together from to apart)
 
   -- a visit of a list is a location
   pub visit-below : (r k : ℕ) → k < getD lengths r 0 → getD (listOf visits lengths r) k 0 < l

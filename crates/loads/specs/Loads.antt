@@ -3,7 +3,7 @@
 use mathlib.Core.Path.{_≡_}
 use mathlib.Core.Bool.{true}
 use mathlib.Core.List.{List}
-use Prim.Native.Nat.{ℕ, _≤_, _<_}
+use Prim.Native.Nat.{ℕ, _+_, _≤_, _<_}
 use lib.IntN.{ℤ, pos, natAbs}
 use lib.ListN.{length, getD}
 use Rattle.day.specs.Refusal.{demandOk}
@@ -33,3 +33,9 @@ pub record Held (l : ℕ) (visits lengths : List ℕ) : Type 0 where
   pub laid : Laid visits lengths
   pub below : (k : ℕ) → k < length visits → getD visits k 0 < l
   pub few : length visits ≤ 63
+
+-- two lists of the table
+pub record Two (l : ℕ) (X Y : List ℕ) : Type 0 where
+  pub one-below : (k : ℕ) → k < length X → getD X k 0 < l
+  pub other-below : (k : ℕ) → k < length Y → getD Y k 0 < l
+  pub few : length X + length Y ≤ 63

@@ -2,7 +2,7 @@
 -- and a loop puts such scans one after another. Assumes nothing.
 use mathlib.Core.Path.{_≡_, refl, sym, ap, _∙_}
 use mathlib.Core.Bool.{Bool, true, false, cond, _&&_}
-use mathlib.Core.Option.{Option, none, some}
+use mathlib.Core.Option.{Option, some}
 use mathlib.Core.List.{List, [], _∷_, _++_, map}
 use Prim.Native.Nat.{ℕ, zero, suc, _+_, _≤_, _<_}
 use native.Mathlib.Nat.{sub-zero}
@@ -27,11 +27,11 @@ use Rattle.deltas.proofs.Stops.{getD-any}
 use Rattle.engine.specs.Engine.{passing}
 use Rattle.loads.specs.Loads.{boxesOf, Held}
 use Rattle.pairs.specs.Scan.{figure, Counted}
-use Rattle.insertions.specs.Cache.{inserted}
+use Rattle.edits.specs.Edits.{inserted}
 use Rattle.places.specs.Places.{Prepared, taken-at, offerDelta, better, bestAmong}
 use Rattle.places.specs.declared.Setup.{Setup}
 use Rattle.places.specs.declared.Offer.{Offer}
-use Rattle.places.proofs.Inserting.{total-inserted}
+use Rattle.edits.proofs.Kept.{total-inserted}
 use Rattle.offers.specs.Offers.{searchOf, judgeOf, bound, intoList, scan, Best, Scanned}
 use Rattle.pairs.specs.declared.Choice.{Choice}
 use Rattle.pairs.specs.Pairs.{moveOf}

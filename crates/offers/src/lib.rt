@@ -5,8 +5,8 @@
 // The Rust collects the moves that gain, sorts them and takes the first that passes; here the best so far is kept, and a candidate is checked only where
 // it is better.
 use deltas_across::removal_delta;
+use edits::wide;
 use insertions::Least;
-use insertions::wide;
 use lists::length_of;
 use lists::list_of;
 use loads::boxes_of;

@@ -7,7 +7,7 @@ use mathlib.Core.List.{List, []}
 use Prim.Native.Nat.{ℕ, suc, _+_, _-_, _≤_, _<_}
 use native.Mathlib.Omega.{arith}
 use lib.Ieee.{Float}
-use Rattle.lists.specs.Table.{Laid, lists}
+use Rattle.lists.specs.Table.{lists}
 use Rattle.list_changes.specs.Edits.{Edited, relocated}
 use Rattle.descent.specs.Search.{Search, Judge, Outcome, settled, stopped, taken, next, run}
 use Rattle.descent.specs.Across.{Relocation}
@@ -88,9 +88,6 @@ module _ (search : Search (List (List ℕ)) Unit Relocation) (judge : Judge (Lis
     run-goes-on e room ms is = rw is (going-on _ _ _ moves _ running _ (a-next search judge bound R ls c found e) room)
 
 -- ---- the tables of a run
-
-pub unedited : (visits lengths : List ℕ) → Laid visits lengths → Edited visits lengths visits lengths (lists visits lengths)
-unedited visits lengths laid = record { holds = refl; number = refl; laid = laid; same = λ f. refl }
 
 -- one edit more, of what the tables hold now
 pub edited-again : (visits lengths visits′ lengths′ visits″ lengths″ : List ℕ) (ms : List (List ℕ))

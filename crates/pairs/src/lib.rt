@@ -1,6 +1,7 @@
 // The best move of every ordered pair of lists, kept in a table, for both relocate engines: ports `pairs`, `best` and `moved` of `Relocations` in
 // local_search/relocate.rs. A move changes two lists, so that only the pairs with one of them in it are searched again; the least entry, by (delta, from
 // list, position, to list, place), is the move that a scan of all relocations takes, since the scan goes in that order of the four numbers.
+use edits::wide;
 ghost use mathlib.Core.Path.{_≡_};
 ghost use Prim.Native.Nat.{_≤_, _<_};
 ghost use Rattle.pairs.specs.Pairs.{inOrder, lessThen, earlier, asMove, ahead, firstOf, firstAmong};
@@ -78,12 +79,6 @@ fn first_of(best: Choice, choice: Choice) -> Choice
 }
 
 // ---- the table
-
-fn wide(v: u16) -> usize
-    ensures { λ r. ⌜ r ≡ v ⌝ }
-{
-    v as usize
-}
 
 // A number as it is stored: 0 where it isn't a u16.
 fn narrow(k: usize) -> u16

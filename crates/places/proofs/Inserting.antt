@@ -1,25 +1,22 @@
 -- A visit put into a list, and an offer at every place of it as the code goes about it. Assumes nothing.
-use mathlib.Core.Path.{_≡_, refl, sym, ap, _∙_}
-use mathlib.Core.Bool.{Bool, true, false, cond, not, _&&_}
+use mathlib.Core.Path.{_≡_, sym}
+use mathlib.Core.Bool.{Bool, true, false, cond, _&&_}
 use mathlib.Core.List.{List, [], _∷_, _++_, append-assoc}
-use Prim.Native.Nat.{ℕ, suc, _+_, _-_, _≤_, _<_}
+use Prim.Native.Nat.{ℕ, suc, _+_, _≤_, _<_}
 use native.Mathlib.Numerals.{add-one}
 use native.Mathlib.Omega.{arith}
-use borrow.Author.Tests.{lt-ltb, ltb-true}
-use lib.Dec.{ltb}
-use lib.ListN.{length, getD, take, drop, take-append-drop}
+use lib.ListN.{length, take, drop}
 use lib.Seq.{slice}
 use lib.Ieee.{Float, lt}
 use Rattle.numbers.specs.Operations.{_⊕_}
 use Rattle.day.specs.Matrix.{leg}
-use Rattle.edits.specs.Total.{total, bit, total-append, total-none, total-one, part-le}
-use Rattle.edits.proofs.Cuts.{to-end, lent}
-use Rattle.labels.specs.Columns.{Columns, Visits}
+use Rattle.edits.proofs.Cuts.{to-end}
+use Rattle.labels.specs.Columns.{Columns}
 use Rattle.descent.specs.Order.{range}
 use Rattle.descent.proofs.Loops.{range-step, range-done}
 use Rattle.deltas.specs.Deltas.{insertionDelta}
 use Rattle.engine.specs.Engine.{passing}
-use Rattle.insertions.specs.Cache.{inserted}
+use Rattle.edits.specs.Edits.{inserted}
 use Rattle.places.specs.Places.{taken-at, offerDelta, better, bestAmong}
 use Rattle.places.specs.declared.Setup.{Setup}
 use Rattle.places.specs.declared.Offer.{Offer}
@@ -27,36 +24,10 @@ use Rattle.pairs.specs.declared.Choice.{Choice}
 
 -- ---- a list with a visit put in
 
-pub total-inserted : (f : ℕ → ℕ) (xs : List ℕ) (visit place : ℕ) → total f (inserted xs visit place) ≡ total f xs + f visit
-total-inserted f xs visit place =
-    let whole : total f (take place xs ++ drop place xs) ≡ total f xs = ap (total f) (take-append-drop place xs) in
-    let parts = total-append f (take place xs) (drop place xs) in
-    rw (total-append f (take place xs) (visit ∷ drop place xs)) (omega arith)
-
--- its visits are locations, and it may have one more
-pub visits-inserted : (l : ℕ) (xs : List ℕ) (visit place : ℕ) → Visits l xs → length xs < 63 → visit < l → Visits l (inserted xs visit place)
-visits-inserted l xs visit place v short there =
-    let wrong : ℕ → ℕ = λ w. bit (not (ltb w l)) in
-    let none : total wrong xs ≡ 0 = total-none wrong xs 0 (λ i h. ap (λ (b : Bool). bit (not b)) (lt-ltb _ _ (v .below i h))) in
-    let this : wrong visit ≡ 0 = ap (λ (b : Bool). bit (not b)) (lt-ltb visit l there) in
-    let all : total wrong (inserted xs visit place) ≡ 0 = omega (arith, total-inserted wrong xs visit place) in
-    record {
-      few = omega (arith, total-inserted (λ w. 1) xs visit place, total-one xs, total-one (inserted xs visit place));
-      below = λ k h. ltb-true _ _ (right (ltb (getD (inserted xs visit place) k 0) l) (omega (arith, all, part-le wrong (inserted xs visit place) k 0 h)));
-    }
-  where
-    right : (b : Bool) → bit (not b) ≡ 0 → b ≡ true
-    right true e = refl
-    right false e = absurd (omega arith)
-
 -- the parts one after another are that list
 pub built : (xs : List ℕ) (visit place : ℕ) {head middle all : List ℕ} → head ≡ slice 0 place xs → middle ≡ head ++ (visit ∷ [])
     → all ≡ middle ++ slice place (length xs) xs → all ≡ inserted xs visit place
 built xs visit place e f g = rw (g, f, e, to-end place xs) (append-assoc (take place xs) (visit ∷ []) (drop place xs))
-
--- a buffer's front, lent
-pub front : (end : ℕ) (buffer ys : List ℕ) → take end buffer ≡ ys → take (end - 0) (drop 0 buffer) ≡ ys
-front end buffer ys e = lent 0 end buffer (omega arith) ∙ e
 
 -- ---- one place more, as the code tries it
 

@@ -16,7 +16,7 @@ use Rattle.engine.specs.Engine.{passing}
 use Rattle.pairs.specs.declared.Choice.{Choice}
 use Rattle.places.specs.declared.Setup.{Setup}
 use Rattle.places.specs.declared.Offer.{Offer}
-use Rattle.insertions.specs.Cache.{inserted}
+use Rattle.edits.specs.Edits.{inserted}
 
 -- ---- what a run asks
 

@@ -4,10 +4,10 @@ use day::vehicle::RouteLimits;
 use deltas_across::insertion_delta;
 use edits::append_one;
 use edits::append_stretch;
+use edits::wide;
 use engine::passes;
 use insertions::Least;
 use insertions::lesser_of;
-use insertions::wide;
 use numbers::infinite;
 use numbers::is_finite;
 use pairs::Choice;
@@ -19,7 +19,8 @@ ghost use Rattle.labels.specs.Columns.{columnsAt, Visits};
 ghost use Rattle.descent.specs.Order.{range};
 ghost use Rattle.deltas.specs.Deltas.{insertionDelta};
 ghost use Rattle.engine.specs.Engine.{passing};
-ghost use Rattle.insertions.specs.Cache.{inserted, leastBelow};
+ghost use Rattle.edits.specs.Edits.{inserted};
+ghost use Rattle.insertions.specs.Cache.{leastBelow};
 ghost use Rattle.places.specs.Places.{Prepared, better, bestAmong, ruledOut};
 
 // What is worked out once before the first move.

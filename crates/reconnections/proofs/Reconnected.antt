@@ -1,16 +1,16 @@
 -- A reconnected list has the visits of the list, each as often: the pieces are arranged anew. So its length and its locations are kept.
 -- Assumes nothing.
-use mathlib.Core.Path.{_≡_, ap, _∙_}
+use mathlib.Core.Path.{_≡_, ap}
 use mathlib.Core.List.{List, _++_}
-use Prim.Native.Nat.{ℕ, suc, _+_, _-_}
+use Prim.Native.Nat.{ℕ, suc, _+_}
 use native.Mathlib.Omega.{arith}
 use native.Mathlib.Numerals.{add-one}
 use borrow.Author.Tests.{lt-ltb, ltb-true}
 use lib.Dec.{ltb}
-use lib.ListN.{length, getD, take, drop}
+use lib.ListN.{length, getD}
 use lib.Seq.{slice}
 use Rattle.edits.specs.Total.{total, sums, SameVisits}
-use Rattle.edits.proofs.Cuts.{cut4, to-end, lent}
+use Rattle.edits.proofs.Cuts.{cut4, to-end}
 use Rattle.edits.proofs.Kept.{same-each, same-length}
 use Rattle.labels.specs.Columns.{Visits}
 use Rattle.descent.specs.Permitted.{Arrangement, arranged}
@@ -44,7 +44,3 @@ pub built : (xs : List ℕ) (place : Place) (p : ℕ) (way : Arrangement) {head 
     → all ≡ reconnect xs (reconnection place p)
 built xs place p way ew e f g =
     rw (g, f, e, ew, add-one (place .i), add-one (place .j), add-one (place .k), to-end (suc (place .k)) xs)
-
--- a buffer's front, lent
-pub front : (end : ℕ) (buffer ys : List ℕ) → take end buffer ≡ ys → take (end - 0) (drop 0 buffer) ≡ ys
-front end buffer ys e = lent 0 end buffer (omega arith) ∙ e

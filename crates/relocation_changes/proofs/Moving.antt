@@ -14,7 +14,8 @@ use Rattle.list_changes.specs.Edits.{Edited, Relocates, relocated}
 use Rattle.lists.proofs.Tables.{at-lists, length-lists, length-list}
 use Rattle.deltas.specs.Deltas.{insertionDelta}
 use Rattle.loads.specs.Loads.{Held}
-use Rattle.insertions.specs.Cache.{inserted, without, cell, column, leftAt, cameAt, Known}
+use Rattle.edits.specs.Edits.{inserted, without}
+use Rattle.insertions.specs.Cache.{cell, column, leftAt, cameAt, Known}
 use Rattle.insertions.proofs.Shifted.{without-length, with-length}
 use Rattle.insertions.proofs.Cached.{forgot, known-left, known-came}
 use Rattle.loads.proofs.Tables.{list-visits}

@@ -1,9 +1,9 @@
 // What a relocation makes of the tables (relocate.rs, `Relocations::moved`): the visit goes to its new list, the cache of insertions follows, and the pairs
 // of the two lists that changed are searched again.
+use edits::wide;
 use insertions::after_insertion;
 use insertions::after_removal;
 use insertions::forget_at;
-use insertions::wide;
 use list_changes::move_visit;
 use lists::list_of;
 use pairs::Choice;

@@ -2,6 +2,7 @@
 // other, and every move is priced whole, on both lists, with the fixed cost saved or paid (crate `soft_places`). A list that has no price isn't moved into or
 // out of. Later visits share the giver's first ones: these are driven once (`heads`).
 use deltas_across::fixed_if;
+use edits::wide;
 use heads::Head;
 use heads::at_depot;
 use heads::reach;
@@ -16,7 +17,6 @@ use soft_places::Setup;
 use soft_places::best_place;
 use soft_places::giving_delta;
 use soft_places::price_of;
-use stops::wide;
 use tests::both;
 ghost use mathlib.Core.Path.{_≡_};
 ghost use Prim.Native.Nat.{_<_, _≤_};

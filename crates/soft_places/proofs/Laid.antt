@@ -1,17 +1,14 @@
 -- The two lists of a move at the front of a buffer: the giver is its head and its tail; the receiver has the visit in front of all others, and a swap with
 -- the visit behind it puts it one place on. Assumes nothing.
 use mathlib.Core.Path.{_≡_, refl, sym, ap, _∙_}
-use mathlib.Core.Bool.{Bool, true, false, not}
 use mathlib.Core.List.{List, [], _∷_, _++_, append-assoc}
 use Prim.Native.Nat.{ℕ, suc, _+_, _-_, _≤_, _<_}
 use native.Mathlib.Numerals.{add-one}
 use native.Mathlib.Omega.{arith}
-use borrow.Author.Tests.{lt-ltb, ltb-true}
-use lib.Dec.{ltb}
 use lib.ListN.{length, getD, take, drop, take-append-drop, length-drop}
 use lib.Seq.{slice, take-suc, take-take, take-at, take-append-le, take-append-seam, drop-cons, drop-at, getD-drop, length-take-le}
-use Rattle.edits.specs.Total.{total, bit, total-append, total-none, total-one, part-le}
-use Rattle.edits.specs.Edits.{swapped}
+use Rattle.edits.specs.Edits.{swapped, without, inserted}
+use Rattle.edits.proofs.Kept.{length-inserted}
 use Rattle.edits.proofs.Cuts.{to-end, lent}
 use Rattle.day.specs.declared.vehicle.RouteLimits.{RouteLimits}
 use Rattle.labels.specs.Columns.{Columns, Visits}
@@ -19,64 +16,8 @@ use Rattle.evaluation.specs.Route.{effectiveCost}
 use Rattle.heads.specs.Head.{Driven, priceFrom}
 use Rattle.heads.specs.declared.Head.{Head}
 use Rattle.heads.proofs.Heads.{from-head}
-use Rattle.soft_places.specs.Prices.{without, inserted}
-
--- ---- sums and lengths
-
-pub total-inserted : (f : ℕ → ℕ) (xs : List ℕ) (visit place : ℕ) → total f (inserted xs visit place) ≡ total f xs + f visit
-total-inserted f xs visit place =
-    let whole : total f (take place xs ++ drop place xs) ≡ total f xs = ap (total f) (take-append-drop place xs) in
-    let parts = total-append f (take place xs) (drop place xs) in
-    rw (total-append f (take place xs) (visit ∷ drop place xs)) (omega arith)
-
-total-without : (f : ℕ → ℕ) (xs : List ℕ) (position : ℕ) → position < length xs → total f (without xs position) + f (getD xs position 0) ≡ total f xs
-total-without f xs position h =
-    let whole : total f (take position xs ++ drop position xs) ≡ total f xs = ap (total f) (take-append-drop position xs) in
-    let parts = total-append f (take position xs) (drop position xs) in
-    let behind : total f (drop position xs) ≡ f (getD xs position 0) + total f (drop (suc position) xs) = ap (total f) (drop-cons xs position 0 h) in
-    rw (total-append f (take position xs) (drop (suc position) xs)) (omega arith)
-
-pub length-inserted : (xs : List ℕ) (visit place : ℕ) → length (inserted xs visit place) ≡ suc (length xs)
-length-inserted xs visit place = omega (arith, total-inserted (λ w. 1) xs visit place, total-one xs, total-one (inserted xs visit place))
-
-pub length-without : (xs : List ℕ) (position : ℕ) → position < length xs → length (without xs position) ≡ length xs - 1
-length-without xs position h = omega (arith, total-without (λ w. 1) xs position h, total-one xs, total-one (without xs position))
-
--- ---- their visits are locations
-
--- 1 for a visit that isn't a location
-abbrev wrong : ℕ → ℕ → ℕ
-wrong l visit = bit (not (ltb visit l))
-
-none-wrong : (l : ℕ) (xs : List ℕ) → Visits l xs → total (wrong l) xs ≡ 0
-none-wrong l xs v = total-none (wrong l) xs 0 (λ i h. ap (λ (b : Bool). bit (not b)) (lt-ltb _ _ (v .below i h)))
-
-all-right : (l : ℕ) (xs : List ℕ) → length xs ≤ 63 → total (wrong l) xs ≡ 0 → Visits l xs
-all-right l xs short none = record {
-  few = short;
-  below = λ k h. ltb-true _ _ (right (ltb (getD xs k 0) l) (omega (arith, none, part-le (wrong l) xs k 0 h)));
-}
-  where
-    right : (b : Bool) → bit (not b) ≡ 0 → b ≡ true
-    right true e = refl
-    right false e = absurd (omega arith)
-
-pub visits-inserted : (l : ℕ) (xs : List ℕ) (visit place : ℕ) → Visits l xs → length xs < 63 → visit < l → Visits l (inserted xs visit place)
-visits-inserted l xs visit place v short there =
-    let this : wrong l visit ≡ 0 = ap (λ (b : Bool). bit (not b)) (lt-ltb visit l there) in
-    all-right l (inserted xs visit place) (omega (arith, length-inserted xs visit place))
-    (omega (arith, total-inserted (wrong l) xs visit place, none-wrong l xs v))
-
-pub visits-without : (l : ℕ) (xs : List ℕ) (position : ℕ) → Visits l xs → position < length xs → Visits l (without xs position)
-visits-without l xs position v h =
-    all-right l (without xs position) (omega (arith, length-without xs position h, v .few))
-    (omega (arith, total-without (wrong l) xs position h, none-wrong l xs v))
 
 -- ---- in a buffer
-
--- its front, lent
-pub front : (end : ℕ) (buffer ys : List ℕ) → take end buffer ≡ ys → take (end - 0) (drop 0 buffer) ≡ ys
-front end buffer ys e = lent 0 end buffer (omega arith) ∙ e
 
 -- the head and the tail
 pub removed : (xs : List ℕ) (position : ℕ) {head all : List ℕ} → head ≡ slice 0 position xs → all ≡ head ++ slice (position + 1) (length xs) xs

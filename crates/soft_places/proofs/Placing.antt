@@ -13,10 +13,11 @@ use Rattle.numbers.specs.Operations.{_⊕_, _⊖_}
 use Rattle.descent.specs.Order.{range}
 use Rattle.descent.proofs.Loops.{range-step, range-done}
 use Rattle.deltas.specs.Changes.{fixedIf}
-use Rattle.soft_places.specs.Prices.{without, inserted, givingDelta}
+use Rattle.edits.specs.Edits.{without, inserted}
+use Rattle.soft_places.specs.Prices.{givingDelta}
 use Rattle.soft_places.specs.Places.{taken-at, offerDelta, better, bestAmong}
 use Rattle.soft_places.specs.declared.Offer.{Offer}
-use Rattle.soft_places.proofs.Laid.{length-without}
+use Rattle.edits.proofs.Kept.{length-without}
 use Rattle.pairs.specs.declared.Choice.{Choice}
 
 -- a list of one visit is empty without it

@@ -10,7 +10,7 @@ use Rattle.evaluation.specs.Route.{effectiveCost}
 use Rattle.heads.specs.Head.{Driven}
 use Rattle.heads.specs.declared.Head.{Head}
 use Rattle.pairs.specs.declared.Choice.{Choice}
-use Rattle.soft_places.specs.Prices.{inserted}
+use Rattle.edits.specs.Edits.{inserted}
 use Rattle.soft_places.specs.declared.Setup.{Setup}
 use Rattle.soft_places.specs.declared.Offer.{Offer}
 

@@ -1,28 +1,22 @@
 -- Relocate's moves where a day has a soft window (local_search/relocate.rs, `best_between_soft`): every move is priced whole, on both lists; the engine's
 -- search and how it judges. For the contracts of src/ and the definition of the run. Assumes nothing.
-use Prim.Native.Nat.{ℕ, suc}
+use Prim.Native.Nat.{ℕ}
 use mathlib.Core.Bool.{Bool, _&&_}
-use mathlib.Core.List.{List, [], _∷_, _++_}
+use mathlib.Core.List.{List, [], _∷_}
 use lib.Dec.{eqb}
-use lib.ListN.{length, getD, set, take, drop}
+use lib.ListN.{length, getD, set}
 use lib.Ieee.{Float, lt}
 use lib.Ieee.Scale.{finite}
 use Rattle.numbers.specs.Operations.{_⊕_, _⊖_}
 use Rattle.numbers.specs.Floor.{counts}
+use Rattle.edits.specs.Edits.{inserted, without}
 use Rattle.descent.specs.Permitted.{Measure, room}
 use Rattle.descent.specs.Search.{begins-again, Search, Judge}
 use Rattle.descent.specs.Across.{at, Relocation, relocations, giver, receiver}
 use Rattle.deltas.specs.Changes.{fixedIf}
 
--- ---- what a move changes; `price` is the Rust's `eval`, and the operations are in its order
-
--- a list without the visit at a position: `giving.remove(from_pos)`
-abbrev pub without : List ℕ → ℕ → List ℕ
-without list position = take position list ++ drop (suc position) list
-
--- a list with a visit put in at a place: `receiving`
-abbrev pub inserted : List ℕ → ℕ → ℕ → List ℕ
-inserted list visit place = take place list ++ visit ∷ drop place list
+-- ---- what a move changes; `price` is the Rust's `eval`, `giving` the list `without` the visit, `receiving` the one with it `inserted`, and the operations are in
+-- its order
 
 module _ (price : List ℕ → Float) (fixed : Float) where
   -- `from_delta = eval(&giving) - old_from - if giving.is_empty() { fixed } else { 0.0 }`

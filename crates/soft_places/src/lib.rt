@@ -15,10 +15,10 @@ use pairs::Choice;
 ghost use mathlib.Core.Path.{_≡_};
 ghost use Prim.Native.Nat.{suc, _+_, _-_, _<_, _≤_};
 ghost use lib.ListN.{length, take};
-ghost use Rattle.edits.specs.Edits.{swapped};
+ghost use Rattle.edits.specs.Edits.{swapped, without, inserted};
 ghost use Rattle.labels.specs.Columns.{columnsAt, Visits};
 ghost use Rattle.descent.specs.Order.{range};
-ghost use Rattle.soft_places.specs.Prices.{without, inserted, givingDelta};
+ghost use Rattle.soft_places.specs.Prices.{givingDelta};
 ghost use Rattle.soft_places.specs.Places.{Prepared, DrivenBy, priceOf, better, bestAmong};
 
 // What is worked out once before the first move.

@@ -4,7 +4,6 @@ use mathlib.Core.Path.{_≡_, refl, ap, _∙_}
 use mathlib.Core.Bool.{true, false, _&&_}
 use mathlib.Core.List.{List, [], _∷_}
 use Prim.Native.Nat.{ℕ, _+_, _≤_, _<_}
-use native.Mathlib.Omega.{arith}
 use lib.IntN.{ℤ}
 use lib.ListN.{length, getD}
 use Rattle.lists.specs.Table.{Laid, lists}
@@ -21,7 +20,8 @@ use Rattle.pairs.specs.declared.Choice.{Choice}
 use Rattle.pairs.proofs.Taken.{edited-other, agree-local, relocates, Relocating, table-taken, taken-there, right-moved}
 use Rattle.pairs.proofs.Going as going
 use Rattle.loads.specs.Loads.{measureOf}
-use Rattle.soft_places.specs.Prices.{inserted, softDelta, priced}
+use Rattle.edits.specs.Edits.{inserted}
+use Rattle.soft_places.specs.Prices.{softDelta, priced}
 use Rattle.soft_places.specs.Places.{priceOf}
 use Rattle.soft_offers.specs.Offers.{searchOf, judgeOf, bound}
 use Rattle.soft_relocate.specs.Running.{runFrom, RightOf, AllRight}

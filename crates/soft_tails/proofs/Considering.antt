@@ -14,11 +14,11 @@ use Rattle.tests.specs.Pick.{picked, other}
 use Rattle.labels.specs.Columns.{Columns}
 use Rattle.edits.specs.Total.{total}
 use Rattle.list_changes.specs.Edits.{joined}
-use Rattle.descent.specs.Order.{range}
+use Rattle.descent.specs.Order.{range, scan}
 use Rattle.descent.specs.Permitted.{room}
 use Rattle.descent.proofs.Members.{and-both}
 use Rattle.loads.specs.Loads.{boxesOf}
-use Rattle.tails.specs.Best.{scan, nothing, betterBy, rowBy, bestBy}
+use Rattle.tails.specs.Best.{nothing, betterBy, rowBy, bestBy}
 use Rattle.tails.specs.declared.Choice.{Choice}
 use Rattle.tail_prices.specs.Tails.{priced, change}
 use Rattle.tail_prices.specs.Changes.{costIn, changeOf}

@@ -1,18 +1,13 @@
 // Which stops a move touches, by position, and the sum that the deltas within a list and across lists share: a way by a piece, less the direct leg.
 use day::matrix::get;
 use deltas::Ends;
+use edits::wide;
 ghost use mathlib.Core.Path.{_≡_};
 ghost use Prim.Native.Nat.{_<_, _≤_};
 ghost use lib.ListN.{length, getD};
 ghost use Rattle.day.specs.Matrix.{leg, Square};
 ghost use Rattle.deltas.specs.Changes.{Placed, detour};
 ghost use Rattle.deltas.specs.Deltas.{stopAt, stopBefore, around, endsOf};
-
-pub fn wide(v: u16) -> usize
-    ensures { λ r. ⌜ r ≡ v ⌝ }
-{
-    v as usize
-}
 
 // The visit at a position.
 pub fn visit_at(list: &[u16], k: usize) -> usize

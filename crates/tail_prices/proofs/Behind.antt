@@ -16,7 +16,7 @@ use Rattle.heads.specs.Head.{Driven, priceFrom}
 use Rattle.heads.specs.declared.Head.{Head}
 use Rattle.heads.proofs.Heads.{from-head}
 use Rattle.list_changes.specs.Edits.{joined}
-use Rattle.tails.specs.Best.{Two}
+use Rattle.loads.specs.Loads.{Two}
 use Rattle.tail_prices.specs.Tails.{change}
 use Rattle.tail_prices.specs.Changes.{costIn, Priced}
 use Rattle.tail_prices.specs.declared.Terms.{Terms}

@@ -14,7 +14,7 @@ ghost use Rattle.numbers.specs.Operations.{_⊕_, _⊖_};
 ghost use Rattle.list_changes.specs.Edits.{joined};
 ghost use Rattle.labels.specs.Columns.{columnsAt, Formed};
 ghost use Rattle.evaluation.specs.Route.{effectiveCost};
-ghost use Rattle.tails.specs.Best.{Two};
+ghost use Rattle.loads.specs.Loads.{Two};
 ghost use Rattle.tail_prices.specs.Changes.{DrivenBy, Priced, changeOf};
 
 // What stays the same over a run: worked out once, before the first move.

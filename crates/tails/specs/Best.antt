@@ -3,16 +3,16 @@
 use mathlib.Core.Path.{_≡_}
 use mathlib.Core.Bool.{Bool, cond, _&&_}
 use mathlib.Core.List.{List, [], _∷_}
-use Prim.Native.Nat.{ℕ, suc, _+_, _≤_, _<_}
+use Prim.Native.Nat.{ℕ, suc, _<_}
 use lib.IntN.{ℤ}
-use lib.ListN.{length, getD, set}
+use lib.ListN.{length, set}
 use lib.Ieee.{Float, neg, lt}
 use Rattle.numbers.specs.Floor.{gainFloor}
 use Rattle.day.specs.Matrix.{leg, scaleOf}
 use Rattle.labels.specs.Columns.{Columns, Formed}
 use Rattle.evaluation.specs.Route.{checksNeeded}
 use Rattle.list_changes.specs.Edits.{joined}
-use Rattle.descent.specs.Order.{range}
+use Rattle.descent.specs.Order.{range, scan}
 use Rattle.descent.specs.Permitted.{Checks, fits}
 use Rattle.descent.specs.Search.{goes-on, Search}
 use Rattle.descent.specs.Across.{Pair, Tails, pairs, tail-cuts, new1, new2}
@@ -44,18 +44,7 @@ pub record Asked (c : Columns) (demand : List ℤ) (t : Terms) : Type 0 where
   pub needed : t .needed ≡ checksNeeded (c .flags) (t .limits)
   pub floor : t .floor ≡ gainFloor (scaleOf (c .distances))
 
--- two lists of the tables
-pub record Two (l : ℕ) (X Y : List ℕ) : Type 0 where
-  pub one-below : (k : ℕ) → k < length X → getD X k 0 < l
-  pub other-below : (k : ℕ) → k < length Y → getD Y k 0 < l
-  pub few : length X + length Y ≤ 63
-
 -- ---- the best exchange of two lists
-
--- a loop: what f makes of the value, for one after another
-unfoldable pub scan : {A B : Type 0} → (A → B → B) → List A → B → B
-scan f [] b = b
-scan f (x ∷ xs) b = scan f xs (f x b)
 
 -- nothing so far: no head has 0 visits, and a delta has to be below minus the floor
 abbrev pub nothing : Float → Choice

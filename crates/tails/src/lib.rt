@@ -8,15 +8,14 @@ use engine::passes;
 use loads::boxes_at;
 use loads::load_of;
 ghost use mathlib.Core.Path.{_≡_};
-ghost use mathlib.Core.List.{[], _∷_};
 ghost use Prim.Native.Nat.{_+_, _<_, _≤_};
 ghost use lib.ListN.{length, take};
 ghost use Rattle.edits.specs.Total.{total};
 ghost use Rattle.list_changes.specs.Edits.{joined};
 ghost use Rattle.labels.specs.Columns.{columnsAt, Formed};
 ghost use Rattle.engine.specs.Engine.{passing};
-ghost use Rattle.loads.specs.Loads.{boxesOf};
-ghost use Rattle.tails.specs.Best.{Asked, Two, better, bestRow, bestOf};
+ghost use Rattle.loads.specs.Loads.{boxesOf, Two};
+ghost use Rattle.tails.specs.Best.{Asked, better, bestRow, bestOf};
 
 // What stays the same over a run: worked out once, before the first move.
 pub struct Terms {

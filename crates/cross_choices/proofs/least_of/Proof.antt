@@ -3,10 +3,9 @@ use borrow.Author.Needs.{needs}
 use mathlib.Core.Path.{_≡_, refl, sym, _∙_}
 use Prim.Native.Nat.{_-_, _≤_}
 use native.Mathlib.Omega.{arith}
-use Rattle.descent.specs.Order.{range}
-use Rattle.cross_choices.specs.Scan.{scan}
+use Rattle.descent.specs.Order.{range, scan}
 use Rattle.cross_choices.specs.Rows.{lesserOf, deltaAt, leastOf}
-use Rattle.cross_choices.proofs.Deciding.{scan-turn, scan-done}
+use Rattle.descent.proofs.Loops.{scan-turn, scan-done}
 use Rattle.cross_choices.proofs.least_of.Statement.{statement}
 use Rattle.cross_choices.proofs.least_of.Tie as tie
 

@@ -1,12 +1,12 @@
 -- `mark_row`: the table is filled in from its start; each load is asked by the prefix loads of both lists.
 use borrow.Author.Needs.{needs}
-use mathlib.Core.Path.{refl, sym, _∙_}
-use Prim.Native.Nat.{_-_, _≤_}
+use mathlib.Core.Path.{sym, _∙_}
+use Prim.Native.Nat.{_-_}
 use native.Mathlib.Omega.{arith}
 use Rattle.cross_moves.specs.CrossDepot.{holds}
 use Rattle.cross_rows.specs.Row.{changed}
 use Rattle.cross_choices.specs.Rows.{markOf}
-use Rattle.cross_prices.proofs.Stretch.{two-turned}
+use Rattle.loads.proofs.Visits.{two-turned}
 use Rattle.cross_choices.proofs.Deciding.{Filled, filled-turns, marked}
 use Rattle.cross_choices.proofs.mark_row.Statement.{statement}
 use Rattle.cross_choices.proofs.mark_row.Tie as tie

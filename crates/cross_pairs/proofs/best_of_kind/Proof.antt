@@ -1,17 +1,16 @@
 -- `best_of_kind`: before each row, the scan from here on comes to all rows of the kind.
-use borrow.Author.Needs.{needs}
 use mathlib.Core.Path.{_≡_, refl, sym, _∙_}
-use Prim.Native.Nat.{_-_, _≤_}
+use Prim.Native.Nat.{_-_}
 use native.Mathlib.Omega.{arith}
 use lib.ListN.{length}
 use Rattle.labels.specs.Columns.{columns}
-use Rattle.descent.specs.Order.{range}
+use Rattle.descent.specs.Order.{range, scan}
 use Rattle.cross_kinds.specs.Kinds.{rowsIn}
-use Rattle.cross_choices.specs.Scan.{scan, Roomy}
+use Rattle.cross_choices.specs.Scan.{Roomy}
 use Rattle.cross_choices.specs.Rows.{bestOfRow, bestOfKind}
 use Rattle.cross_kinds.proofs.Along.{rows-few}
 use Rattle.cross_pairs.proofs.Between.{roomy-kept}
-use Rattle.cross_choices.proofs.Deciding.{scan-turn, scan-done}
+use Rattle.descent.proofs.Loops.{scan-turn, scan-done}
 use Rattle.cross_pairs.proofs.best_of_kind.Statement.{statement}
 use Rattle.cross_pairs.proofs.best_of_kind.Tie as tie
 

@@ -4,7 +4,7 @@ use borrow.Author.Needs.{needs}
 use mathlib.Core.Path.{sym, _∙_}
 use native.Mathlib.Omega.{arith}
 use lib.ListN.{length}
-use Rattle.cross_prices.proofs.Stretch.{two-turned}
+use Rattle.loads.proofs.Visits.{two-turned}
 use Rattle.cross_kinds.proofs.Along.{rows-few, row-lies, row-some, row-turned}
 use Rattle.cross_choices.proofs.Deciding.{row-shut, tabled, least-few, row-answers}
 use Rattle.cross_pairs.proofs.best_of_row.Statement.{statement}

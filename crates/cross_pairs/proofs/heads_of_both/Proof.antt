@@ -4,7 +4,7 @@ use mathlib.Core.Path.{_∙_}
 use Prim.Native.Nat.{_+_, _≤_}
 use native.Mathlib.Omega.{arith}
 use lib.ListN.{length}
-use Rattle.cross_kinds.proofs.Fitting.{visits-first, visits-second}
+use Rattle.loads.proofs.Visits.{visits-first, visits-second}
 use Rattle.cross_pairs.proofs.Between.{lent-long, lent-long2, first-part, second-part, kept-part}
 use Rattle.cross_pairs.proofs.heads_of_both.Statement.{statement}
 use Rattle.cross_pairs.proofs.heads_of_both.Tie as tie

@@ -4,12 +4,13 @@ use Prim.Native.Nat.{_+_, _*_, _-_}
 use native.Mathlib.Omega.{arith}
 use lib.ListN.{length}
 use Rattle.labels.specs.Columns.{columns}
-use Rattle.descent.specs.Order.{range}
+use Rattle.descent.specs.Order.{range, scan}
 use Rattle.fleet.specs.Fleet.{fleetOf}
-use Rattle.cross_choices.specs.Scan.{scan, bestOfPair, bestFrom}
+use Rattle.cross_choices.specs.Scan.{bestOfPair, bestFrom}
 use Rattle.cross_moves.specs.CrossDepot.{planOf}
 use Rattle.cross_deltas.specs.Deltas.{Sunk, Kept}
-use Rattle.cross_search.proofs.Pairs.{from-start, scan-turn, scan-done}
+use Rattle.descent.proofs.Loops.{scan-turn, scan-done}
+use Rattle.cross_search.proofs.Pairs.{from-start}
 use Rattle.cross_search.proofs.Joining.{after-sunk}
 use Rattle.cross_search.proofs.Keeping.{kept-at, table-turn, table-row}
 use Rattle.cross_search.proofs.best_from.Statement.{statement}

@@ -6,12 +6,13 @@ use Prim.Native.Nat.{_*_, _-_}
 use native.Mathlib.Omega.{arith}
 use lib.ListN.{length}
 use Rattle.labels.specs.Columns.{columns}
-use Rattle.descent.specs.Order.{range}
+use Rattle.descent.specs.Order.{range, scan}
 use Rattle.fleet.specs.Fleet.{fleetOf}
-use Rattle.cross_choices.specs.Scan.{scan, bestFrom, bestOf, nothing}
+use Rattle.cross_choices.specs.Scan.{bestFrom, bestOf, nothing}
 use Rattle.cross_moves.specs.CrossDepot.{planOf}
 use Rattle.cross_deltas.specs.Deltas.{Sunk, Kept}
-use Rattle.cross_search.proofs.Pairs.{all-start, scan-turn, scan-done}
+use Rattle.descent.proofs.Loops.{scan-turn, scan-done}
+use Rattle.cross_search.proofs.Pairs.{all-start}
 use Rattle.cross_search.proofs.Joining.{from-sunk}
 use Rattle.cross_search.proofs.Keeping.{kept-at, table-whole}
 use Rattle.cross_search.proofs.best_move.Statement.{statement}

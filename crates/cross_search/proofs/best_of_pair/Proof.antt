@@ -1,7 +1,8 @@
 -- `best_of_pair`: lists of one depot leave the best as it is.
 use borrow.Author.Needs.{needs}
 use native.Mathlib.Omega.{arith}
-use Rattle.cross_search.proofs.Pairs.{two-of, pair-driven, pair-same, pair-apart, pair-other}
+use Rattle.loads.proofs.Tables.{two-of}
+use Rattle.cross_search.proofs.Pairs.{pair-driven, pair-same, pair-apart, pair-other}
 use Rattle.cross_search.proofs.best_of_pair.Statement.{statement}
 use Rattle.cross_search.proofs.best_of_pair.Tie as tie
 

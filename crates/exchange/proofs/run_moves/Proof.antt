@@ -14,7 +14,8 @@ use Rattle.loads.specs.Loads.{Held}
 use Rattle.exchange.specs.Exchange.{from, InSweep, nextOf}
 use Rattle.exchange.proofs.Places.{still-in, none-ahead, nothing-ahead}
 use Rattle.loads.proofs.Tables.{still-held}
-use Rattle.exchange.proofs.Tables.{edited-none, edited-length}
+use Rattle.list_changes.proofs.Edited.{edited-none}
+use Rattle.exchange.proofs.Tables.{edited-length}
 use Rattle.exchange.proofs.Moves.{moved-on, leads-none, leads-some}
 use Rattle.lists.proofs.Tables.{length-lists}
 use Rattle.exchange.proofs.Running.{Going, going-starts, going-settles, going-stops}

@@ -4,7 +4,8 @@ use mathlib.Core.Path.{ap, _∙_}
 use borrow.Author.Tests.{not-true}
 use Rattle.tests.specs.All.{off}
 use Rattle.engine.specs.Engine.{passing}
-use Rattle.reconnections.proofs.Reconnected.{front, visits-reconnected}
+use Rattle.edits.proofs.Cuts.{front}
+use Rattle.reconnections.proofs.Reconnected.{visits-reconnected}
 use Rattle.patterns.proofs.candidate_passes.Statement.{statement}
 use Rattle.patterns.proofs.candidate_passes.Tie as tie
 

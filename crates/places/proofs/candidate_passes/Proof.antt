@@ -5,7 +5,8 @@ use native.Mathlib.Omega.{arith}
 use borrow.Author.Tests.{not-true}
 use Rattle.tests.specs.All.{off}
 use Rattle.engine.specs.Engine.{passing}
-use Rattle.places.proofs.Inserting.{front, visits-inserted}
+use Rattle.edits.proofs.Cuts.{front}
+use Rattle.loads.proofs.Visits.{visits-inserted}
 use Rattle.places.proofs.candidate_passes.Statement.{statement}
 use Rattle.places.proofs.candidate_passes.Tie as tie
 

@@ -8,9 +8,10 @@ use lib.ListN.{length, take}
 use Rattle.labels.specs.Columns.{columns}
 use Rattle.heads.proofs.Heads.{depot-driven}
 use Rattle.descent.specs.Order.{range}
-use Rattle.soft_places.specs.Prices.{inserted}
+use Rattle.edits.specs.Edits.{inserted}
 use Rattle.soft_places.specs.Places.{DrivenBy, priceOf, bestAmong}
-use Rattle.soft_places.proofs.Laid.{visits-inserted, stepped, part-visits, price-inserted}
+use Rattle.loads.proofs.Visits.{visits-inserted}
+use Rattle.soft_places.proofs.Laid.{stepped, part-visits, price-inserted}
 use Rattle.soft_places.proofs.Placing.{among-turn, among-end}
 use Rattle.soft_places.proofs.best_place.Statement.{statement}
 use Rattle.soft_places.proofs.best_place.Tie as tie

@@ -1,9 +1,10 @@
 -- `price_without`: behind a head that ends there, the list without the visit is its own tail; else it is laid in the buffer.
 use borrow.Author.Needs.{needs}
 use mathlib.Core.Path.{ap, _∙_}
-use native.Mathlib.Omega.{arith}
 use Rattle.evaluation.specs.Route.{effectiveCost}
-use Rattle.soft_places.proofs.Laid.{front, visits-without, tail-visits, price-without-is}
+use Rattle.edits.proofs.Cuts.{front}
+use Rattle.loads.proofs.Visits.{visits-without}
+use Rattle.soft_places.proofs.Laid.{tail-visits, price-without-is}
 use Rattle.soft_places.proofs.price_without.Statement.{statement}
 use Rattle.soft_places.proofs.price_without.Tie as tie
 

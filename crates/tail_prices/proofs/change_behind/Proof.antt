@@ -1,7 +1,7 @@
 -- `change_behind`: behind its head each new list is the other list's tail, which is what is driven.
 use borrow.Author.Needs.{needs}
 use mathlib.Core.Path.{_∙_}
-use Rattle.tails.proofs.Joined.{two-turned}
+use Rattle.loads.proofs.Visits.{two-turned}
 use Rattle.tail_prices.proofs.Behind.{tail-visits, price-behind, same-change}
 use Rattle.tail_prices.proofs.change_behind.Statement.{statement}
 use Rattle.tail_prices.proofs.change_behind.Tie as tie

@@ -1,6 +1,6 @@
 -- `change_whole`: each new list's cost is its callee's answer.
 use borrow.Author.Needs.{needs}
-use Rattle.tails.proofs.Joined.{two-turned}
+use Rattle.loads.proofs.Visits.{two-turned}
 use Rattle.tail_prices.proofs.Behind.{same-change}
 use Rattle.tail_prices.proofs.change_whole.Statement.{statement}
 use Rattle.tail_prices.proofs.change_whole.Tie as tie

@@ -5,10 +5,11 @@ use native.Mathlib.Omega.{arith}
 use lib.ListN.{length, take}
 use Rattle.edits.specs.Total.{total}
 use Rattle.labels.specs.Columns.{columns}
-use Rattle.descent.specs.Order.{range}
+use Rattle.descent.specs.Order.{range, scan}
 use Rattle.loads.specs.Loads.{boxesOf}
-use Rattle.tails.specs.Best.{scan, bestRow, bestOf, bestBy}
-use Rattle.tails.proofs.Turns.{scan-turn, scan-end}
+use Rattle.tails.specs.Best.{bestRow, bestOf, bestBy}
+use Rattle.descent.proofs.Loops.{scan-done}
+use Rattle.tails.proofs.Turns.{cut-turn}
 use Rattle.loads.proofs.Boxes.{load-more, sum-small}
 use Rattle.tails.proofs.best_exchange.Statement.{statement}
 use Rattle.tails.proofs.best_exchange.Tie as tie
@@ -90,13 +91,13 @@ loop-again c =
     let at-loop = at-loop-test .before in (
       omega (arith, at-loop-test .loop-test .taken),
       load-more _ _ _ _ _ (at-loop-test .loop-test .taken) (at-loop .loop .inv .1) (c .before .boxes-at .ensures),
-      scan-turn _ _ _ _ _ (omega (arith, at-loop-test .loop-test .taken)) (c .best-row .ensures) ∙ at-loop .loop .inv .2,
+      cut-turn _ _ _ _ _ (omega (arith, at-loop-test .loop-test .taken)) (c .best-row .ensures) ∙ at-loop .loop .inv .2,
     )
 
 returns : tie.Need-returns Inv-loop μ-loop
 returns c =
     let start = c .before .before .before .before .before .before .before .before .before .before .before .before .before .before in
-    sym (scan-end _ (suc (c .before .loop .last)) (suc (length (start .args .one .now))) _ (omega (arith, c .loop-test .left))) ∙ c .before .loop .inv .2
+    sym (scan-done _ (suc (c .before .loop .last)) (suc (length (start .args .one .now))) _ (omega (arith, c .loop-test .left))) ∙ c .before .loop .inv .2
 
 pub best-exchange-spec : {M : Type 1} → statement M
 best-exchange-spec =

@@ -1,5 +1,5 @@
 -- `consider`: each of its ends is one case of the definition's choice with one exchange more.
-use Rattle.tails.proofs.Joined.{two-turned}
+use Rattle.loads.proofs.Visits.{two-turned}
 use Rattle.tails.proofs.Considering.{stays-first-load, stays-second-load, stays-delta, stays-first-list, stays-second-list, taken-up}
 use Rattle.tails.proofs.consider.Statement.{statement}
 use Rattle.tails.proofs.consider.Tie as tie

@@ -5,7 +5,8 @@ use mathlib.Core.Path.{ap, _∙_}
 use Rattle.tests.specs.All.{off, on}
 use Rattle.evaluation.specs.Route.{feasible}
 use Rattle.engine.specs.Engine.{passing}
-use Rattle.tails.proofs.Joined.{visits-joined, built, front}
+use Rattle.edits.proofs.Cuts.{front}
+use Rattle.tails.proofs.Joined.{visits-joined, built}
 use Rattle.tails.proofs.joined_passes.Statement.{statement}
 use Rattle.tails.proofs.joined_passes.Tie as tie
 

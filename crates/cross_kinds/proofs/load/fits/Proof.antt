@@ -68,8 +68,8 @@ add-gone c =
     (start .pre .1 .1 .2) (start .pre .1 .1 .3) in
     omega (arith, few .0, few .1, few .2, few .3, few .4)
 
-boxes-of-requires : tie.Need-boxes-of-requires
-boxes-of-requires c κs = search needs
+boxes-in-requires : tie.Need-boxes-in-requires
+boxes-in-requires c κs = search needs
 
 add-result : tie.Need-add-result
 add-result c =
@@ -79,14 +79,14 @@ add-result c =
     (start .pre .1 .1 .2) (start .pre .1 .1 .3) in
     let fit : SFits w32 (start .args .van .capacity) = search needs in
     let small : natAbs (start .args .van .capacity) < 1000000000000 = lt-of-le-of-lt (natAbs-le (start .args .van .capacity) (fit .sfits)) (lit< tt) in
-    let boxes = c .boxes-of .ensures ∙ ap natAbs (toZ-ofZ w32 (start .args .van .capacity) fit) in
+    let boxes = c .boxes-in .ensures ∙ ap natAbs (toZ-ofZ w32 (start .args .van .capacity) fit) in
     omega (arith, small, boxes, few .2, few .3)
 
 returns : tie.Need-returns
 returns c =
     let start = c .before .before .before .before .before .before .before .before .before .before .before in
     let fit : SFits w32 (start .args .van .capacity) = search needs in
-    let boxes = c .boxes-of .ensures ∙ ap natAbs (toZ-ofZ w32 (start .args .van .capacity) fit) in
+    let boxes = c .boxes-in .ensures ∙ ap natAbs (toZ-ofZ w32 (start .args .van .capacity) fit) in
     fits-is _ _ _ _ _ _ (start .pre .0 .0) (start .pre .0 .2) (start .pre .1 .0 .0) (start .pre .1 .0 .1) _ _ _ _ (start .pre .1 .1 .0) (start .pre .1 .1 .1)
     (start .pre .1 .1 .2) (start .pre .1 .1 .3) (start .args .van) _ boxes
 
@@ -107,6 +107,6 @@ fits-spec =
     mul-gone-2
     shared-slice-read-gone-2
     add-gone
-    boxes-of-requires
+    boxes-in-requires
     add-result
     returns)

@@ -3,7 +3,7 @@ use mathlib.Core.Path.{sym, _∙_}
 use Prim.Native.Nat.{_-_}
 use native.Mathlib.Omega.{arith}
 use lib.ListN.{length}
-use Rattle.cross_kinds.proofs.Loads.{sum-small}
+use Rattle.loads.proofs.Boxes.{sum-small}
 use Rattle.cross_kinds.proofs.Fitting.{Filling, filling-starts, filling-turns, filling-ends}
 use Rattle.cross_kinds.proofs.load.prefix_loads.Statement.{statement}
 use Rattle.cross_kinds.proofs.load.prefix_loads.Tie as tie

@@ -2,7 +2,8 @@
 use borrow.Author.Needs.{needs}
 use mathlib.Core.Path.{ap, _∙_}
 use Rattle.cross_moves.specs.CrossDepot.{pricedAs}
-use Rattle.cross_prices.proofs.Stretch.{front, visits-replaced}
+use Rattle.edits.proofs.Cuts.{front}
+use Rattle.cross_prices.proofs.Stretch.{visits-replaced}
 use Rattle.cross_prices.proofs.price.replaced_price.Statement.{statement}
 use Rattle.cross_prices.proofs.price.replaced_price.Tie as tie
 
