@@ -66,7 +66,7 @@ pub fn totals(folder: &Path) -> HashMap<String, Counts> {
             Some(0) => of_row.rust = total,
             Some(1) => of_row.refusals = total,
             _ => {
-                dump.own.retain(|function, _| !function.contains("::refusal::"));
+                dump.own.retain(|function, _| !(function.contains("refusal") || function.starts_with("day_tests::")));
                 (of_row.entry, of_row.functions) = (total, dump.shares(10.0));
             }
         }
