@@ -2,7 +2,7 @@
 -- the tables are the plan, and behind them there is nothing. Assumes nothing.
 use mathlib.Core.Path.{_≡_, refl, sym, ap, _∙_}
 use mathlib.Core.Bool.{true, false}
-use mathlib.Core.Option.{Option, none, some}
+use mathlib.Core.Option.{none, some}
 use mathlib.Core.List.{List, [], _∷_, _++_}
 use Prim.Native.Nat.{ℕ, zero, suc, _+_, _*_, _-_, _≤_, _<_}
 use native.Mathlib.Nat.{sub-zero}
@@ -19,8 +19,9 @@ use Rattle.edits.proofs.Kept.{same-each, same-length}
 use Rattle.lists.specs.Table.{lists}
 use Rattle.lists.proofs.Tables.{length-lists, flat-lists, lengths-lists}
 use Rattle.labels.specs.Columns.{Columns}
-use Rattle.descent.specs.Search.{Sweep, Outcome, settled, stopped, firstMove, next, run}
-use Rattle.descent.proofs.Loops.{place-passed, place-moved, next-sweep, run-settles, run-stops, run-moves}
+use Rattle.descent.specs.Search.{Sweep, firstMove, next}
+use Rattle.descent.proofs.Loops.{place-passed, place-moved, next-sweep}
+use Rattle.descent.proofs.Going.{Going, going-starts, going-settled, going-stopped, going-moves}
 use Rattle.engine.specs.Engine.{endedAs}
 use Rattle.engine.specs.declared.Ended.the-variants.{Settled, Stopped}
 use Rattle.fleet.specs.Fleet.{Fleet}
@@ -34,53 +35,6 @@ use Rattle.cross_moves.specs.declared.pair.Move.{Move}
 use Rattle.cross_choices.specs.declared.Choice.{Choice}
 use Rattle.cross_runs.specs.declared.Crossed.{Crossed}
 use Rattle.cross_search.proofs.Keeping.{kept-moved}
-
--- a run's outcome behind some moves
-abbrev behind : {S : Type 0} → ℕ → Outcome S → Outcome S
-behind moves r = record { word = r .word; moves = moves + r .moves; last = r .last }
-
--- after some moves the run is at a state, with the rest of the limit left
-pub record Going {S : Type 0} (step : S → Option S) (limit : ℕ) (first : S) (moves : ℕ) (now : S) : Type 0 where
-  pub left : ℕ
-  pub whole : moves + left ≡ limit
-  pub same : behind moves (run step left now) ≡ run step limit first
-
-module _ {S : Type 0} (step : S → Option S) (limit : ℕ) (first : S) where
-  pub going-start : Going step limit first 0 first
-  going-start =
-      let r = run step limit first in
-      let none-yet : 0 + r .moves ≡ r .moves = omega arith in
-      record { left = limit; whole = omega arith; same = ap (λ (n : ℕ). record { word = r .word; moves = n; last = r .last }) none-yet }
-
-  module _ (moves : ℕ) (now : S) (going : Going step limit first moves now) where
-    going-settled : step now ≡ none → run step limit first ≡ record { word = settled; moves = moves; last = now }
-    going-settled e =
-        let none-more : moves + 0 ≡ moves = omega arith in
-        sym (going .same) ∙ ap (behind moves) (run-settles step (going .left) now e)
-        ∙ ap (λ (n : ℕ). record { word = settled; moves = n; last = now }) none-more
-
-    going-stopped : (then : S) → step now ≡ some then → limit ≤ moves → run step limit first ≡ record { word = stopped; moves = moves; last = now }
-    going-stopped then e h =
-        let none-more : moves + 0 ≡ moves = omega arith in
-        let used : going .left ≡ 0 = omega (arith, going .whole) in
-        sym (going .same) ∙ ap (λ (n : ℕ). behind moves (run step n now)) used ∙ ap (behind moves) (run-stops step now then e)
-        ∙ ap (λ (n : ℕ). record { word = stopped; moves = n; last = now }) none-more
-
-    going-on : (then : S) → step now ≡ some then → moves < limit → Going step limit first (moves + 1) then
-    going-on then e h =
-        let fewer : ℕ = going .left - 1 in
-        let one : going .left ≡ suc fewer = omega (arith, going .whole) in
-        record {
-          left = fewer;
-          whole = omega (arith, going .whole);
-          same = shift (run step fewer then)
-              ∙ sym (ap (λ (n : ℕ). behind moves (run step n now)) one ∙ ap (behind moves) (run-moves step fewer now then e)) ∙ going .same;
-        }
-      where
-        shift : (r : Outcome S) → behind (moves + 1) r ≡ behind moves (record { word = r .word; moves = suc (r .moves); last = r .last })
-        shift r =
-            let more : moves + 1 + r .moves ≡ moves + suc (r .moves) = omega arith in
-            ap (λ (n : ℕ). record { word = r .word; moves = n; last = r .last }) more
 
 -- ---- parts of the tables
 
@@ -292,7 +246,7 @@ module _ (c : Columns) (demand : List ℤ) (fleet : Fleet) (limit : ℕ) (first 
     pub answers-stopped : isFound r ≡ true → limit ≤ moves → Answered (record { ended = Stopped moves; lists = n }) number visits₀ visits lengths ids
     unfolding runOf endedAs
     answers-stopped e used =
-        let whole = going-stopped _ _ _ moves _ running _ (a-next c demand fleet visits (take n lengths) (take n ids) (take n costs) r chosen-now e) used in
+        let whole = going-stopped _ _ _ moves _ _ running used (a-next c demand fleet visits (take n lengths) (take n ids) (take n costs) r chosen-now e) in
         let many = lists-now l visits₀ visits lengths ids costs n number live in
         (rw (whole, many), rw whole (handed-now l visits₀ visits lengths ids costs n number live), live .same)
 
@@ -301,7 +255,7 @@ module _ (c : Columns) (demand : List ℤ) (fleet : Fleet) (limit : ℕ) (first 
         → Going (next (searchOf c demand fleet) (judgeOf c demand fleet)) limit (record { now = first; ahead = [] }) (moves + 1)
         (record { now = q; ahead = [] })
     goes-on e room q is =
-        rw is (going-on _ _ _ moves _ running _ (a-next c demand fleet visits (take n lengths) (take n ids) (take n costs) r chosen-now e) room)
+        rw is (going-moves _ _ _ moves _ _ running room (a-next c demand fleet visits (take n lengths) (take n ids) (take n costs) r chosen-now e))
 
     -- a move that was made: the run goes on from the plan that the tables then hold
     pub goes-on-made : isFound r ≡ true → moves < limit → (visits′ lengths′ ids′ : List ℕ) (costs′ : List Float) (kept : ℕ)
@@ -366,6 +320,6 @@ pub begins : (c : Columns) (demand : List ℤ) (fleet : Fleet) (limit l : ℕ) (
     (planOf visits (take (length lengths) lengths) (take (length lengths) ids) (take (length lengths) costs))
     × Live l visits visits lengths ids costs (length lengths) (length lengths)
 begins c demand fleet limit l visits lengths ids costs held even-ids even-costs = (
-  rw (all-now l visits lengths ids costs held even-ids even-costs) (going-start _ limit _),
+  rw (all-now l visits lengths ids costs held even-ids even-costs) (going-starts _ limit _),
   live-start l visits lengths ids costs held even-ids even-costs,
 )

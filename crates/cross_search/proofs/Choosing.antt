@@ -8,6 +8,7 @@ use lib.Dec.{ltb}
 use lib.IntN.{ℤ}
 use lib.ListN.{length}
 use lib.Ieee.{Float, lt, neg}
+use Rattle.tests.specs.All.{and-right}
 use Rattle.numbers.specs.Operations.{_⊕_, _⊖_}
 use Rattle.numbers.specs.Floor.{gainFloor}
 use Rattle.day.specs.Matrix.{scaleOf}
@@ -26,7 +27,8 @@ use Rattle.cross_moves.specs.declared.price.Price.the-variants.{Unallowed, Cost
 use Rattle.cross_moves.specs.declared.pair.Pair.{Pair}
 use Rattle.cross_moves.specs.declared.pair.Move.{Move}
 use Rattle.cross_choices.specs.declared.Choice.{Choice}
-use Rattle.cross_search.proofs.Onward.{onward, figure, Counted, onward-better, counted-better, onward-stays, onward-end}
+use Rattle.descent.specs.Scan.{chosen, onward, figure, Counted}
+use Rattle.descent.proofs.Scanning.{onward-better, counted-better, onward-stays, onward-end}
 
 -- ---- scans of scans
 
@@ -158,11 +160,7 @@ module _ (c : Columns) (demand : List ℤ) (fleet : Fleet) (p : Plan) where
     stays e = record { same = sym (onward-stays delta pass bound (moveOf best) m ms e); still = good }
 
     not-passed : pass m ≡ false → Turned m ms best best
-    not-passed e = stays (fails (lt (delta m) (figure delta pass bound (moveOf best))))
-      where
-        fails : (t : Bool) → (t && pass m) ≡ false
-        fails true = e
-        fails false = refl
+    not-passed e = stays (and-right (lt (delta m) (figure delta pass bound (moveOf best))) (pass m) e)
 
     not-less : (d : Float) → d ≡ delta m → lt d (best .delta) ≡ false → Turned m ms best best
     not-less d is e =
@@ -224,7 +222,7 @@ module _ (c : Columns) (demand : List ℤ) (fleet : Fleet) (p : Plan) where
 
   from-nothing : (floor : Float) → onward delta pass bound (moveOf (nothing floor)) (moves fleet p)
       ≡ taken (searchOf c demand fleet) (judgeOf c demand fleet) p tt
-  unfolding moveOf onward taken ok searchOf judgeOf
+  unfolding moveOf onward chosen taken ok searchOf judgeOf
   from-nothing floor = refl
 
   -- the choice, from nothing on

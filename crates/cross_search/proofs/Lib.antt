@@ -1,5 +1,4 @@
 pub mod Pairs
-pub mod Onward
 pub mod Choosing
 pub mod Joining
 pub mod Keeping

@@ -2,19 +2,11 @@
 use mathlib.Core.Path.{_≡_, refl, sym, ap, _∙_}
 use mathlib.Core.Logic.{_⊎_, inl, inr}
 use mathlib.Core.Bool.{Bool, true, false, _&&_}
-use mathlib.Core.Option.{none, some}
+use mathlib.Core.Option.{some}
 use mathlib.Core.List.{List, [], _∷_}
-use Prim.Native.Nat.{ℕ}
-use native.Mathlib.Omega.{arith}
 use Rattle.descent.specs.Order.{_∈_, here, there}
 use Rattle.descent.specs.Search.{least, firstLeast}
-use Rattle.descent.proofs.Members.{and-parts, and-both, in-cons}
-
-clash : {A : Type 0} {a : A} → none ≡ some a → ⊥
-clash e = let z : _≡_ {A = ℕ} 0 1 = cc in omega arith
-
-unlike : {b : Bool} → b ≡ true → b ≡ false → ⊥
-unlike p q = let z : _≡_ {A = ℕ} 0 1 = cc in omega arith
+use Rattle.descent.proofs.Members.{clash, unlike, fails, and-parts, and-both, in-cons}
 
 decide : (b : Bool) → (b ≡ false → ⊥) → b ≡ true
 decide true h = refl
@@ -43,12 +35,8 @@ module _ {C : Type 0} (ok : C → Bool) (less : C → C → Bool) where
         now best (c ∷ cs) p (λ d i q. go d (in-cons c cs d i) q)
       where
         go : (d : C) → (d ≡ c) ⊎ (d ∈ cs) → ok d ≡ true → less d best ≡ false
-        go d (inl e) q = decide-not (less d best) (λ l. unlike (and-both (ok c) (less c best) (ap ok (sym e) ∙ q) (ap (λ (x : C). less x best) (sym e) ∙ l))
+        go d (inl e) q = fails (less d best) (λ l. unlike (and-both (ok c) (less c best) (ap ok (sym e) ∙ q) (ap (λ (x : C). less x best) (sym e) ∙ l))
             no-less)
-          where
-            decide-not : (b : Bool) → (b ≡ true → ⊥) → b ≡ false
-            decide-not true h = absurd (h refl)
-            decide-not false h = refl
         go d (inr i) q = h d i q
     insert best c cs m o no-less (later d ds n f F) =
         later best (c ∷ cs) m f (later c cs m (λ q. decide (less m c) (λ l. unlike (f o) (negtrans m c best l (not-less q)))) F)

@@ -2,6 +2,7 @@
 use mathlib.Core.Path.{_≡_, refl}
 use mathlib.Core.Logic.{_⊎_, inl, inr}
 use mathlib.Core.Bool.{Bool, true, false, _&&_}
+use mathlib.Core.Option.{none, some}
 use mathlib.Core.List.{List, [], _∷_, _++_, map}
 use Prim.Native.Nat.{ℕ, zero, suc, _+_, _-_, _≤_, _<_}
 use native.Mathlib.Omega.{arith}
@@ -10,6 +11,17 @@ use lib.Dec.{T}
 use Rattle.descent.specs.Order.{_∈_, here, there, from-on, range, each}
 
 -- ---- tests
+
+pub clash : {A : Type 0} {a : A} → none ≡ some a → ⊥
+clash e = let z : _≡_ {A = ℕ} 0 1 = cc in omega arith
+
+pub unlike : {b : Bool} → b ≡ true → b ≡ false → ⊥
+unlike p q = let z : _≡_ {A = ℕ} 0 1 = cc in omega arith
+
+-- a test that can't hold fails
+pub fails : (b : Bool) → (b ≡ true → ⊥) → b ≡ false
+fails true h = absurd (h refl)
+fails false h = refl
 
 pub T-true : (b : Bool) → T b → b ≡ true
 T-true true t = refl

@@ -5,17 +5,9 @@ use mathlib.Core.Logic.{_⊎_, inl, inr}
 use mathlib.Core.Bool.{Bool, true, false, _&&_}
 use mathlib.Core.Option.{Option, none, some}
 use mathlib.Core.List.{List, [], _∷_}
-use Prim.Native.Nat.{ℕ}
-use native.Mathlib.Omega.{arith}
 use Rattle.descent.specs.Order.{_∈_, here, there}
 use Rattle.descent.specs.Search.{least, firstLeast, After, goes-on, begins-again, Search, Judge, Sweep, ok, taken, firstMove, next}
-use Rattle.descent.proofs.Members.{and-parts, in-cons}
-
-clash : {A : Type 0} {a : A} → none ≡ some a → ⊥
-clash e = let z : _≡_ {A = ℕ} 0 1 = cc in omega arith
-
-unlike : {b : Bool} → b ≡ true → b ≡ false → ⊥
-unlike p q = let z : _≡_ {A = ℕ} 0 1 = cc in omega arith
+use Rattle.descent.proofs.Members.{clash, and-parts, in-cons}
 
 -- ---- the first least
 

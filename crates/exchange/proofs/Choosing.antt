@@ -1,22 +1,21 @@
--- The scan over two lists' cuts takes the first least of the exchanges that count and pass: the best so far starts at minus the floor, so that one test,
--- 'below the best so far', is 'counts' for the first and, since < is transitive, 'counts and is less' for the others. Assumes nothing.
+-- The scan over two lists' cuts takes the first least of the exchanges that count and pass, by the laws of scans (descent's proofs/Scanning.antt).
+-- Assumes nothing.
 use mathlib.Core.Path.{_≡_, refl, sym, ap, _∙_}
 use mathlib.Core.Bool.{Bool, true, false, cond, _&&_}
-use mathlib.Core.Option.{Option, none, some}
+use mathlib.Core.Option.{Option, none}
 use mathlib.Core.List.{List, [], _∷_, _++_, map}
 use Prim.Native.Nat.{ℕ, zero, suc, _-_}
 use lib.IntN.{ℤ}
 use lib.ListN.{length}
 use lib.Ieee.{Float, lt, neg}
 use Rattle.numbers.specs.Floor.{gainFloor}
-use Rattle.numbers.proofs.Total.{lt-trans}
 use Rattle.day.specs.Matrix.{scaleOf}
 use Rattle.labels.specs.Columns.{Columns}
 use Rattle.descent.specs.Order.{from-on, range, each, scan}
-use Rattle.descent.specs.Search.{least, firstLeast, ok, taken}
+use Rattle.descent.specs.Search.{ok, taken}
+use Rattle.descent.specs.Scan.{chosen, onward, figure, Counted}
 use Rattle.descent.specs.Across.{at, Pair, Tails}
-use Rattle.descent.proofs.Members.{T-true, true-T, and-parts, and-both}
-use Rattle.descent.proofs.Loops.{least-better, least-stays, first-found, first-passed}
+use Rattle.descent.proofs.Scanning.{onward-better, counted-better, onward-stays, onward-end}
 use Rattle.lists.specs.Table.{lists, listOf}
 use Rattle.lists.proofs.Tables.{at-lists}
 use Rattle.tails.specs.Best.{nothing, betterBy, rowBy, bestBy, bestOf}
@@ -24,61 +23,6 @@ use Rattle.exchange.specs.Exchange.{passesOf, judgeOf, pairAt, movedBy, 
 use Rattle.tails.specs.declared.Terms.{Terms}
 use Rattle.exchange.specs.declared.Place.{Place}
 use Rattle.tails.specs.declared.Choice.{Choice}
-
--- ---- a scan with one test
-
-module _ {C : Type 0} (delta : C → Float) (pass : C → Bool) (bound : Float) where
-  abbrev may : C → Bool
-  may c = lt (delta c) bound && pass c
-
-  abbrev less : C → C → Bool
-  less c best = lt (delta c) (delta best)
-
-  -- what a scan comes to from here: none so far, or the best
-  abbrev pub onward : Option C → List C → Option C
-  onward none cs = firstLeast may less cs
-  onward (some best) cs = some (least may less best cs)
-
-  -- what the next one has to be below
-  abbrev pub figure : Option C → Float
-  figure none = bound
-  figure (some best) = delta best
-
-  -- the best so far counts
-  abbrev pub Counted : Option C → Type 0
-  Counted none = Unit {0}
-  Counted (some best) = lt (delta best) bound ≡ true
-
-  -- below the best so far is below the bound
-  counts-too : (o : Option C) (c : C) → Counted o → lt (delta c) (figure o) ≡ true → lt (delta c) bound ≡ true
-  counts-too none c u e = e
-  counts-too (some best) c u e =
-      T-true (lt (delta c) bound) (lt-trans (delta c) (delta best) bound (true-T (lt (delta c) (delta best)) e) (true-T (lt (delta best) bound) u))
-
-  pub onward-better : (o : Option C) (c : C) (cs : List C) → Counted o → (lt (delta c) (figure o) && pass c) ≡ true → onward o (c ∷ cs) ≡ onward (some c) cs
-  onward-better none c cs u e = first-found may less c cs e
-  onward-better (some best) c cs u e =
-      let t = and-parts (lt (delta c) (delta best)) (pass c) e in
-      let counts : lt (delta c) bound ≡ true = counts-too (some best) c u (t .0) in
-      ap some (least-better may less best c cs (and-both (may c) (less c best) (and-both (lt (delta c) bound) (pass c) counts (t .1)) (t .0)))
-
-  pub counted-better : (o : Option C) (c : C) → Counted o → (lt (delta c) (figure o) && pass c) ≡ true → Counted (some c)
-  counted-better o c u e = counts-too o c u (and-parts (lt (delta c) (figure o)) (pass c) e .0)
-
-  neither : (p q r : Bool) → (r && q) ≡ false → ((p && q) && r) ≡ false
-  neither true true true e = e
-  neither true true false e = refl
-  neither true false r e = refl
-  neither false q r e = refl
-
-  pub onward-stays : (o : Option C) (c : C) (cs : List C) → (lt (delta c) (figure o) && pass c) ≡ false → onward o (c ∷ cs) ≡ onward o cs
-  onward-stays none c cs e = first-passed may less c cs e
-  onward-stays (some best) c cs e = ap some (least-stays may less best c cs (neither (lt (delta c) bound) (pass c) (less c best) e))
-
-  pub onward-end : (o : Option C) → onward o [] ≡ o
-  unfolding firstLeast least
-  onward-end none = refl
-  onward-end (some best) = refl
 
 -- ---- the exchanges of a pair, by what one changes and whether it passes
 
@@ -110,7 +54,7 @@ module _ (p : Pair) (delta : Tails → Float) (pass : Tails → Bool) (floor : F
 
   one-more : (i k : ℕ) (best : Choice) (rest : List Tails) → Known best
       → Onward best (betterBy change may-go (suc i) k best) (tails (suc i) k ∷ rest) rest
-  unfolding betterBy movedBy lt
+  unfolding betterBy movedBy lt figure
   one-more i k best rest known = go (lt (delta m) (best .delta) && pass m) refl
     where
       m : Tails
@@ -146,7 +90,7 @@ module _ (p : Pair) (delta : Tails → Float) (pass : Tails → Bool) (floor : F
       row .same ∙ rows-more (suc a) n n2 (rowBy change may-go n2 (suc a) best) (row .known)
 
   known-nothing : Known (nothing floor)
-  unfolding movedBy
+  unfolding movedBy figure Counted
   known-nothing = record { figured = refl; counted = tt }
 
   -- the best of all is the first least of all
@@ -162,7 +106,7 @@ module _ (c : Columns) (demand : List ℤ) (t : Terms) (ls : List (List ℕ)) (p
   best-taken : t .floor ≡ gainFloor (scaleOf (c .distances))
       → movedBy p (bestOf c demand t (at ls (p .one)) (at ls (p .other)) .cut1) (bestOf c demand t (at ls (p .one)) (at ls (p .other)) .cut2)
       ≡ takenAt c demand t ls p
-  unfolding taken passesOf judgeOf ok
+  unfolding taken passesOf judgeOf ok onward chosen
   best-taken e =
       rw e (best-first p (judgeOf c t .delta ls) (passesOf c demand t ls) (gainFloor (scaleOf (c .distances))) (length (at ls (p .one)))
       (length (at ls (p .other))))

@@ -2,5 +2,4 @@ pub mod Choosing
 pub mod Places
 pub mod Tables
 pub mod Moves
-pub mod Running
 pub mod Claimed

@@ -21,7 +21,7 @@ use Rattle.exchange.specs.Exchange.{pairAt, movedBy, from, placeAfter, I
 use Rattle.exchange.specs.declared.Place.{Place}
 use Rattle.exchange.specs.declared.Found.{Found}
 use Rattle.exchange.proofs.Places.{from-turn, from-end, from-start}
-use Rattle.exchange.proofs.Running.{Going, going-moves}
+use Rattle.descent.proofs.Going.{Going, going-moves}
 
 -- where an exchange leads, in a number of lists
 abbrev pub goal : List (List ℕ) → Place → ℕ → ℕ → ℕ → Sweep (List (List ℕ)) Pair

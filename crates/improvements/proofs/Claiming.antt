@@ -1,22 +1,22 @@
 -- Demand 3 of the entries within a list: without a soft window the run is that of the definition of demand 3, judged by f64 deltas that are exact on whole
 -- distances (deltas, `float-demand-3`), and the list handed back is the one that it left. Assumes nothing but the premises of demand 3.
-use Prim.Native.Nat.{ℕ, zero, suc, _<_}
+use Prim.Native.Nat.{ℕ, zero, suc}
 use mathlib.Core.Path.{_≡_, refl, sym, subst}
 use mathlib.Core.Option.{Option, none, some}
-use mathlib.Core.List.{List, [], _∷_}
+use mathlib.Core.List.{List}
 use native.Mathlib.Omega.{arith}
-use lib.ListN.{length, getD}
 use Rattle.day.specs.Day.{Day}
 use Rattle.day.specs.Vehicle.{limitsOf}
 use Rattle.day.specs.declared.vehicle.Van.{Van}
 use Rattle.lists.specs.Table.{listOf}
-use Rattle.labels.specs.Columns.{Visits, columnsOf}
+use Rattle.labels.specs.Columns.{columnsOf}
 use Rattle.descent.specs.Permitted.{two-opt, or-opt, three-opt, n-minus-length}
 use Rattle.descent.specs.Search.{Word, settled, stopped}
 use Rattle.descent.specs.Engines.{run-of}
 use Rattle.descent.specs.Claim.{Claim}
-use Rattle.deltas.specs.Judged.{Lent, roadsOf}
+use Rattle.deltas.specs.Judged.{roadsOf}
 use Rattle.deltas.proofs.Exact.{float-demand-3}
+use Rattle.two_opt.proofs.Claimed.{lent-one}
 use Rattle.neighbours.specs.declared.Neighbourhood.{Neighbourhood}
 use Rattle.neighbours.specs.declared.Neighbourhood.the-variants.{Reverse, Relocate, Reconnect}
 use Rattle.within.specs.Within.{Ran, hardRan}
@@ -26,14 +26,6 @@ use Rattle.improvements.specs.Improve.{runOn, improvedAs, answerOf, impr
 use Rattle.claims.specs.Demand3.{mapFor, checksFor, Report, Claimed}
 use Rattle.claims.proofs.Whole.{whole-map}
 use Rattle.improvements.proofs.Improving.{refused-call, answered-call, list-back}
-
--- one list is lent
-lent-one : (l : ℕ) (list : List ℕ) → Visits l list → Lent l (list ∷ [])
-lent-one l list v = record { visit-there = there; few = omega (arith, v .few) }
-  where
-    there : (r k : ℕ) → k < length (getD (list ∷ []) r []) → getD (getD (list ∷ []) r []) k 0 < l
-    there zero k h = v .below k h
-    there (suc r) k h = absurd (omega arith)
 
 -- what an answer reports
 reports : (d : Day) (van : Van) (ran : Ran) → reported (answerOf d van ran) ≡ some (record { word = ran .word; moves = ran .moves })

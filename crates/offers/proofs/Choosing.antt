@@ -26,7 +26,7 @@ use Rattle.deltas.specs.Deltas.{stopAt, removalDelta, relocateDelta}
 use Rattle.deltas.proofs.Stops.{getD-any}
 use Rattle.engine.specs.Engine.{passing}
 use Rattle.loads.specs.Loads.{boxesOf, Held}
-use Rattle.pairs.specs.Scan.{figure, Counted}
+use Rattle.descent.specs.Scan.{figure, Counted}
 use Rattle.edits.specs.Edits.{inserted}
 use Rattle.places.specs.Places.{Prepared, taken-at, offerDelta, better, bestAmong}
 use Rattle.places.specs.declared.Setup.{Setup}
@@ -35,7 +35,7 @@ use Rattle.edits.proofs.Kept.{total-inserted}
 use Rattle.offers.specs.Offers.{searchOf, judgeOf, bound, intoList, scan, Best, Scanned}
 use Rattle.pairs.specs.declared.Choice.{Choice}
 use Rattle.pairs.specs.Pairs.{moveOf}
-use Rattle.pairs.proofs.Scanning.{onward-better, counted-better, onward-stays, onward-end, onward-append, onward-none}
+use Rattle.descent.proofs.Scanning.{onward-better, counted-better, onward-stays, onward-end, onward-append, onward-none}
 
 -- ---- loops
 

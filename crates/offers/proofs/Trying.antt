@@ -30,10 +30,10 @@ use Rattle.deltas.specs.Deltas.{stopAt, removalDelta, relocateDelta}
 use Rattle.deltas.proofs.Stops.{getD-any}
 use Rattle.loads.specs.Loads.{boxesOf, Held}
 use Rattle.loads.proofs.Tables.{visit-below}
-use Rattle.pairs.specs.Scan.{onward, figure, Counted}
+use Rattle.descent.specs.Scan.{onward, figure, Counted}
 use Rattle.pairs.specs.Pairs.{moveOf, nothing, IsBest}
 use Rattle.pairs.specs.declared.Choice.{Choice}
-use Rattle.pairs.proofs.Scanning.{onward-stays, onward-end}
+use Rattle.descent.proofs.Scanning.{onward-stays, onward-end}
 use Rattle.pairs.proofs.Taken.{best-same-list, best-across}
 use Rattle.insertions.specs.Cache.{LeastAt, cell, knownAt, leastBelow}
 use Rattle.places.specs.Places.{Prepared, ruledOut, bestAmong}

@@ -23,7 +23,7 @@ use Rattle.deltas.specs.Deltas.{removalDelta, insertionDelta}
 use Rattle.deltas.specs.Judged.{float-judge}
 use Rattle.engine.specs.Engine.{checksOf, mapOf}
 use Rattle.loads.specs.Loads.{boxesOf, measureOf}
-use Rattle.pairs.specs.Scan.{onward, figure, Counted}
+use Rattle.descent.specs.Scan.{onward, figure, Counted}
 use Rattle.pairs.specs.Pairs.{moveOf}
 use Rattle.pairs.specs.declared.Choice.{Choice}
 use Rattle.insertions.specs.declared.Least.{Least}

@@ -23,7 +23,7 @@ use Rattle.segments.specs.declared.Change.{Change}
 use Rattle.segments.specs.declared.Best.{Best}
 use Rattle.segments.specs.declared.Best.the-variants.{Nothing, Move}
 use Rattle.segments.proofs.Moved.{is-put, asked-moved}
-use Rattle.engine.proofs.Running.{Going, going-moves}
+use Rattle.descent.proofs.Going.{Going, going-moves}
 use Rattle.segment_moves.proofs.Rows.{reach}
 
 module _ (c : Columns) (t : Terms) (xs : List ℕ) where

@@ -11,12 +11,12 @@ use Rattle.numbers.specs.Value.{ordered}
 use Rattle.numbers.proofs.Total as Total
 use Rattle.descent.specs.Order.{_∈_, here, there}
 use Rattle.descent.specs.Across.{Relocation}
-use Rattle.descent.proofs.Members.{true-T, and-parts, not-in, in-cons}
+use Rattle.descent.proofs.Members.{unlike, fails, true-T, and-parts, not-in, in-cons}
 use Rattle.descent.proofs.Loops.{least-better, least-stays, first-found, first-passed}
-use Rattle.pairs.specs.Scan.{may, less, onward}
+use Rattle.descent.specs.Scan.{chosen, may, less, onward}
 use Rattle.pairs.specs.Pairs.{earlier}
-use Rattle.pairs.proofs.Scanning.{onward-end}
-use Rattle.pairs.proofs.Order.{unlike, fails, better, better-irr, better-trans, better-total, better-later}
+use Rattle.descent.proofs.Scanning.{onward-end}
+use Rattle.pairs.proofs.Order.{better, better-irr, better-trans, better-total, better-later}
 use Rattle.pairs.proofs.Sorted.{Sorted}
 
 -- stands before, in the order of the numbers
@@ -135,7 +135,7 @@ module _ (delta : Relocation → Float) (pass : Relocation → Bool) (bound : Fl
   -- one move more: the delta alone decides, since the move stands behind the best so far
   step : (m : Relocation) (ms : List Relocation) (o : Option Relocation) (t : Bool) → may delta pass bound m ≡ t → Leads o (m ∷ ms)
       → onward delta pass bound o (m ∷ ms) ≡ onward delta pass bound (merge delta (alone m t) o) ms
-  unfolding onward merge
+  unfolding onward chosen merge
   step m ms none true e k = first-found (may delta pass bound) (less delta pass bound) m ms e
   step m ms none false e k = first-passed (may delta pass bound) (less delta pass bound) m ms e
   step m ms (some b) false e k = ap some (least-stays (may delta pass bound) (less delta pass bound) b m ms (rw e))

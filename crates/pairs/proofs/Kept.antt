@@ -4,7 +4,7 @@ use mathlib.Core.Path.{_≡_, refl, sym, ap, _∙_, subst}
 use mathlib.Core.Logic.{_⊎_, inl, inr, _≢_}
 use mathlib.Core.Bool.{Bool, true, false, not}
 use mathlib.Core.Option.{Option, none, some}
-use mathlib.Core.List.{List, []}
+use mathlib.Core.List.{List}
 use Prim.Native.Nat.{ℕ, _+_, _≤_, _<_}
 use native.Mathlib.Omega.{arith}
 use native.Mathlib.Decide.{ℕ-discrete}
@@ -16,13 +16,13 @@ use lib.Ieee.{Float, nan, lt}
 use Rattle.numbers.proofs.Total as Total
 use Rattle.descent.specs.Order.{_∈_}
 use Rattle.descent.specs.Across.{Relocation}
-use Rattle.descent.proofs.Members.{true-T}
-use Rattle.pairs.specs.Scan.{may, onward, figure}
+use Rattle.descent.proofs.Members.{fails, true-T}
+use Rattle.descent.specs.Scan.{may, onward, figure}
 use Rattle.pairs.specs.Pairs.{between, Short, asMove, moveOf, Table, Sized, slot, entry, narrowed, put}
 use Rattle.pairs.specs.Pairs.{foundIf, isFound, pairBest, IsBest, Stored, StoredBoth, RightWhere, Right}
 use Rattle.pairs.specs.Pairs.{Before, Untouched, Renewed, Agree}
 use Rattle.pairs.specs.declared.Choice.{Choice}
-use Rattle.pairs.proofs.Order.{fails, better, same-move}
+use Rattle.pairs.proofs.Order.{better, same-move}
 use Rattle.pairs.proofs.Best.{Best, best-one, best-sorted}
 use Rattle.pairs.proofs.Listed.{between-sorted, Of, between-is}
 use Rattle.pairs.proofs.Least.{found-move, no-move, Standing, found-delta, none-delta, pair-standing}

@@ -10,10 +10,11 @@ use borrow.Author.Tests.{eq-eqb, ne-eqb}
 use lib.Dec.{eqb}
 use lib.ListN.{length}
 use lib.Ieee.{Float, lt}
+use Rattle.tests.specs.All.{and-left}
 use Rattle.descent.specs.Order.{_∈_, here, there, range, each}
 use Rattle.descent.specs.Across.{Relocation, relocations}
 use Rattle.descent.proofs.Members.{and-parts, not-in, in-cons, range-in}
-use Rattle.pairs.specs.Scan.{onward, figure}
+use Rattle.descent.specs.Scan.{onward, figure}
 use Rattle.pairs.specs.Pairs.{between, asMove, moveOf, nothing, lessThen, earlier, ahead, firstOf, firstAmong}
 use Rattle.pairs.specs.Pairs.{isFound, Table, entry, rowFrom, leastEntry, pairBest, IsBest, Right}
 use Rattle.pairs.specs.declared.Choice.{Choice}
@@ -55,9 +56,6 @@ ahead-found c best e = and-true (isFound c) (lessThen (c .delta) (best .delta) (
     and-true : (a b : Bool) → a ≡ true → (a && b) ≡ b
     and-true a b e = rw e
 
-and-none : (a b : Bool) → a ≡ false → (a && b) ≡ false
-and-none a b e = rw e
-
 module _ (delta : Relocation → Float) (pass : Relocation → Bool) (bound : Float) where
   -- a choice is the best of a set, with its delta
   pub record Standing (S : Relocation → Type 0) (c : Choice) : Type 0 where
@@ -81,7 +79,7 @@ module _ (delta : Relocation → Float) (pass : Relocation → Bool) (bound : Fl
   module _ (S R : Relocation → Type 0) (best c : Choice) (s : Standing S best) (r : Standing R c) where
     none-found : isFound c ≡ false → moveOf (firstOf best c) ≡ merge delta (moveOf c) (moveOf best)
     unfolding ahead merge
-    none-found e = ap moveOf (first-stays best c (and-none (isFound c) _ e)) ∙ ap (λ (o : Option Relocation). merge delta o (moveOf best)) (sym (no-move c e))
+    none-found e = ap moveOf (first-stays best c (and-left (isFound c) _ e)) ∙ ap (λ (o : Option Relocation). merge delta o (moveOf best)) (sym (no-move c e))
 
     one-found : isFound c ≡ true → isFound best ≡ false → moveOf (firstOf best c) ≡ merge delta (moveOf c) (moveOf best)
     unfolding merge

@@ -1,6 +1,5 @@
--- `Scanning`: a scan for the first least. `Order`, `Sorted`, `Best`, `Listed`: one total order of the moves, by which every order of search agrees.
+-- `Order`, `Sorted`, `Best`, `Listed`: one total order of the moves, by which every order of search agrees.
 -- `Rows`, `Least`: the least entry of the table. `Kept`: the table kept right. `Taken`, `Going`: what it is to an engine, and a run under way.
-pub mod Scanning
 pub mod Order
 pub mod Sorted
 pub mod Best

@@ -7,17 +7,14 @@ use Prim.Native.Nat.{ℕ, _≤_, _<_}
 use native.Mathlib.Omega.{arith}
 use borrow.Author.Tests.{ltb-true, ltb-false, lt-ltb, le-ltb, eqb-true, eq-eqb, ne-eqb}
 use lib.Dec.{T, ltb, eqb}
-use lib.Ieee.{Float, lt, le, eq}
+use lib.Ieee.{Float, lt, eq}
 use Rattle.numbers.specs.Value.{ordered}
 use Rattle.numbers.proofs.Total as Total
 use Rattle.descent.specs.Across.{Relocation}
-use Rattle.descent.proofs.Members.{T-true, true-T, and-parts, and-both}
+use Rattle.descent.proofs.Members.{unlike, fails, T-true, true-T, and-parts, and-both}
 use Rattle.pairs.specs.Pairs.{inOrder, earlier, lessThen}
 
 -- ---- tests
-
-pub unlike : {b : Bool} → b ≡ true → b ≡ false → ⊥
-unlike p q = let z : _≡_ {A = ℕ} 0 1 = cc in omega arith
 
 or-parts : (a b : Bool) → (a || b) ≡ true → (a ≡ true) ⊎ (b ≡ true)
 or-parts true b e = inl refl
@@ -33,11 +30,6 @@ or-right false b e = e
 or-none : (a b : Bool) → (a || b) ≡ false → (a ≡ false) × (b ≡ false)
 or-none true b e = absurd (unlike refl e)
 or-none false b e = (refl, e)
-
--- a test that can't hold fails
-pub fails : (b : Bool) → (b ≡ true → ⊥) → b ≡ false
-fails true h = absurd (h refl)
-fails false h = refl
 
 -- ---- one number, then the rest
 

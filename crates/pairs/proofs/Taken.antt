@@ -18,11 +18,11 @@ use Rattle.descent.specs.Permitted.{Checks}
 use Rattle.descent.specs.Search.{begins-again, Search, Judge, ok, taken, firstMove, next}
 use Rattle.descent.specs.Across.{at, Relocation, relocations, relocate-search}
 use Rattle.descent.proofs.Loops.{place-passed, place-moved, next-sweep}
-use Rattle.pairs.specs.Scan.{onward, figure}
+use Rattle.descent.specs.Scan.{chosen, onward, figure}
 use Rattle.pairs.specs.Pairs.{across, Moves, Short, isFound, asMove, moveOf, nothing, Table, leastEntry, pairBest}
 use Rattle.pairs.specs.Pairs.{IsBest, RightWhere, Right, Renewed, Agree}
 use Rattle.pairs.specs.declared.Choice.{Choice}
-use Rattle.pairs.proofs.Scanning.{onward-end, onward-none}
+use Rattle.descent.proofs.Scanning.{onward-end, onward-none}
 use Rattle.pairs.proofs.Best.{Best, best-sorted}
 use Rattle.pairs.proofs.Listed.{between-same, between-apart, relocations-sorted, relocation-there}
 use Rattle.pairs.proofs.Least.{found-move, no-move, least-entry-taken}
@@ -154,7 +154,7 @@ module _ (search : Search (List (List ℕ)) Unit Relocation) (judge : Judge (Lis
     (R : Relocating search judge bound) (ls : List (List ℕ)) where
   -- the scan of all relocations is the definition's choice
   pub scan-taken : onward (judge .delta ls) (search .passes ls) bound none (relocations ls) ≡ taken search judge ls tt
-  unfolding onward taken ok
+  unfolding onward chosen taken ok
   scan-taken = rw (R .candidates-are ls, R .counts-is, R .less-is)
 
   -- and so is the least entry of a right table

@@ -12,7 +12,7 @@ use lib.Ieee.{Float, nan, lt, eq}
 use denote.Ref.{RefT, now}
 use Rattle.descent.specs.Order.{range, each}
 use Rattle.descent.specs.Across.{at, Relocation}
-use Rattle.pairs.specs.Scan.{onward, figure}
+use Rattle.descent.specs.Scan.{onward, figure}
 use Rattle.pairs.specs.declared.Choice.{Choice}
 
 -- ---- the moves of a pair of lists

@@ -4,7 +4,6 @@ use mathlib.Core.Path.{_≡_, ap}
 use mathlib.Core.Bool.{true, false}
 use mathlib.Core.List.{List, [], _∷_}
 use Prim.Native.Nat.{ℕ, _+_, _≤_, _<_}
-use native.Mathlib.Omega.{arith}
 use lib.IntN.{ℤ}
 use lib.ListN.{length}
 use lib.Ieee.{neg}
@@ -25,7 +24,8 @@ use Rattle.places.specs.declared.Setup.{Setup}
 use Rattle.pairs.specs.declared.Choice.{Choice}
 use Rattle.pairs.specs.Pairs.{Moves, isFound, moveOf, Table, leastEntry}
 use Rattle.pairs.proofs.Taken.{Relocating, relocate-relocating, table-taken, taken-there}
-use Rattle.pairs.proofs.Going.{Going, run-settled, run-stopped, run-goes-on}
+use Rattle.descent.proofs.Going.{Going}
+use Rattle.pairs.proofs.Going.{run-settled, run-stopped, run-goes-on}
 
 -- ---- one search
 

@@ -11,7 +11,8 @@ use Rattle.descent.specs.Order.{range}
 use Rattle.descent.specs.Search.{firstLeast, taken}
 use Rattle.descent.specs.Within.{Piece, pieces}
 use Rattle.descent.proofs.Loops.{range-done}
-use Rattle.segments.specs.Segments.{last-position, searchOf, judgeOf, chosen, choice, to-each, pieceOf}
+use Rattle.descent.specs.Scan.{chosen}
+use Rattle.segments.specs.Segments.{last-position, searchOf, judgeOf, choice, to-each, pieceOf}
 use Rattle.segment_moves.specs.Row.{row}
 use Rattle.segments.specs.declared.Terms.{Terms}
 use Rattle.segments.specs.declared.Best.the-variants.{Nothing}

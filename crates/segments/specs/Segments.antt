@@ -1,7 +1,7 @@
 -- A piece at a new position of its list, as Or-opt states it: what stays the same over a run, and the choice among candidates. For src/. Assumes nothing.
 use mathlib.Core.Path.{_≡_}
 use mathlib.Core.Logic.{_⊎_}
-use mathlib.Core.Bool.{Bool, true}
+use mathlib.Core.Bool.{true}
 use mathlib.Core.Option.{Option, none, some}
 use mathlib.Core.List.{List, [], map}
 use Prim.Native.Nat.{ℕ, _+_, _≤_, _<_}
@@ -11,7 +11,8 @@ use Rattle.numbers.specs.Floor.{counts}
 use Rattle.labels.specs.Columns.{Columns, Formed, Visits}
 use Rattle.evaluation.specs.Route.{checksNeeded}
 use Rattle.descent.specs.Permitted.{Engine, or-opt, n-minus-length}
-use Rattle.descent.specs.Search.{least, firstLeast, Search, Judge, ok}
+use Rattle.descent.specs.Search.{Search, Judge, ok}
+use Rattle.descent.specs.Scan.{chosen}
 use Rattle.descent.specs.Within.{Piece}
 use Rattle.descent.specs.Engines.{search-of}
 use Rattle.deltas.specs.Judged.{Map, floorOf, deltaOf, float-judge}
@@ -60,12 +61,6 @@ pub record Fits (n : ℕ) (p : Piece) : Type 0 where
   pub apart : (p .to < p .from) ⊎ (p .from + p .size ≤ p .to)
 
 -- ---- the choice of the first least, from the best so far on
-
-module _ {C : Type 0} (may : C → Bool) (less : C → C → Bool) where
-  -- 01: 'choice of the first least', where there is a best so far, or none
-  unfoldable pub chosen : Option C → List C → Option C
-  chosen none cs = firstLeast may less cs
-  chosen (some best) cs = some (least may less best cs)
 
 -- among Or-opt's candidates
 abbrev pub choice : Columns → Terms → List ℕ → Option Piece → List Piece → Option Piece

@@ -8,6 +8,7 @@ use Rattle.labels.specs.Columns.{Columns}
 use Rattle.lists.specs.Table.{lists, listOf}
 use Rattle.lists.proofs.Tables.{at-lists}
 use Rattle.descent.specs.Search.{ok, taken}
+use Rattle.descent.specs.Scan.{chosen, onward}
 use Rattle.descent.specs.Across.{at, Pair}
 use Rattle.exchange.specs.Exchange.{pairAt, movedBy}
 use Rattle.exchange.specs.declared.Place.{Place}
@@ -20,7 +21,7 @@ module _ (c : Columns) (demand : List ℤ) (t : Terms) (ls : List (List ℕ)) (p
   -- the best of all is what is taken
   best-taken : movedBy p (bestOf c demand t (at ls (p .one)) (at ls (p .other)) .cut1) (bestOf c demand t (at ls (p .one)) (at ls (p .other)) .cut2)
       ≡ takenAt c demand t ls p
-  unfolding taken passesOf judgeOf ok
+  unfolding taken passesOf judgeOf ok onward chosen
   best-taken = best-first p (judgeOf c t .delta ls) (passesOf c demand t ls) (t .floor) (length (at ls (p .one))) (length (at ls (p .other)))
 
 -- so of two lists of the tables

@@ -12,6 +12,7 @@ use lib.IntN.{ℤ}
 use lib.ListN.{length, getD}
 use lib.Ieee.{Float, lt}
 use lib.Ieee.Scale.{finite}
+use Rattle.tests.specs.All.{and-right}
 use Rattle.edits.specs.Total.{total}
 use Rattle.lists.specs.Table.{sum, lists, listOf}
 use Rattle.lists.proofs.Tables.{at-lists, length-list}
@@ -20,11 +21,11 @@ use Rattle.descent.specs.Order.{_∈_, from-on, range, each}
 use Rattle.descent.specs.Permitted.{room}
 use Rattle.descent.specs.Across.{at, Relocation}
 use Rattle.descent.proofs.Members.{map-in, each-in, and-parts}
-use Rattle.pairs.specs.Scan.{figure, Counted}
+use Rattle.descent.specs.Scan.{figure, Counted}
 use Rattle.pairs.specs.Pairs.{across, moveOf, nothing, IsBest}
 use Rattle.pairs.specs.declared.Choice.{Choice}
 use Rattle.pairs.proofs.Taken.{best-across, best-refused}
-use Rattle.pairs.proofs.Scanning.{onward-better, counted-better, onward-stays, onward-end, onward-append, onward-none}
+use Rattle.descent.proofs.Scanning.{onward-better, counted-better, onward-stays, onward-end, onward-append, onward-none}
 use Rattle.loads.specs.Loads.{boxesOf, measureOf}
 use Rattle.edits.specs.Edits.{inserted}
 use Rattle.soft_places.specs.Prices.{receivingDelta, softDelta, priced}
@@ -72,12 +73,8 @@ module _ (c : Columns) (demand : List ℤ) (s : Setup) (visits lengths : List �
       → passOf (record { from = from; position = position; to = to; place = place }) ≡ false
   unfolding searchOf
   no-price-at from to position place e =
-      neither (room (measureOf demand (s .capacity) ∷ []) (inserted (at ls to) (getD (at ls from) position 0) place)) _
+      and-right (room (measureOf demand (s .capacity) ∷ []) (inserted (at ls to) (getD (at ls from) position 0) place)) _
       (rw (at-lists visits lengths from, at-lists visits lengths to) (unpriced (listOf visits lengths from) (listOf visits lengths to) position e))
-    where
-      neither : (a b : Bool) → b ≡ false → (a && b) ≡ false
-      neither true b e = e
-      neither false b e = refl
 
   no-price : (from to : ℕ) → (finite (priceOf c s (listOf visits lengths from)) && finite (priceOf c s (listOf visits lengths to))) ≡ false → from ≢ to
       → IsBest deltaOf passOf (bound s) ls from to (nothing (bound s))

@@ -11,6 +11,7 @@ use lib.IntN.{ℤ}
 use lib.ListN.{length, getD}
 use lib.Ieee.{Float}
 use lib.Ieee.Scale.{finite}
+use Rattle.tests.specs.All.{and-right}
 use Rattle.tests.specs.Pick.{picked, other}
 use Rattle.edits.specs.Total.{total}
 use Rattle.labels.specs.Columns.{Columns}
@@ -53,11 +54,7 @@ module _ (c : Columns) (demand : List ℤ) (s : Setup) (X Y : List ℕ) (pair : 
       pub fails-as : told ≡ false → best ≡ bestOffer c demand s X Y pair position best
       unfolding bestOffer
       fails-as e =
-          other _ _ _ _ (no-second (leb (pair .load + boxesOf demand (getD X position 0)) (s .capacity)) _ (ap finite (sym is-giving) ∙ sym asked ∙ e)) refl
-        where
-          no-second : (a b : Bool) → b ≡ false → (a && b) ≡ false
-          no-second true b e = e
-          no-second false b e = refl
+          other _ _ _ _ (and-right (leb (pair .load + boxesOf demand (getD X position 0)) (s .capacity)) _ (ap finite (sym is-giving) ∙ sym asked ∙ e)) refl
 
       pub offered-as : told ≡ true → pair .load + more ≤ s .capacity → (paid : Float) (after : Choice) → paid ≡ fixedIf (eqb (length Y) 0) (s .fixed)
           → after ≡ bestAmong (priceOf c s) Y

@@ -17,7 +17,7 @@ use Rattle.deltas.specs.Changes.{fixedIf}
 use Rattle.descent.specs.Order.{range}
 use Rattle.descent.specs.Search.{Search, Judge}
 use Rattle.descent.specs.Across.{at, Relocation}
-use Rattle.pairs.specs.Scan.{onward, figure, Counted}
+use Rattle.descent.specs.Scan.{onward, figure, Counted}
 use Rattle.pairs.specs.Pairs.{moveOf, nothing, IsBest}
 use Rattle.pairs.specs.declared.Choice.{Choice}
 use Rattle.loads.specs.Loads.{boxesOf, measureOf}

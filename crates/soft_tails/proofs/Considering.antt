@@ -1,7 +1,7 @@
 -- One exchange more: each test that the code makes, in its order, is a part of the definition's one test. And a pair of which one list has no price has no
 -- exchange, since each asks for both prices. Assumes nothing.
 use mathlib.Core.Path.{_≡_, refl, sym, ap, _∙_}
-use mathlib.Core.Bool.{Bool, true, false, _&&_, true≢false}
+use mathlib.Core.Bool.{Bool, true, false, _&&_}
 use mathlib.Core.List.{List, [], _∷_}
 use Prim.Native.Nat.{ℕ, suc, _≤_, _<_}
 use borrow.Author.Tests.{le-leb, lt-leb}
@@ -10,6 +10,7 @@ use lib.IntN.{ℤ}
 use lib.ListN.{length}
 use lib.Ieee.{Float, lt}
 use lib.Ieee.Scale.{finite}
+use Rattle.tests.specs.All.{and-left, and-right}
 use Rattle.tests.specs.Pick.{picked, other}
 use Rattle.labels.specs.Columns.{Columns}
 use Rattle.edits.specs.Total.{total}
@@ -24,14 +25,6 @@ use Rattle.tail_prices.specs.Tails.{priced, change}
 use Rattle.tail_prices.specs.Changes.{costIn, changeOf}
 use Rattle.tail_prices.specs.declared.Terms.{Terms}
 use Rattle.soft_tails.specs.Parts.{measuresFor, better, bestRow, bestOf}
-
-left-out : (a b : Bool) → a ≡ false → (a && b) ≡ false
-left-out false b e = refl
-left-out true b e = absurd (true≢false e)
-
-right-out : (a b : Bool) → b ≡ false → (a && b) ≡ false
-right-out false b e = refl
-right-out true b e = e
 
 -- a loop that changes nothing
 scan-same : {A B : Type 0} (f : A → B → B) → ((x : A) (b : B) → f x b ≡ b) → (xs : List A) (b : B) → scan f xs b ≡ b
@@ -50,7 +43,7 @@ prices-known c t X Y cost1 cost2 a b e1 e2 f1 f2 h1 h2 =
 module _ (c : Columns) (demand : List ℤ) (t : Terms) where
   -- a load over the capacity, and one within it
   over : (xs : List ℕ) (load : ℕ) → load ≡ total (boxesOf demand) xs → t .capacity < load → room (measuresFor demand t) xs ≡ false
-  over xs load e h = left-out (leb (total (boxesOf demand) xs) (t .capacity)) true (lt-leb (total (boxesOf demand) xs) (t .capacity) (rw e at h))
+  over xs load e h = and-left (leb (total (boxesOf demand) xs) (t .capacity)) true (lt-leb (total (boxesOf demand) xs) (t .capacity) (rw e at h))
 
   within : (xs : List ℕ) (load : ℕ) → load ≡ total (boxesOf demand) xs → load ≤ t .capacity → room (measuresFor demand t) xs ≡ true
   within xs load e h = and-both (leb (total (boxesOf demand) xs) (t .capacity)) true (le-leb (total (boxesOf demand) xs) (t .capacity) (rw e at h)) refl
@@ -71,25 +64,25 @@ module _ (c : Columns) (demand : List ℤ) (t : Terms) where
     pub stays-first-load : (load : ℕ) → load ≡ total (boxesOf demand) newX → t .capacity < load → best ≡ better c demand t X Y cut1 cut2 best
     unfolding betterBy
     stays-first-load load e h =
-        let out = left-out (room (measuresFor demand t) newX) (room (measuresFor demand t) newY) (over newX load e h) in
-        other _ _ _ _ (right-out (lt delta (best .delta)) _ (left-out rooms (priced (costIn c t) X Y) out)) refl
+        let out = and-left (room (measuresFor demand t) newX) (room (measuresFor demand t) newY) (over newX load e h) in
+        other _ _ _ _ (and-right (lt delta (best .delta)) _ (and-left rooms (priced (costIn c t) X Y) out)) refl
 
     pub stays-second-load : (load : ℕ) → load ≡ total (boxesOf demand) newY → t .capacity < load → best ≡ better c demand t X Y cut1 cut2 best
     unfolding betterBy
     stays-second-load load e h =
-        let out = right-out (room (measuresFor demand t) newX) (room (measuresFor demand t) newY) (over newY load e h) in
-        other _ _ _ _ (right-out (lt delta (best .delta)) _ (left-out rooms (priced (costIn c t) X Y) out)) refl
+        let out = and-right (room (measuresFor demand t) newX) (room (measuresFor demand t) newY) (over newY load e h) in
+        other _ _ _ _ (and-right (lt delta (best .delta)) _ (and-left rooms (priced (costIn c t) X Y) out)) refl
 
     stays-unpriced : priced (costIn c t) X Y ≡ false → better c demand t X Y cut1 cut2 best ≡ best
     unfolding betterBy
-    stays-unpriced e = sym (other _ _ _ _ (right-out (lt delta (best .delta)) _ (right-out rooms (priced (costIn c t) X Y) e)) refl)
+    stays-unpriced e = sym (other _ _ _ _ (and-right (lt delta (best .delta)) _ (and-right rooms (priced (costIn c t) X Y) e)) refl)
 
     module _ (x : Float) (is-delta : x ≡ changeOf c t X Y cut1 cut2) where
       pub stays-delta : lt x (best .delta) ≡ false → best ≡ better c demand t X Y cut1 cut2 best
       unfolding betterBy
       stays-delta h =
           let out : lt delta (best .delta) ≡ false = rw is-delta at h in
-          other _ _ _ _ (left-out (lt delta (best .delta)) (rooms && priced (costIn c t) X Y) out) refl
+          other _ _ _ _ (and-left (lt delta (best .delta)) (rooms && priced (costIn c t) X Y) out) refl
 
       pub taken-up : priced (costIn c t) X Y ≡ true → (load1 load2 : ℕ) → load1 ≡ total (boxesOf demand) newX → load1 ≤ t .capacity
           → load2 ≡ total (boxesOf demand) newY → load2 ≤ t .capacity → lt x (best .delta) ≡ true
@@ -114,9 +107,9 @@ module _ (c : Columns) (demand : List ℤ) (t : Terms) where
     pub first-unpriced : (cost1 : Float) (b : Bool) → cost1 ≡ costIn c t X → b ≡ finite cost1 → b ≡ false → nothing (t .floor) ≡ bestOf c demand t X Y
     first-unpriced cost1 b e f h =
         let out : finite (costIn c t X) ≡ false = ap finite (sym e) ∙ sym f ∙ h in
-        nothing-there (left-out (finite (costIn c t X)) (finite (costIn c t Y)) out)
+        nothing-there (and-left (finite (costIn c t X)) (finite (costIn c t Y)) out)
 
     pub second-unpriced : (cost2 : Float) (b : Bool) → cost2 ≡ costIn c t Y → b ≡ finite cost2 → b ≡ false → nothing (t .floor) ≡ bestOf c demand t X Y
     second-unpriced cost2 b e f h =
         let out : finite (costIn c t Y) ≡ false = ap finite (sym e) ∙ sym f ∙ h in
-        nothing-there (right-out (finite (costIn c t X)) (finite (costIn c t Y)) out)
+        nothing-there (and-right (finite (costIn c t X)) (finite (costIn c t Y)) out)

@@ -16,7 +16,8 @@ use Rattle.deltas.specs.Judged.{float-judge}
 use Rattle.engine.specs.Engine.{checksOf, mapOf, endedAs}
 use Rattle.engine.specs.declared.Ended.{Ended}
 use Rattle.engine.specs.declared.Ended.the-variants.{Settled, Stopped}
-use Rattle.engine.proofs.Running.{Going, going-starts, going-settles, going-stops, going-moves}
+use Rattle.descent.proofs.Going.{Going, going-starts, going-moves}
+use Rattle.engine.proofs.Running.{going-settles, going-stops}
 use Rattle.reconnections.specs.Reconnections.{cutOf, reconnection}
 use Rattle.patterns.specs.Patterns.{searchOf, judgeOf, moveOf}
 use Rattle.three_opt.specs.ThreeOpt.{placeAfter}

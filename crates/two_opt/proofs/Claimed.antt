@@ -26,7 +26,7 @@ answer-tells settled stopped m n e = let z : _≡_ {A = ℕ} 0 1 = cc in absurd 
 answer-tells stopped settled m n e = let z : _≡_ {A = ℕ} 0 1 = cc in absurd (omega arith)
 
 -- one list is lent
-lent-one : (l : ℕ) (list : List ℕ) → Visits l list → Lent l (list ∷ [])
+pub lent-one : (l : ℕ) (list : List ℕ) → Visits l list → Lent l (list ∷ [])
 lent-one l list v = record { visit-there = there; few = omega (arith, v .few) }
   where
     there : (r k : ℕ) → k < length (getD (list ∷ []) r []) → getD (getD (list ∷ []) r []) k 0 < l

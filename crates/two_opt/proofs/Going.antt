@@ -16,7 +16,8 @@ use Rattle.reversals.specs.declared.Place.{Place}
 use Rattle.reversals.specs.declared.Found.{Found}
 use Rattle.reversals.specs.declared.Found.the-variants.{At, Nothing}
 use Rattle.reversals.specs.Reversals.{placeAfter, from, turnedAt, nextTurn, led, Searched}
-use Rattle.engine.proofs.Running.{Going, going-starts, going-settles, going-stops, going-moves}
+use Rattle.descent.proofs.Going.{Going, going-starts, going-moves}
+use Rattle.engine.proofs.Running.{going-settles, going-stops}
 use Rattle.reversals.proofs.Turns.{left-as-it-was, left-turned, turned-back}
 
 -- a run of a list that stands at a list, with the places from one on ahead

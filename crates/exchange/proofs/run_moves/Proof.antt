@@ -18,7 +18,8 @@ use Rattle.list_changes.proofs.Edited.{edited-none}
 use Rattle.exchange.proofs.Tables.{edited-length}
 use Rattle.exchange.proofs.Moves.{moved-on, leads-none, leads-some}
 use Rattle.lists.proofs.Tables.{length-lists}
-use Rattle.exchange.proofs.Running.{Going, going-starts, going-settles, going-stops}
+use Rattle.descent.proofs.Going.{Going, going-starts}
+use Rattle.engine.proofs.Running.{going-settles, going-stops}
 use Rattle.exchange.proofs.run_moves.Statement.{statement}
 use Rattle.exchange.proofs.run_moves.Tie as tie
 

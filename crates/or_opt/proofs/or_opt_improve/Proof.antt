@@ -13,7 +13,8 @@ use Rattle.descent.specs.Engines.{run-of}
 use Rattle.segments.specs.Segments.{searchOf, judgeOf, Asked}
 use Rattle.or_opt.specs.OrOpt.{Apt, leads}
 use Rattle.or_opt.proofs.Sizes.{moved-on}
-use Rattle.engine.proofs.Running.{Going, going-starts, going-settles, going-stops}
+use Rattle.descent.proofs.Going.{Going, going-starts}
+use Rattle.engine.proofs.Running.{going-settles, going-stops}
 use Rattle.or_opt.proofs.or_opt_improve.Statement.{statement}
 use Rattle.or_opt.proofs.or_opt_improve.Tie as tie
 

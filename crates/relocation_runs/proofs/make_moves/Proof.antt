@@ -13,8 +13,9 @@ use Rattle.pairs.proofs.Taken.{relocates}
 use Rattle.loads.specs.Loads.{Held}
 use Rattle.offers.specs.Offers.{Cached}
 use Rattle.relocations.specs.Relocations.{PairsRight, Every}
+use Rattle.descent.proofs.Going.{going-starts}
 use Rattle.list_changes.proofs.Edited.{edited-none}
-use Rattle.pairs.proofs.Going.{going-start, edited-again}
+use Rattle.pairs.proofs.Going.{edited-again}
 use Rattle.relocation_runs.proofs.Going.{Running, table-choice, choice-there, answers-settled, answers-stopped, goes-on}
 use Rattle.loads.proofs.Tables.{still-held}
 use Rattle.relocation_runs.proofs.make_moves.Statement.{statement}
@@ -41,7 +42,7 @@ loop-holds : tie.Need-loop-holds Inv-loop μ-loop
 loop-holds c =
     let further = c .before .before .before .before .before .before .before .before .before .before in
     let start = further .before .before .before .before .before in (
-      going-start _ _ _,
+      going-starts _ _ _,
       edited-none _ _ (start .pre .1 .0 .1 .laid),
       start .pre .1 .0 .1,
       start .pre .1 .1 .0,

@@ -31,11 +31,9 @@ moved-passes-requires c κs =
 returns-2 : tie.Need-returns-2
 returns-2 c =
     let start = c .before .before .before .before .before .before .before .before .before .before .before .before .before .before in
-    let piece-insertion = c .before .before .before .before .before .piece-insertion in
     let p : Piece = record { size = start .args .piece .size; from = start .args .piece .from; to = start .args .to } in
-    let delta = delta-is _ _ _ (start .pre .0) p _ _ (piece-insertion .ensures) (start .pre .1 .1 .0) in
     let known = start .pre .1 .1 .1 in
-    (not-passing _ _ _ (start .pre .0) (start .args .best) p _ _ known delta (c .before .moved-passes .ensures) (c .if2 .taken), known)
+    (not-passing _ _ _ (start .pre .0) (start .args .best) p _ (c .before .moved-passes .ensures) (c .if2 .taken), known)
 
 returns-3 : tie.Need-returns-3
 returns-3 c =

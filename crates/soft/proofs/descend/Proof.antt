@@ -11,7 +11,8 @@ use Rattle.soft.specs.Soft.{soft-run}
 use Rattle.soft.proofs.Choice.{known-at}
 use Rattle.neighbours.proofs.Layouts.{made-kept}
 use Rattle.soft.proofs.Passes.{step, at, no-step, one-step}
-use Rattle.engine.proofs.Running.{Going, going-starts, going-settles, going-stops, going-moves}
+use Rattle.descent.proofs.Going.{Going, going-starts, going-moves}
+use Rattle.engine.proofs.Running.{going-settles, going-stops}
 use borrow.Author.Needs.{needs}
 use Rattle.soft.proofs.descend.Statement.{statement}
 use Rattle.soft.proofs.descend.Tie as tie
@@ -113,13 +114,13 @@ add-moves c =
     let at-if1 = c .before .before .before .before .before .before .before in
     let at-loop = at-if1 .before .before .before .before .before .before .before .before .before in
     let start = at-loop .before .before .before .before .before .before .before .before .before .before .before .before in
-    omega (arith, at-loop .loop .inv .0 .left, at-if1 .if1 .left, start .fits .limit)
+    omega (arith, at-loop .loop .inv .0 .whole, at-if1 .if1 .left, start .fits .limit)
 
 loop-less : tie.Need-loop-less Inv-loop μ-loop
 loop-less c =
     let at-if1 = c .before .before .before .before .before .before .before in
     let at-loop = at-if1 .before .before .before .before .before .before .before .before .before in
-    omega (arith, at-loop .loop .inv .0 .left, at-if1 .if1 .left)
+    omega (arith, at-loop .loop .inv .0 .whole, at-if1 .if1 .left)
 
 loop-again : tie.Need-loop-again Inv-loop μ-loop
 loop-again c =
@@ -132,7 +133,7 @@ loop-again c =
     let a = start .args in
     let day = columns (a .l) (a .flags .now) (a .service .now) (a .ready .now) (a .due .now) (a .penalty .now) (a .distances .now) (a .times .now) in
     let price = effectiveCost day (a .limits) (a .depot) in
-    let room : at-loop .loop .moves < a .limit = omega (arith, at-loop .loop .inv .0 .left, at-if1 .if1 .left) in
+    let room : at-loop .loop .moves < a .limit = omega (arith, at-loop .loop .inv .0 .whole, at-if1 .if1 .left) in
     let known = known-at _ _ _ _ (at-best-neighbour .best-neighbour .ensures .1) (at-found .found .given .1) in
     let move = one-step (a .which) price (a .floor) (at-loop .loop .list) _ _ (at-best-neighbour .best-neighbour .ensures .0) (at-found .found .given .1) in (
       rw (at-make .make .ensures) (going-moves _ _ _ _ _ _ (at-loop .loop .inv .0) room move),

@@ -19,7 +19,8 @@ use Rattle.list_changes.proofs.Edited.{edited-none}
 use Rattle.exchange.proofs.Tables.{edited-length}
 use Rattle.exchange.proofs.Moves.{moved-on, leads-none, leads-some}
 use Rattle.lists.proofs.Tables.{length-lists}
-use Rattle.exchange.proofs.Running.{Going, going-starts, going-settles, going-stops}
+use Rattle.descent.proofs.Going.{Going, going-starts}
+use Rattle.engine.proofs.Running.{going-settles, going-stops}
 use Rattle.soft_exchange.proofs.run_moves.Statement.{statement}
 use Rattle.soft_exchange.proofs.run_moves.Tie as tie
 

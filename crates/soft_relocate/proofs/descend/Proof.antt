@@ -8,8 +8,9 @@ use Rattle.list_changes.specs.Edits.{Edited}
 use Rattle.labels.specs.Columns.{columns}
 use Rattle.pairs.specs.Pairs.{table}
 use Rattle.pairs.proofs.Least.{is-none, is-some}
+use Rattle.descent.proofs.Going.{going-starts}
 use Rattle.list_changes.proofs.Edited.{edited-none}
-use Rattle.pairs.proofs.Going.{going-start, edited-again}
+use Rattle.pairs.proofs.Going.{edited-again}
 use Rattle.loads.specs.Loads.{Held}
 use Rattle.soft_relocate.specs.Running.{AllRight}
 use Rattle.loads.proofs.Tables.{still-held}
@@ -42,7 +43,7 @@ loop-holds c =
     let at-search-all = c .before .before .before .before .before .before .before .before in
     let further = at-search-all .before .before .before .before .before .before .before .before .before .before in
     let start = further .before .before .before .before .before .before .before .before .before .before in
-    (going-start _ _ _, edited-none _ _ (start .pre .1 .0 .1 .laid), start .pre .1 .0 .1, at-search-all .search-all .ensures, refl, refl, refl, refl, refl, refl)
+    (going-starts _ _ _, edited-none _ _ (start .pre .1 .0 .1 .laid), start .pre .1 .0 .1, at-search-all .search-all .ensures, refl, refl, refl, refl, refl, refl)
 
 best-pair-requires : tie.Need-best-pair-requires Inv-loop μ-loop
 best-pair-requires c κs =

@@ -4,7 +4,13 @@ use mathlib.Core.Bool.{Bool, true, _&&_}
 use mathlib.Core.Option.{Option, none, some}
 use mathlib.Core.List.{List}
 use lib.Ieee.{Float, lt}
 use Rattle.descent.specs.Search.{least, firstLeast}
+
+module _ {C : Type 0} (may : C → Bool) (less : C → C → Bool) where
+  -- 01: 'choice of the first least', where there is a best so far, or none
+  unfoldable pub chosen : Option C → List C → Option C
+  chosen none cs = firstLeast may less cs
+  chosen (some best) cs = some (least may less best cs)
 
 module _ {C : Type 0} (delta : C → Float) (pass : C → Bool) (bound : Float) where
   -- a candidate counts and passes
@@ -17,8 +23,7 @@ module _ {C : Type 0} (delta : C → Float) (pass : C → Bool) (bound : Float) 
 
   -- what a scan comes to from here: none so far, or the best
   unfoldable pub onward : Option C → List C → Option C
-  onward none cs = firstLeast may less cs
-  onward (some best) cs = some (least may less best cs)
+  onward o cs = chosen may less o cs
 
   -- what the next one has to be below
   unfoldable pub figure : Option C → Float
