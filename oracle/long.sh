@@ -1,7 +1,7 @@
 #!/bin/bash
 # long.sh OUT [PART ..]: the long comparison of OUT/port with OUT/reference, which build.sh makes: over 10,000,000 runs of all engines and
 # checks on good days, and over 4,000,000 runs on damaged ones. Seeds and counts are fixed, so that it makes the same runs again. It takes
-# about seven minutes of a processor. Parts are cross, refusals, within, across and checks; all where none is named. Each command is
+# about five minutes of a processor. Parts are cross, refusals, within, across and checks; all where none is named. Each command is
 # printed, with its runs by kind of answer and its differences; the last line adds them up. The exit status is 1 where there is a difference.
 set -euo pipefail
 [ $# -ge 1 ] || { echo "usage: $0 OUT [PART ..]" >&2; exit 2; }
