@@ -27,7 +27,7 @@ use Rattle.cross_moves.specs.declared.price.Price.the-variants.{Unallowed, Cost
 use Rattle.cross_moves.specs.declared.pair.Pair.{Pair}
 use Rattle.cross_moves.specs.declared.pair.Move.{Move}
 use Rattle.cross_choices.specs.declared.Choice.{Choice}
-use Rattle.descent.specs.Scan.{chosen, onward, figure, Counted}
+use Rattle.descent.specs.Scan.{chosen as chosen-on, onward, figure, Counted}
 use Rattle.descent.proofs.Scanning.{onward-better, counted-better, onward-stays, onward-end}
 
 -- ---- scans of scans
@@ -222,7 +222,7 @@ module _ (c : Columns) (demand : List ℤ) (fleet : Fleet) (p : Plan) where
 
   from-nothing : (floor : Float) → onward delta pass bound (moveOf (nothing floor)) (moves fleet p)
       ≡ taken (searchOf c demand fleet) (judgeOf c demand fleet) p tt
-  unfolding moveOf onward chosen taken ok searchOf judgeOf
+  unfolding moveOf onward chosen-on taken ok searchOf judgeOf
   from-nothing floor = refl
 
   -- the choice, from nothing on
