@@ -52,10 +52,11 @@ pub record Roomy (costs1 costs2 : List Float) : Type 0 where
   pub costs1-long : length costs1 ≡ 64
   pub costs2-long : length costs2 ≡ 64
 
--- the two lists that a move makes
+-- what a move makes of the first list
 abbrev pub made1 : List ℕ → List ℕ → Move → List ℕ
 made1 X Y m = replaced X (m .from1) (m .to1) (slice (m .from2) (m .to2) Y)
 
+-- and of the second
 abbrev pub made2 : List ℕ → List ℕ → Move → List ℕ
 made2 X Y m = replaced Y (m .from2) (m .to2) (slice (m .from1) (m .to1) X)
 

@@ -1,5 +1,5 @@
-// A row of moves between two lists decided by tables: which moves are open, what their lists cost, and the first least delta (the innermost loops of `best_move`
-// of local_search/cross_depot.rs).
+// A row of moves between two lists decided by tables: which moves are open, what their lists cost, and the first least delta (the innermost loops of
+// `best_move` of local_search/cross_depot.rs).
 use cross_kinds::kind::Kind;
 use cross_kinds::kind::move_of;
 use cross_kinds::load::fits;

@@ -22,10 +22,11 @@ moveAt Relocation pair n1 n2 k1 k2 = relocation (pair .one) (pair .other) k1 k2
 moveAt Swap pair n1 n2 k1 k2 = exchange false (pair .one) (pair .other) n1 n2 k1 k2
 moveAt Tails pair n1 n2 k1 k2 = exchange true (pair .one) (pair .other) n1 n2 k1 k2
 
--- a stretch that stays, and one that moves along from a list's start
+-- a stretch that stays
 abbrev pub stays : ℕ → ℕ → Stretch
 stays from to = record { from = from; to = to; «from_step» = 0; «to_step» = 0 }
 
+-- a stretch that moves along from a list's start
 abbrev pub movesAlong : ℕ → ℕ → Stretch
 movesAlong to step = record { from = 0; to = to; «from_step» = 1; «to_step» = step }
 

@@ -1,5 +1,5 @@
--- `best_of_row`: the tables that the functions of a row fill in are what cross_choices' laws of a row ask of them. The marks stand in the second table until the second
--- list's costs take their place.
+-- `best_of_row`: the tables that the functions of a row fill in are what cross_choices' laws of a row ask of them. The marks stand in the second table until
+-- the second list's costs take their place.
 use borrow.Author.Needs.{needs}
 use mathlib.Core.Path.{sym, _∙_}
 use native.Mathlib.Omega.{arith}
