@@ -1,16 +1,15 @@
--- Refusals 11 and 12, and 6 and 7 of every van of a fleet, as document 01's table has them, and what a fleet that isn't refused tells. Assumes nothing.
-use Prim.Native.Nat.{ℕ, _<_, _≤_}
+-- What refusals 11 and 12, and 6 and 7 of every van of a fleet, ask, as document 01's table has it. Assumes nothing.
+use Prim.Native.Nat.{ℕ, _≤_}
 use mathlib.Core.Path.{_≡_}
 use mathlib.Core.Bool.{Bool, true, _&&_}
 use mathlib.Core.List.{List}
-use borrow.Author.Tests.{eqb-true, leb-true, ltb-true}
+use borrow.Author.Tests.{eqb-true, leb-true}
 use lib.Dec.{leb}
 use lib.IntN.{ℤ}
 use lib.ListN.{length}
 use lib.Ieee.{Float}
-use Rattle.tests.specs.All.{allBelow, unless, passed, and-first, and-second, all-at}
+use Rattle.tests.specs.All.{allBelow, unless, passed, and-first, and-second}
 use Rattle.day.specs.Refusal.{columnOk, allPlain, isDepot, vanOk}
-use Rattle.van_refusals.specs.Order.{VanFine}
 use Rattle.fleet.specs.Fleet.{Fleet, vanAt, Fitted}
 
 -- ---- 11 | fleet | over 16 vans, or list columns not one entry a list
@@ -39,7 +38,7 @@ listColumnsOk number ids prices = columnOk number ids && columnOk number prices
 unfoldable pub fleetOk : Fleet → ℕ → List ℕ → List Float → Bool
 fleetOk f number ids prices = leb (length (f .ids)) 16 && (columnsOk f && listColumnsOk number ids prices)
 
--- ---- 'cross-depot tests 11 before 6. It tests every van for 6, then every van for 7'
+-- ---- 6 and 7 | of every van
 
 -- 6: every van's depot is a depot location
 unfoldable pub depotsOk : List ℕ → Fleet → Bool
@@ -49,23 +48,11 @@ depotsOk flags f = allBelow (λ k. isDepot flags (vanAt f k .depot)) (length (f 
 unfoldable pub vansOk : Fleet → Bool
 vansOk f = allBelow (λ k. vanOk (vanAt f k)) (length (f .ids))
 
--- the first of 11, 6 and 7, in this order, that the fleet meets, and 0 where it meets none
-unfoldable pub fleetRefusal : List ℕ → Fleet → ℕ → List ℕ → List Float → ℕ
-fleetRefusal flags f number ids prices = unless (fleetOk f number ids prices) 11 (unless (depotsOk flags f) 6 (unless (vansOk f) 7 0))
-
 -- ---- 12 | fleet | a starting price isn't plain
 
 -- 12 where it is so, else 0
 unfoldable pub pricesRefusal : List Float → ℕ
 pricesRefusal prices = unless (allPlain prices) 12 0
-
--- what a fleet that isn't refused tells
-pub record FleetFine (flags : List ℕ) (f : Fleet) (number : ℕ) (ids : List ℕ) (prices : List Float) : Type 0 where
-  pub fitted : Fitted f
-  pub few : length (f .ids) ≤ 16
-  pub ids-fit : length ids ≡ number
-  pub prices-fit : length prices ≡ number
-  pub vans : (k : ℕ) → k < length (f .ids) → VanFine flags (vanAt f k)
 
 -- ---- laws
 
@@ -117,27 +104,6 @@ columns-fine f number ids prices h =
       eqb-true _ _ (and-first (columnOk number ids) (columnOk number prices) lists),
       eqb-true _ _ (and-second (columnOk number ids) (columnOk number prices) lists),
     )
-
--- a fleet that isn't refused is fine
-pub fleet-fine : (flags : List ℕ) (f : Fleet) (number : ℕ) (ids : List ℕ) (prices : List Float) → fleetRefusal flags f number ids prices ≡ 0
-    → FleetFine flags f number ids prices
-unfolding fleetRefusal depotsOk vansOk isDepot
-fleet-fine flags f number ids prices h =
-    let eleven = passed _ _ _ h tt in
-    let six = passed _ _ _ (eleven .1) tt in
-    let seven = passed _ _ _ (six .1) tt in
-    let columns = columns-fine f number ids prices (eleven .0) in
-    record {
-      fitted = columns .0;
-      few = columns .1;
-      ids-fit = columns .2;
-      prices-fit = columns .3;
-      vans = λ k there.
-          record {
-            depot = ltb-true _ _ (all-at _ (length (f .ids)) k there (six .0));
-            van = all-at _ (length (f .ids)) k there (seven .0);
-          };
-    }
 
 -- prices that aren't refused are plain
 pub prices-fine : (prices : List Float) → pricesRefusal prices ≡ 0 → allPlain prices ≡ true

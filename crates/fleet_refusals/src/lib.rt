@@ -10,7 +10,8 @@ ghost use lib.ListN.{length, getD};
 ghost use Rattle.tests.specs.All.{allBelow};
 ghost use Rattle.day.specs.Refusal.{isDepot};
 ghost use Rattle.fleet.specs.Fleet.{fleetAt, Fitted};
-ghost use Rattle.fleet.specs.Refusal.{depotsOk, vansOk, fleetRefusal};
+ghost use Rattle.fleet.specs.Refusal.{depotsOk, vansOk};
+ghost use Rattle.fleet_refusals.specs.Order.{fleetRefusal};
 
 // 6, of every van.
 fn depots_ok(flags: &[u8], depots: &[usize]) -> bool

@@ -22,7 +22,8 @@ use Rattle.lists.specs.Table.{Laid, startOf, listOf}
 use Rattle.lists.proofs.Tables.{length-list, list-within}
 use Rattle.list_refusals.proofs.Fine.{table-fine, lists-fine}
 use Rattle.fleet.specs.Fleet.{Fleet}
-use Rattle.fleet.specs.Refusal.{fleetRefusal, pricesRefusal, FleetFine, fleet-fine, prices-fine}
+use Rattle.fleet.specs.Refusal.{pricesRefusal, prices-fine}
+use Rattle.fleet_refusals.specs.Order.{fleetRefusal, FleetFine, fleet-fine}
 use Rattle.labels.specs.Columns.{Formed, Visits, columnsOf, formed}
 
 -- 01, 'Refused, by place': 'The order is by number': the first of 1 to 10 that an input meets, and 0 where it meets none, of an entry that asks for a list

@@ -2,7 +2,8 @@
 use borrow.Author.Needs.{needs}
 use mathlib.Core.Path.{refl, _∙_}
 use Rattle.tests.specs.All.{refuse, pass, no, yes}
-use Rattle.fleet.specs.Refusal.{fleetRefusal, columns-fine}
+use Rattle.fleet.specs.Refusal.{columns-fine}
+use Rattle.fleet_refusals.specs.Order.{fleetRefusal}
 use Rattle.fleet.proofs.Refused.{depots-tested}
 use Rattle.fleet_refusals.proofs.fleet_refusal.Statement.{statement}
 use Rattle.fleet_refusals.proofs.fleet_refusal.Tie as tie
