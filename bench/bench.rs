@@ -15,6 +15,7 @@ mod days;
 mod planner;
 
 mod callgrind;
+mod chain;
 mod checks;
 mod dumps;
 mod fleet;

@@ -1,11 +1,12 @@
 //! Rows of the route check, on a day of one list: table, route_distance, route_feasible, route_eval, schedule.
 use crate::call;
 use crate::call_of_list;
+use crate::chain::Chain;
 use crate::evaluation::{self, RouteEval};
 use crate::local_search;
 use crate::models::num_depots;
 use crate::planner::*;
-use crate::rows::{agree, Bench, Both, Row};
+use crate::rows::{agree, called, Bench, Both, Row, Sides};
 use crate::timed_days::{BREAK_KINDS, KINDS, OFFICES, UNCONSTRAINED};
 use std::cell::RefCell;
 use std::fmt::Debug;
@@ -37,12 +38,28 @@ pub fn rows(bench: &mut Bench) {
 
 /// The answers compared, then the row. The entry answers the refusal's number too.
 fn check<T: PartialEq + Debug>(bench: &mut Bench, row: Row, rust: impl Fn() -> T, refusals: impl Fn() -> u8, entry: impl Fn() -> (u8, T)) {
-    if !bench.wants(&row) {
-        return;
+    if bench.wants(&row) {
+        compare(&row, &rust, &entry);
+        bench.measure(row, rust, refusals, entry);
     }
+}
+
+/// The same of a check that follows the clock, which is measured for itself.
+fn timed_check<T: PartialEq + Debug>(bench: &mut Bench, both: &Both, name: &'static str, rust: impl Fn() -> T, entry: impl Fn() -> (u8, T)) {
+    let row = both.row(name);
+    if bench.wants(&row) {
+        compare(&row, &rust, &entry);
+        let clock = Chain::of(&both.rust);
+        let mut chain = called(|| black_box(&clock).end());
+        let refusals = || both.refusal();
+        let sides = Sides { rust: &mut called(rust), refusals: &mut called(refusals), entry: &mut called(entry), chain: Some(&mut chain) };
+        bench.measure_sides(row, sides);
+    }
+}
+
+fn compare<T: PartialEq + Debug>(row: &Row, rust: &impl Fn() -> T, entry: &impl Fn() -> (u8, T)) {
     let (refusal, answer) = entry();
-    agree(&row, &rust(), refusal, &answer);
-    bench.measure(row, rust, refusals, entry);
+    agree(row, &rust(), refusal, &answer);
 }
 
 /// What is worked out of day and van before the first move. The Rust's matrix keeps scale and symmetry until an entry is set: here
@@ -88,7 +105,7 @@ fn route_feasible(bench: &mut Bench, both: &Both) {
         let refusal = call_of_list!(planner_route_feasible, black_box(&both.lent), both.van, 0, &mut passes);
         (refusal, passes)
     };
-    check(bench, both.row("route_feasible"), rust, || both.refusal(), entry);
+    timed_check(bench, both, "route_feasible", rust, entry);
 }
 
 /// Distance, duration, lateness and its cost, by their bits.
@@ -107,7 +124,7 @@ fn route_eval(bench: &mut Bench, both: &Both) {
             &mut lateness, &mut cost);
         (refusal, (passes == 1).then_some([distance, duration, lateness, cost].map(f64::to_bits)))
     };
-    check(bench, both.row("route_eval"), rust, || both.refusal(), entry);
+    timed_check(bench, both, "route_eval", rust, entry);
 }
 
 fn schedule(bench: &mut Bench, both: &Both) {
@@ -126,5 +143,5 @@ fn schedule(bench: &mut Bench, both: &Both) {
         let numbers = [distance, duration, lateness, cost].map(f64::to_bits);
         (refusal, (found == 1).then_some((numbers, (taken == 1).then_some((position, start.to_bits())))))
     };
-    check(bench, both.row("schedule"), rust, || both.refusal(), entry);
+    timed_check(bench, both, "schedule", rust, entry);
 }

@@ -7,11 +7,18 @@ use std::fmt::Write;
 /// A ratio above this, in hundredths, is to be mended.
 const GOAL: f64 = 80.0;
 
+const THE_CLOCK: &str = "\
+'The clock alone' is the time of a list's additions of travel, waiting and service in the Rust's order, with nothing looked up (bench/chain.rs), to that of
+the Rust's whole check: each waits for the one before, so that no port with the Rust's bits is below it.
+
+";
+
 pub fn tables(figures: &[Figures]) -> String {
     let mut text = String::from("## Ratios of time\n\n");
     text.push_str("The entry less its refusals to the Rust, and in brackets the whole entry to the Rust; by the number of offices.\n\n");
     ratios(&mut text, figures);
     text.push_str("\n## Above the goal\n\n");
+    text.push_str(THE_CLOCK);
     above(&mut text, figures);
     text.push_str("\n## Times and instructions\n\n");
     text.push_str("Of one call. 'Less' is the ratio of the entry less its refusals to the Rust, 'whole' that of the whole entry.\n\n");
@@ -52,9 +59,11 @@ fn above(text: &mut String, figures: &[Figures]) {
     let mut rows: Vec<&Figures> = figures.iter().filter(|one| (100.0 * one.times.less).round() > GOAL).collect();
     rows.sort_by(|a, b| b.times.less.total_cmp(&a.times.less));
     writeln!(text, "{} of {} rows have a ratio less refusals above {}:\n", rows.len(), figures.len(), GOAL / 100.0).unwrap();
-    text.push_str("| entry | day | offices | lists | time | instructions | where the entry has them, refusals aside |\n|---|---|--:|--:|--:|--:|---|\n");
+    text.push_str("| entry | day | offices | lists | time | the clock alone | instructions | where the entry has them, refusals aside |\n");
+    text.push_str("|---|---|--:|--:|--:|--:|--:|---|\n");
     for Figures { row, times, counts } in rows {
-        write!(text, "| {} | {} | {} | {} | {:.2} |", row.entry, row.kind, row.offices, row.lists, times.less).unwrap();
+        let chain = times.chain.map_or(String::new(), |chain| format!("{chain:.2}"));
+        write!(text, "| {} | {} | {} | {} | {:.2} | {chain} |", row.entry, row.kind, row.offices, row.lists, times.less).unwrap();
         let counted = counts.as_ref().map(|counts| format!(" {:.2} | {} |", counts.less(), functions(counts)));
         writeln!(text, "{}", counted.unwrap_or(" | |".to_string())).unwrap();
     }

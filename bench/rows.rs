@@ -19,6 +19,8 @@ pub struct Sides<'a> {
     pub rust: &'a mut dyn FnMut(),
     pub refusals: &'a mut dyn FnMut(),
     pub entry: &'a mut dyn FnMut(),
+    /// The clock of the list alone, of a check that has one: timed, not counted.
+    pub chain: Option<&'a mut dyn FnMut()>,
 }
 
 /// What is run.
@@ -130,8 +132,11 @@ impl Bench {
 
     /// Measures one row by calls of its three sides; what they answer is thrown away.
     pub fn measure<R, E>(&mut self, row: Row, rust: impl FnMut() -> R, refusals: impl FnMut() -> u8, entry: impl FnMut() -> E) {
+        self.measure_sides(row, Sides { rust: &mut called(rust), refusals: &mut called(refusals), entry: &mut called(entry), chain: None });
+    }
+
+    pub fn measure_sides(&mut self, row: Row, mut sides: Sides) {
         let name = row.to_string();
-        let mut sides = Sides { rust: &mut called(rust), refusals: &mut called(refusals), entry: &mut called(entry) };
         let Way::Time(counts) = &self.way else {
             for (side, call) in SIDES.into_iter().zip([sides.rust, sides.refusals, sides.entry]) {
                 callgrind::count(&format!("row {name} side {side}"), call);
@@ -146,7 +151,7 @@ impl Bench {
     }
 }
 
-fn called<T>(mut side: impl FnMut() -> T) -> impl FnMut() {
+pub fn called<T>(mut side: impl FnMut() -> T) -> impl FnMut() {
     move || {
         black_box(side());
     }

@@ -1,4 +1,4 @@
-//! Times of the three sides of a row, call by call in turn.
+//! Times of the sides of a row, call by call in turn.
 use crate::rows::Sides;
 
 /// Of a row's rounds, in nanoseconds a call of the thread's own time.
@@ -19,6 +19,8 @@ pub struct Times {
     pub less: f64,
     /// Of the whole entry to the Rust.
     pub whole: f64,
+    /// Of the clock alone to the Rust, where there is one.
+    pub chain: Option<f64>,
 }
 
 pub fn times(sides: &mut Sides) -> Times {
@@ -30,9 +32,10 @@ pub fn times(sides: &mut Sides) -> Times {
 }
 
 fn rounds(sides: &mut Sides, count: usize, calls: usize) -> Times {
-    let mut taken: Vec<[f64; 3]> = Vec::new();
+    let mut taken: Vec<[f64; 4]> = Vec::new();
     for _ in 0..count {
-        taken.push([time(sides.rust, calls), time(sides.refusals, calls), time(sides.entry, calls)]);
+        let chain = sides.chain.as_mut().map_or(0.0, |chain| time(chain, calls));
+        taken.push([time(sides.rust, calls), time(sides.refusals, calls), time(sides.entry, calls), chain]);
     }
     Times {
         rust: median(&taken, |round| round[0]),
@@ -40,10 +43,11 @@ fn rounds(sides: &mut Sides, count: usize, calls: usize) -> Times {
         entry: median(&taken, |round| round[2]),
         less: median(&taken, |round| (round[2] - round[1]) / round[0]),
         whole: median(&taken, |round| round[2] / round[0]),
+        chain: sides.chain.as_ref().map(|_| median(&taken, |round| round[3] / round[0])),
     }
 }
 
-fn median(rounds: &[[f64; 3]], figure: fn(&[f64; 3]) -> f64) -> f64 {
+fn median(rounds: &[[f64; 4]], figure: fn(&[f64; 4]) -> f64) -> f64 {
     let mut figures: Vec<f64> = rounds.iter().map(figure).collect();
     figures.sort_by(f64::total_cmp);
     figures[figures.len() / 2]
