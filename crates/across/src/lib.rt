@@ -1,6 +1,6 @@
 // Tail exchange and relocate over the lists of a day: the search of the engine or, where a window is soft, the same moves by whole effective costs.
-use day::customer::has_soft_windows;
 use day::vehicle::RouteLimits;
+use day_scans::customer::has_soft_windows;
 use engine::Ended;
 use exchange::exchange_improve;
 use relocate::relocate_improve;

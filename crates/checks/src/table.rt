@@ -1,8 +1,8 @@
 // What the searches work out before the first move, for callers who want to see it.
-use day::customer::num_depots;
-use day::matrix::is_symmetric;
-use day::matrix::scale;
 use day::vehicle::Van;
+use day_scans::customer::num_depots;
+use day_scans::matrix::is_symmetric;
+use day_scans::matrix::scale;
 use numbers::gain_floor;
 use refusals::day_and_van_refusal;
 ghost use mathlib.Core.Path.{_≡_};

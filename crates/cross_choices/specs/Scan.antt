@@ -21,7 +21,7 @@ use Rattle.cross_moves.specs.declared.price.Price.{Price}
 use Rattle.cross_moves.specs.declared.price.Price.the-variants.{Unallowed, Costs}
 use Rattle.cross_moves.specs.declared.pair.Pair.{Pair}
 use Rattle.cross_moves.specs.declared.pair.Move.{Move}
-use Rattle.heads.specs.Kept.{Kept}
+use Rattle.kept_heads.specs.Kept.{Kept}
 use Rattle.loads.specs.Loads.{Two, Loaded}
 use Rattle.cross_choices.specs.declared.Choice.{Choice}
 

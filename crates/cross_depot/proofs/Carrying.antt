@@ -32,7 +32,7 @@ use Rattle.cross_moves.specs.CrossDepot.{afterMove, firstPrice, secondPrice, mo
 use Rattle.cross_moves.specs.declared.price.Price.the-variants.{Unallowed}
 use Rattle.cross_moves.specs.declared.pair.Move.{Move}
 use Rattle.loads.proofs.Boxes.{load-parts}
-use Rattle.cross_runs.proofs.Sound.{TestedOrLess, move-tested}
+use Rattle.cross_steps.proofs.Sound.{TestedOrLess, move-tested}
 
 -- ---- something of every list and the id of its van
 

@@ -5,7 +5,7 @@ use cross_runs::Crossed;
 use cross_runs::descend;
 use cross_runs::ended_with;
 use cross_starts::start;
-use day::matrix::scale;
+use day_scans::matrix::scale;
 use engine::Ended;
 use numbers::gain_floor;
 use tests::either;

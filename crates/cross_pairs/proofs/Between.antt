@@ -13,7 +13,7 @@ use lib.Ieee.{Float}
 use Rattle.tests.specs.Pick.{picked, other}
 use Rattle.labels.specs.Columns.{Columns}
 use Rattle.cross_moves.specs.declared.pair.Pair.{Pair}
-use Rattle.heads.specs.Kept.{Kept}
+use Rattle.kept_heads.specs.Kept.{Kept}
 use Rattle.cross_kinds.specs.Kinds.{moveAt, rowOf, rowsIn}
 use Rattle.cross_choices.specs.Scan.{Roomy, tryRelocation, tryExchange, relocateRow, exchangeRow}
 use Rattle.cross_choices.specs.Scan.{bestRelocation, bestSwap, bestTails, bestExchange, bestBetween}

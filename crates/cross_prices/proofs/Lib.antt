@@ -1,2 +1,1 @@
 pub mod Stretch
-pub mod Candidates

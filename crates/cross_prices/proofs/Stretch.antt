@@ -2,11 +2,9 @@
 -- the van's answers make of its price. Assumes nothing.
 use mathlib.Core.Path.{_≡_, refl, ap, _∙_}
 use mathlib.Core.Logic.{_≢_}
-use mathlib.Core.Bool.{Bool, true, false, cond, not, _||_}
 use mathlib.Core.List.{List, [], _∷_, _++_}
-use Prim.Native.Nat.{ℕ, _+_, _-_, _≤_}
+use Prim.Native.Nat.{ℕ, _+_, _≤_, _-_}
 use native.Mathlib.Omega.{arith}
-use lib.IntN.{ℤ}
 use lib.ListN.{length, take, drop, length-append, length-drop}
 use lib.Seq.{slice, length-take-le, length-slice}
 use Rattle.numbers.specs.Operations.{zero64}
@@ -19,11 +17,11 @@ use Rattle.labels.specs.Columns.{Columns, Visits}
 use Rattle.evaluation.specs.Route.{eval}
 use Rattle.evaluation.specs.declared.route.Evaluation.{Evaluation}
 use Rattle.descent.proofs.Below.{over, Below, below-of}
-use Rattle.cross_moves.specs.CrossDepot.{priceOf, pricedAs, holds, allowed, replaced}
+use Rattle.cross_moves.specs.CrossDepot.{priceOf, pricedAs, replaced}
 use Rattle.loads.specs.Loads.{Two}
 use Rattle.loads.proofs.Visits.{visits-of}
 use Rattle.cross_moves.specs.declared.price.Price.{Price}
-use Rattle.cross_moves.specs.declared.price.Price.the-variants.{Unallowed, Costs}
+use Rattle.cross_moves.specs.declared.price.Price.the-variants.{Costs}
 
 -- a list cut in three
 pub in-three : (f : ℕ → ℕ) (xs : List ℕ) (from to : ℕ) → from ≤ to
@@ -83,22 +81,3 @@ module _ (c : Columns) (van : Van) (list : List ℕ) where
       by-list : (xs : List ℕ) → length xs ≢ 0 → r ≡ priceOf van (eval c (limitsOf van) (van .depot) xs) → r ≡ pricedAs c van xs
       by-list [] o e = absurd (o refl)
       by-list (x ∷ xs) o e = e
-
-module _ (c : Columns) (demand : List ℤ) (tested : Bool) (van : Van) (list : List ℕ) where
-  -- a load that is tested, and is over the capacity
-  pub allowed-over : tested ≡ true → holds demand van list ≡ false → allowed c demand tested van list ≡ Unallowed
-  unfolding allowed
-  allowed-over e h = rw (e, h) refl
-
-  -- a load within the capacity, tested or not
-  pub allowed-held : holds demand van list ≡ true → pricedAs c van list ≡ allowed c demand tested van list
-  unfolding allowed
-  allowed-held h = rw h (by-test tested)
-    where
-      by-test : (t : Bool) → pricedAs c van list ≡ cond (not t || true) (pricedAs c van list) Unallowed
-      by-test true = refl
-      by-test false = refl
-
-pub allowed-untested : (c : Columns) (demand : List ℤ) (van : Van) (list : List ℕ) → pricedAs c van list ≡ allowed c demand false van list
-unfolding allowed
-allowed-untested c demand van list = refl

@@ -1,7 +1,7 @@
 // What the candidates of a row cost with their van: driven from the heads of the list that they change, and with a break to take built and priced whole.
+use cross_candidates::candidate_cost;
 use cross_moves::price::Price;
-use cross_prices::candidate::candidate_cost;
-use cross_prices::price::replaced_price;
+use cross_prices::replaced_price;
 use day::vehicle::Rest;
 use day::vehicle::RouteLimits;
 use day::vehicle::Van;
@@ -11,9 +11,9 @@ ghost use Prim.Native.Nat.{_≤_, _<_};
 ghost use lib.ListN.{length};
 ghost use Rattle.fleet.specs.Fleet.{Driven};
 ghost use Rattle.labels.specs.Columns.{columnsAt, Formed};
-ghost use Rattle.heads.specs.Kept.{Kept};
+ghost use Rattle.kept_heads.specs.Kept.{Kept};
 ghost use Rattle.loads.specs.Loads.{Two};
-ghost use Rattle.cross_prices.specs.Candidate.{Unbroken};
+ghost use Rattle.cross_candidates.specs.Candidate.{Unbroken};
 ghost use Rattle.cross_rows.specs.Row.{fromAt, toAt, Rowed, Costed};
 
 // The stretch of a list that each candidate of a row changes: where that of the first begins and ends, and by how much (0 or 1) that of the next does so later.

@@ -147,7 +147,8 @@ module _ (c : Columns) (demand : List ℤ) (fleet : Fleet) (p : Plan) where
   pub record Best (b : Choice) : Type 0 where
     pub figured : b .delta ≡ figure delta pass bound (moveOf b)
     pub counted : Counted delta pass bound (moveOf b)
-    pub costs : isFound b ≡ true → (b .cost1 ≡ amount (firstPrice c demand fleet p (b .chosen))) × (b .cost2 ≡ amount (secondPrice c demand fleet p (b .chosen)))
+    pub costs : isFound b ≡ true → (b .cost1 ≡ amount (firstPrice c demand fleet p (b .chosen))) ×
+        (b .cost2 ≡ amount (secondPrice c demand fleet p (b .chosen)))
 
   -- one move more
   pub record Turned (m : Move) (ms : List Move) (best after : Choice) : Type 0 where

@@ -1,12 +1,10 @@
-// models/customer.rs: the window of a location, as document 01 decides it, and the depots that lead the table.
-use crate::flags::flag0;
+// models/customer.rs: the window of a location, as document 01 decides it.
 use crate::flags::flag1;
 use crate::flags::flag2;
-use tests::both;
 ghost use mathlib.Core.Path.{_≡_};
 ghost use Prim.Native.Nat.{_<_};
 ghost use lib.ListN.{length};
-ghost use Rattle.day.specs.Customer.{isViolated, waitingTime, latenessAt, windowAt, leading, numDepots, hasTimeWindows, hasSoftWindows, isSoft};
+ghost use Rattle.day.specs.Customer.{isViolated, waitingTime, latenessAt, windowAt};
 
 // From when to when a location is served.
 pub struct TimeWindow {
@@ -70,63 +68,4 @@ pub fn time_window(flags: &[u8], ready: &[f64], due: &[f64], penalty: &[f64], k:
         return Window::Soft(window, penalty[k]);
     }
     Window::Hard(window)
-}
-
-// How many flagged locations lead the table.
-fn leading_flagged(flags: &[u8]) -> usize
-    ensures { λ r. ⌜ r ≡ leading (now (flags .entry)) ⌝ }
-{
-    let mut count = 0;
-    while count < flags.len() {
-        if !flag0(flags[count]) {
-            return count;
-        }
-        count += 1;
-    }
-    count
-}
-
-// The number of depots: the leading flagged locations, at least one.
-pub fn num_depots(flags: &[u8]) -> usize
-    ensures { λ r. ⌜ r ≡ numDepots (now (flags .entry)) ⌝ }
-{
-    let count = leading_flagged(flags);
-    if count == 0 {
-        return 1;
-    }
-    count
-}
-
-// Whether a location has a window.
-pub fn has_time_windows(flags: &[u8]) -> bool
-    ensures { λ r. ⌜ r ≡ hasTimeWindows (now (flags .entry)) ⌝ }
-{
-    let mut i = 0;
-    while i < flags.len() {
-        if flag1(flags[i]) {
-            return true;
-        }
-        i += 1;
-    }
-    false
-}
-
-fn is_soft(f: u8) -> bool
-    ensures { λ r. ⌜ r ≡ isSoft f ⌝ }
-{
-    both(flag1(f), flag2(f))
-}
-
-// Whether a location has a soft window.
-pub fn has_soft_windows(flags: &[u8]) -> bool
-    ensures { λ r. ⌜ r ≡ hasSoftWindows (now (flags .entry)) ⌝ }
-{
-    let mut i = 0;
-    while i < flags.len() {
-        if is_soft(flags[i]) {
-            return true;
-        }
-        i += 1;
-    }
-    false
 }

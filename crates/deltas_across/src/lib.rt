@@ -1,5 +1,5 @@
-// The deltas of tail exchange and relocate in f64, bit for bit as the Rust works them out (exchange.rs, relocate.rs). A function over a list reads its stops and
-// hands them to a sum.
+// The deltas of tail exchange and relocate in f64, bit for bit as the Rust works them out (exchange.rs, relocate.rs). A function over a list reads its stops
+// and hands them to a sum.
 use day::matrix::get;
 use deltas::Ends;
 use stops::around;

@@ -36,9 +36,6 @@ below-of n xs h = total-none (over n) xs 0 (λ k there. ap bit (lt-leb n (getD x
 pub below-at : (n : ℕ) (xs : List ℕ) (i q : ℕ) → Below n xs → i < length xs → getD xs i q < n
 below-at n xs i q h k = over-none n (getD xs i q) (let le = part-le (over n) xs i q k in omega arith)
 
-pub all-below-at : (n : ℕ) (ls : List (List ℕ)) (r : ℕ) → AllBelow n ls → r < length ls → Below n (getD ls r [])
-all-below-at n ls r h k = let le = part-le (total (over n)) ls r [] k in omega arith
-
 pub kept-below : (checks : Checks) (n : ℕ) (ls ms : List (List ℕ)) → Kept checks ls ms → AllBelow n ls → AllBelow n ms
 kept-below checks n ls ms kept h = kept .sums (over n) ∙ h
 

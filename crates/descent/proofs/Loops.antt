@@ -3,15 +3,13 @@ use mathlib.Core.Path.{_≡_, refl}
 use mathlib.Core.Bool.{Bool, true, false, _&&_}
 use mathlib.Core.Option.{Option, none, some}
 use mathlib.Core.List.{List, [], _∷_, _++_, map}
-use Prim.Native.Nat.{ℕ, zero, suc, _+_, _-_, _≤_, _<_}
+use Prim.Native.Nat.{ℕ, zero, suc, _+_, _≤_, _<_, _-_}
 use native.Mathlib.Numerals.{add-one}
 use native.Mathlib.Omega.{arith}
-use native.Mathlib.Nat.{mul-le-mul-right}
 use lib.ListN.{length}
 use Rattle.descent.specs.Order.{range, each, scan}
 use Rattle.descent.specs.Search.{least, firstLeast, goes-on, begins-again, Search, Judge, Sweep, ok, taken, firstMove, next, settled, stopped, run}
 use Rattle.descent.specs.Within.{Reversal, reversals}
-use Rattle.descent.proofs.Counts.{two-opt-tries}
 
 -- `for k in a..b`: a turn, and the end
 pub range-step : (a b : ℕ) → a < b → range a b ≡ a ∷ range (suc a) b
@@ -67,21 +65,8 @@ reversals-next n i j h k = rw (range-done j n h, range-step (suc i) (n - 1) k)
 pub reversals-done : (n i j : ℕ) → n ≤ j → n - 1 ≤ suc i → reversals-from n i j ≡ []
 reversals-done n i j h k = rw (range-done j n h, range-done (suc i) (n - 1) k)
 
--- how many are left
-pub rows-left : (n i : ℕ) → suc i < n → length (rows-from n i) ≡ length (reversals-from n i (suc i))
-rows-left n i h = rw (range-step i (n - 1) (omega arith))
-
 pub rows-end : (n i : ℕ) → n ≤ suc i → length (rows-from n i) ≡ 0
 rows-end n i h = rw (range-done i (n - 1) (omega arith))
-
-pub turn-left : (n i j : ℕ) → j < n → length (reversals-from n i j) ≡ suc (length (reversals-from n i (suc j)))
-turn-left n i j h = rw (reversals-turn n i j h)
-
-pub row-left : (n i j : ℕ) → n ≤ j → length (reversals-from n i j) ≡ length (rows-from n (suc i))
-row-left n i j h = rw (range-done j n h)
-
-pub few-reversals : (n : ℕ) → n ≤ 64 → length (reversals n) ≤ 4096
-few-reversals n h = let e = two-opt-tries n in let m = mul-le-mul-right (n - 1) h in omega arith
 
 -- ---- one turn of a search, for the code's loops
 

@@ -1,6 +1,6 @@
 -- Every permitted rearrangement keeps every sum over the visits: one law of sums is a law of counts and of loads. Assumes nothing.
 use mathlib.Core.Path.{_≡_}
-use mathlib.Core.List.{List, _∷_, _++_, reverse}
+use mathlib.Core.List.{List, _∷_, _++_}
 use Prim.Native.Nat.{ℕ, _+_}
 use native.Mathlib.Omega.{arith}
 use Rattle.edits.specs.Total.{total, sums}
@@ -8,14 +8,6 @@ use Rattle.edits.specs.Total.{total, sums}
 -- ---- every permitted rearrangement keeps every sum: with `is x` for f, how often each office stands there; with the demand, the load
 
 module _ (f : ℕ → ℕ) where
-  -- a stretch turned round
-  pub turned-keeps : (A B C : List ℕ) → total f (A ++ reverse B ++ C) ≡ total f (A ++ B ++ C)
-  turned-keeps A B C = simp sums
-
-  -- two neighbouring pieces exchanged: a piece moved, forwards or backwards
-  pub swapped-keeps : (A B C D : List ℕ) → total f (A ++ C ++ B ++ D) ≡ total f (A ++ B ++ C ++ D)
-  swapped-keeps A B C D = simp sums (omega arith)
-
   -- tails exchanged between two lists
   pub tails-keep : (A B C D : List ℕ) → total f (A ++ D) + total f (C ++ B) ≡ total f (A ++ B) + total f (C ++ D)
   tails-keep A B C D = simp sums (omega arith)

@@ -5,7 +5,7 @@ use mathlib.Core.Path.{_≡_, refl, sym, ap, _∙_}
 use mathlib.Core.Logic.{_⊎_, inl, inr}
 use mathlib.Core.Bool.{Bool, true, false, not}
 use mathlib.Core.List.{List, _∷_, _++_}
-use Prim.Native.Nat.{ℕ, suc, _+_, _-_, _<_, _≤_}
+use Prim.Native.Nat.{ℕ, suc, _+_, _<_, _≤_, _-_}
 use native.Mathlib.Omega.{arith}
 use lib.Dec.{eqb}
 use lib.ListN.{length, getD, take, drop, take-append-drop}
@@ -67,15 +67,6 @@ same-on xs ys zs first second f = second f ∙ first f
 -- each edit keeps the length
 pub length-reversed : (from to : ℕ) (xs : List ℕ) → from ≤ to → length (reversed from to xs) ≡ length xs
 length-reversed from to xs h = same-length xs (reversed from to xs) (same-reversed from to xs h)
-
-pub length-exchanged : (from middle to : ℕ) (xs : List ℕ) → from ≤ middle → middle ≤ to → length (exchanged from middle to xs) ≡ length xs
-length-exchanged from middle to xs h k = same-length xs (exchanged from middle to xs) (same-exchanged from middle to xs h k)
-
-pub length-putBefore : (from size to : ℕ) (xs : List ℕ) → ((to < from) ⊎ (from + size ≤ to)) → length (putBefore from size to xs) ≡ length xs
-length-putBefore from size to xs h = same-length xs (putBefore from size to xs) (same-putBefore from size to xs h)
-
-pub length-outerExchanged : (from a b to : ℕ) (xs : List ℕ) → from ≤ a → a ≤ b → b ≤ to → length (outerExchanged from a b to xs) ≡ length xs
-length-outerExchanged from a b to xs h₁ h₂ h₃ = same-length xs (outerExchanged from a b to xs) (same-outerExchanged from a b to xs h₁ h₂ h₃)
 
 -- ---- a visit put in, or taken out
 

@@ -1,5 +1,1 @@
-pub mod Choosing
-pub mod Places
-pub mod Tables
-pub mod Moves
 pub mod Claimed

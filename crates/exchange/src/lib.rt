@@ -1,23 +1,22 @@
 // Tail exchange between lists, in place (local_search/exchange.rs, where no window is soft). Potvin and Rousseau 1995, 2-opt*: two lists each keep a head
 // of one visit or more and exchange their tails; both loads and both lists pass.
 //
-// Order of search: pairs of lists r1 < r2 in turn; at a pair the best exchange of the two (crate `tails`). After a move the sweep goes on with the next pair;
-// a sweep with no move ends the run.
-use day::matrix::scale;
+// The next move is that of `exchange_sweeps`. After a move the sweep goes on with the next pair; a sweep with no move ends the run.
 use day::vehicle::RouteLimits;
+use day_scans::matrix::scale;
 use engine::Ended;
 use evaluation::route::route_checks_needed;
+use exchange_sweeps::Place;
+use exchange_sweeps::next_move;
+use exchange_sweeps::place_after;
 use list_changes::exchange_tails;
-use lists::list_of;
 use loads::boxes_in;
 use numbers::gain_floor;
-use tails::Choice;
-use tails::Terms;
-use tails::best_exchange;
+use tail_candidates::Terms;
 ghost use mathlib.Core.Path.{_≡_};
 ghost use mathlib.Core.Bool.{true};
 ghost use mathlib.Core.List.{[], _∷_};
-ghost use Prim.Native.Nat.{_<_, _≤_};
+ghost use Prim.Native.Nat.{_<_};
 ghost use lib.IntN.{pos};
 ghost use lib.Signed.{leZ};
 ghost use lib.ListN.{length};
@@ -31,194 +30,8 @@ ghost use Rattle.descent.specs.Engines.{run-of};
 ghost use Rattle.deltas.specs.Judged.{float-judge};
 ghost use Rattle.engine.specs.Engine.{checksOf, mapOf, endedAs};
 ghost use Rattle.loads.specs.Loads.{boxes, Loaded, Held};
-ghost use Rattle.tails.specs.Best.{Asked};
-ghost use Rattle.exchange.specs.Exchange.{pairAt, movedBy, takenAt, from, placeAfter, InSweep, firstAt, nextOf, leads, Apt};
-
-// A place of a sweep: two lists by number.
-pub struct Place {
-    pub one: usize,
-    pub other: usize,
-}
-
-// An exchange at a place; `cut1` 0 is none.
-pub struct Found {
-    pub place: Place,
-    pub cut1: usize,
-    pub cut2: usize,
-}
-
-// The exchange to take at a pair of lists.
-fn best_at(
-    flags: &[u8],
-    demand: &[i32],
-    service: &[f64],
-    ready: &[f64],
-    due: &[f64],
-    penalty: &[f64],
-    distances: &[f64],
-    times: &[f64],
-    terms: Terms,
-    visits: &[u16],
-    lengths: &[u16],
-    place: Place,
-) -> Choice
-    requires { ⌜ Asked (columnsAt (terms .l) flags service ready due penalty distances times) (now demand) terms ⌝ }
-    requires { ⌜ Held (terms .l) (now visits) (now lengths) × (place .one < place .other) × (place .other < length (now lengths)) ⌝ }
-    ensures { λ r.
-        ⌜ movedBy (pairAt place) (r .cut1) (r .cut2) ≡ takenAt
-        (columnsAt (terms .l) (flags .entry) (service .entry) (ready .entry) (due .entry) (penalty .entry) (distances .entry) (times .entry))
-        (now (demand .entry)) terms (lists (now (visits .entry)) (now (lengths .entry))) (pairAt place) ⌝ }
-{
-    let one = list_of(visits, lengths, place.one);
-    let other = list_of(visits, lengths, place.other);
-    best_exchange(
-        flags,
-        demand,
-        service,
-        ready,
-        due,
-        penalty,
-        distances,
-        times,
-        terms,
-        one,
-        other,
-    )
-}
-
-// ---- moves
-
-// The place that follows in a sweep over n lists.
-pub fn place_after(n: usize, place: Place) -> Place
-    requires { ⌜ (place .one < place .other) × (place .other < n) ⌝ }
-    ensures { λ r. ⌜ r ≡ placeAfter n place ⌝ }
-{
-    if place.other + 1 < n {
-        return Place {
-            one: place.one,
-            other: place.other + 1,
-        };
-    }
-    Place {
-        one: place.one + 1,
-        other: place.one + 2,
-    }
-}
-
-// The first move from a place of the sweep on.
-fn first_move(
-    flags: &[u8],
-    demand: &[i32],
-    service: &[f64],
-    ready: &[f64],
-    due: &[f64],
-    penalty: &[f64],
-    distances: &[f64],
-    times: &[f64],
-    terms: Terms,
-    visits: &[u16],
-    lengths: &[u16],
-    start: Place,
-) -> Found
-    requires { ⌜ Asked (columnsAt (terms .l) flags service ready due penalty distances times) (now demand) terms ⌝ }
-    requires { ⌜ Held (terms .l) (now visits) (now lengths) × InSweep (length (now lengths)) start ⌝ }
-    ensures { λ r.
-        ⌜ (let ls = lists (now (visits .entry)) (now (lengths .entry)) in
-        (leads ls r ≡ firstAt
-        (columnsAt (terms .l) (flags .entry) (service .entry) (ready .entry) (due .entry) (penalty .entry) (distances .entry) (times .entry))
-        (now (demand .entry)) terms ls (from (length (now (lengths .entry))) start))
-        × Apt (now (visits .entry)) (now (lengths .entry)) r) ⌝ }
-{
-    let n = lengths.len();
-    let mut place = start;
-    while place.other < n {
-        let best = best_at(
-            flags,
-            demand,
-            service,
-            ready,
-            due,
-            penalty,
-            distances,
-            times,
-            terms,
-            visits,
-            lengths,
-            place,
-        );
-        if best.cut1 != 0 {
-            return Found {
-                place,
-                cut1: best.cut1,
-                cut2: best.cut2,
-            };
-        }
-        place = place_after(n, place);
-    }
-    Found {
-        place,
-        cut1: 0,
-        cut2: 0,
-    }
-}
-
-// The next move: the first ahead in this sweep or, where there is none, the first of a new sweep.
-fn next_move(
-    flags: &[u8],
-    demand: &[i32],
-    service: &[f64],
-    ready: &[f64],
-    due: &[f64],
-    penalty: &[f64],
-    distances: &[f64],
-    times: &[f64],
-    terms: Terms,
-    visits: &[u16],
-    lengths: &[u16],
-    ahead: Place,
-) -> Found
-    requires { ⌜ Asked (columnsAt (terms .l) flags service ready due penalty distances times) (now demand) terms ⌝ }
-    requires { ⌜ Held (terms .l) (now visits) (now lengths) × InSweep (length (now lengths)) ahead ⌝ }
-    ensures { λ r.
-        ⌜ (let ls = lists (now (visits .entry)) (now (lengths .entry)) in
-        (leads ls r ≡ nextOf
-        (columnsAt (terms .l) (flags .entry) (service .entry) (ready .entry) (due .entry) (penalty .entry) (distances .entry) (times .entry))
-        (now (demand .entry)) terms (record { now = ls; ahead = from (length (now (lengths .entry))) ahead }))
-        × Apt (now (visits .entry)) (now (lengths .entry)) r) ⌝ }
-{
-    let found = first_move(
-        flags,
-        demand,
-        service,
-        ready,
-        due,
-        penalty,
-        distances,
-        times,
-        terms,
-        visits,
-        lengths,
-        ahead,
-    );
-    if found.cut1 != 0 {
-        return found;
-    }
-    let start = Place { one: 0, other: 1 };
-    first_move(
-        flags,
-        demand,
-        service,
-        ready,
-        due,
-        penalty,
-        distances,
-        times,
-        terms,
-        visits,
-        lengths,
-        start,
-    )
-}
+ghost use Rattle.tail_candidates.specs.Candidate.{Asked};
+ghost use Rattle.exchange_sweeps.specs.Exchange.{nextOf};
 
 // Moves until none is left or the limit is used up. The run starts with nothing ahead, in front of a new sweep.
 fn run_moves(

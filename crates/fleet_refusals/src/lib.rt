@@ -1,5 +1,5 @@
 // The refusals of a fleet, of document 01's table, in their order: 11 first, then every van for 6, then every van for 7.
-use day::customer::num_depots;
+use day_scans::customer::num_depots;
 use fleet_columns::fleet_ok;
 use van_refusals::van_refusal;
 use vehicles::van_at;

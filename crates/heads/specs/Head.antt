@@ -1,23 +1,19 @@
--- A head of a list, driven once, and what a list costs from its head on. For the searches that price many lists with one head. Assumes nothing.
+-- A head of a list, driven once. For the searches that price or check many lists with one head. Assumes nothing.
 use Prim.Native.Nat.{ℕ, _<_, _≤_}
 use mathlib.Core.Path.{_≡_}
-use mathlib.Core.Bool.{false, cond}
+use mathlib.Core.Bool.{cond}
 use mathlib.Core.List.{List}
 use lib.Dec.{ltb}
 use lib.ListN.{length, getD, take}
 use lib.Seq.{slice}
-use lib.Ieee.{Float, inf}
-use Rattle.numbers.specs.Operations.{_⊕_, zero64}
-use Rattle.day.specs.Vehicle.{allows}
+use Rattle.numbers.specs.Operations.{zero64}
 use Rattle.day.specs.declared.vehicle.Rest.{Rest}
 use Rattle.day.specs.declared.vehicle.Rest.the-variants.{NoBreak, Break}
 use Rattle.day.specs.declared.vehicle.VehicleBreak.{VehicleBreak}
-use Rattle.day.specs.declared.vehicle.RouteLimits.{RouteLimits}
 use Rattle.labels.specs.Columns.{Columns}
 use Rattle.labels.specs.Walk.{Tour, tourOf, walk}
 use Rattle.labels.specs.Label.{atStart}
-use Rattle.evaluation.specs.Route.{tick, home, evaluated, costOf, effectiveCost}
-use Rattle.labels.specs.declared.label.Label.{Label}
+use Rattle.evaluation.specs.Route.{tick}
 use Rattle.labels.specs.declared.label.Reached.{Reached}
 use Rattle.labels.specs.declared.label.Reached.the-variants.{Missed, Served}
 use Rattle.heads.specs.declared.Head.{Head}
@@ -53,20 +49,3 @@ pub record Drove (c : Columns) (start : Head) (list : List ℕ) (from to : ℕ) 
   pub placed : end .place < c .l
   pub same : walk c (tick c) (tourAt start) (slice from (end .visits) list) ≡ tourAt end
   pub lost : end .visits < to → Missed ≡ tick c (Served (end .label)) (end .place) (getD list (end .visits) 0)
-
--- what a list costs that ends with this label
-unfoldable pub endedCost : RouteLimits → Label → Float → Float → Float
-endedCost limits label distance back = cond (allows limits distance (label .time ⊕ back)) (distance ⊕ label .«lateness_cost») (inf false)
-
--- what a list costs with no break to take, the visits behind its head given
-unfoldable pub costFrom : Columns → RouteLimits → ℕ → Head → List ℕ → Float
-costFrom c limits depot head others = costOf (evaluated limits (home c depot (walk c (tick c) (tourAt head) others)))
-
--- the same, whether there is a break or not
-unfoldable pub priceBy : Rest → Columns → RouteLimits → ℕ → Head → List ℕ → Float
-priceBy NoBreak c limits depot head others = costFrom c limits depot head others
-priceBy (Break pause) c limits depot head others = effectiveCost c limits depot others
-
--- the price of the list of a head and the visits behind it, or, with a break, of the whole list
-abbrev pub priceFrom : Columns → RouteLimits → ℕ → Head → List ℕ → Float
-priceFrom c limits depot head others = priceBy (limits .rest) c limits depot head others

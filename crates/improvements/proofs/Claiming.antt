@@ -81,7 +81,8 @@ module _ (d : Day) (van : Van) (visits lengths : List ℕ) (list limit : ℕ) wh
         subst (λ (ran : Ran). Claim (or-opt n-minus-length) (roadsOf (mapFor d van)) (checksFor d van) limit lent (ran .list) (ran .list) (ran .moves)
             (ran .word))
             (sym (ran-hard (columnsOf d) (limitsOf van) (van .depot) limit lent Relocate (whole .hard)))
-            (float-demand-3 (mapFor d van) (whole-map d van (f .day .shaped .tables .of-distances) (f .depot) whole) (or-opt n-minus-length) (checksFor d van) limit lent
+            (float-demand-3 (mapFor d van) (whole-map d van (f .day .shaped .tables .of-distances) (f .depot) whole) (or-opt n-minus-length) (checksFor d van)
+            limit lent
             (λ n p. omega arith)
             (lent-one (d .l) lent (visits-fine d van visits lengths list f))),
       ))

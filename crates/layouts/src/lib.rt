@@ -1,12 +1,12 @@
 // A list in four pieces A, B, C and D, of which B and C change places or are turned round: every candidate within a list is one. It is laid out in a
 // buffer; or it is driven from a head of the list without being built, and ends where a visit can't be served, as most candidates soon do.
+use buffers::append;
+use buffers::append_stretch;
+use buffers::append_stretch_reversed;
 use day::matrix::get;
 use day::matrix::travel_time;
 use day::vehicle::Rest;
 use day::vehicle::RouteLimits;
-use edits::append;
-use edits::append_stretch;
-use edits::append_stretch_reversed;
 use evaluation::route::route_feasible;
 use heads::Head;
 use heads::reach;

@@ -1,5 +1,5 @@
-// The lists of a call: one table of visits, the lists one after another, and one of their lengths. Where a list lies, and a list as the caller's own part of the
-// table (specs/Table.antt says how the two tables go together with a list of lists).
+// The lists of a call: one table of visits, the lists one after another, and one of their lengths. Where a list lies, and a list as the caller's own part of
+// the table (specs/Table.antt says how the two tables go together with a list of lists).
 ghost use mathlib.Core.Path.{_≡_};
 ghost use Prim.Native.Nat.{_+_, _≤_, _<_};
 ghost use lib.ListN.{length, getD};

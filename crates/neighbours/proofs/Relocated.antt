@@ -2,13 +2,13 @@
 -- less its size behind it. So both make the same neighbours, in the same order. Assumes nothing.
 use mathlib.Core.Path.{_≡_, refl, sym, ap, ap₂, _∙_}
 use mathlib.Core.List.{List, _∷_, _++_, map, append-assoc}
-use Prim.Native.Nat.{ℕ, zero, suc, _+_, _-_, _≤_, _<_}
+use Prim.Native.Nat.{ℕ, zero, suc, _+_, _≤_, _<_, _-_}
 use native.Mathlib.Omega.{arith}
 use borrow.Author.Tests.{lt-ltb, le-ltb}
 use lib.ListN.{length, take, drop}
 use lib.Seq.{slice, take-take, drop-drop, take-append-le, drop-append-le, take-append-add, drop-append-add, length-take-le}
 use Rattle.edits.proofs.Cuts.{lent}
-use Rattle.descent.specs.Order.{from-on, range}
+use Rattle.descent.specs.Order.{from-on}
 use Rattle.descent.specs.Within.{put-before}
 
 -- `rest`, the list without the piece
@@ -50,10 +50,3 @@ shifted size a zero = refl
 shifted size a (suc n) =
     let next : suc a + size ≡ suc (a + size) = omega arith in
     ap (λ (l : List ℕ). (a + size) ∷ l) (shifted size (suc a) n ∙ ap (λ (k : ℕ). from-on k n) next)
-
--- `for at in 0..=rest.len()`, `at != from`: behind the piece these are the places behind it in the original list
-pub later-places : (n size from : ℕ) → from + size ≤ n → map (λ at. at + size) (range (suc from) (suc (n - size))) ≡ range (suc (from + size)) (suc n)
-later-places n size from h =
-    let first : suc from + size ≡ suc (from + size) = omega arith in
-    let many : suc (n - size) - suc from ≡ suc n - suc (from + size) = omega arith in
-    shifted size (suc from) (suc (n - size) - suc from) ∙ ap₂ (λ (a k : ℕ). from-on a k) first many

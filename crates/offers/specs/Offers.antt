@@ -1,17 +1,15 @@
--- The moves out of one list into another as the code goes about them: the candidates of one visit and one list, and what is tried of a visit of which
--- something is known. For the contracts of src/ and of `relocate`; the engine's own definition is `relocate false` of
--- descent. Assumes nothing.
+-- The moves out of one list into another as the code goes about them: the candidates of one visit and one list, and the best of them so far. For the
+-- contracts of src/ and of `relocate`; the engine's own definition is `relocate false` of descent. Assumes nothing.
 use mathlib.Core.Path.{_≡_}
-use mathlib.Core.Bool.{Bool, false, cond}
+use mathlib.Core.Bool.{false}
 use mathlib.Core.Option.{Option}
 use mathlib.Core.List.{List, [], _∷_, map}
-use Prim.Native.Nat.{ℕ, suc, _+_}
-use lib.Dec.{ltb}
+use Prim.Native.Nat.{ℕ, suc}
 use lib.IntN.{ℤ}
-use lib.ListN.{length, getD}
+use lib.ListN.{length}
 use lib.Ieee.{Float, neg}
 use Rattle.numbers.specs.Floor.{gainFloor}
-use Rattle.day.specs.Matrix.{leg, scaleOf}
+use Rattle.day.specs.Matrix.{scaleOf}
 use Rattle.lists.specs.Table.{lists}
 use Rattle.labels.specs.Columns.{Columns}
 use Rattle.descent.specs.Order.{range}
@@ -19,19 +17,15 @@ use Rattle.descent.specs.Permitted.{relocate}
 use Rattle.descent.specs.Search.{Search, Judge}
 use Rattle.descent.specs.Across.{at, Relocation}
 use Rattle.descent.specs.Engines.{search-of}
-use Rattle.deltas.specs.Deltas.{removalDelta, insertionDelta}
 use Rattle.deltas.specs.Judged.{float-judge}
 use Rattle.engine.specs.Engine.{checksOf, mapOf}
-use Rattle.loads.specs.Loads.{boxesOf, measureOf}
+use Rattle.loads.specs.Loads.{measureOf}
 use Rattle.descent.specs.Scan.{onward, figure, Counted}
 use Rattle.pairs.specs.Pairs.{moveOf}
 use Rattle.pairs.specs.declared.Choice.{Choice}
-use Rattle.insertions.specs.declared.Least.{Least}
-use Rattle.insertions.specs.Cache.{Known, leastBelow}
+use Rattle.insertions.specs.Cache.{Known}
 use Rattle.places.specs.declared.Setup.{Setup}
-use Rattle.places.specs.declared.Offer.{Offer}
-use Rattle.places.specs.declared.Tried.{Tried}
-use Rattle.places.specs.Places.{bestAmong, ruledOut}
+use Rattle.visit_offers.specs.Tried.{costOf}
 
 -- ---- the engine's search and judging
 
@@ -54,37 +48,11 @@ unfoldable pub intoList : List (List ℕ) → ℕ → ℕ → ℕ → List Reloc
 intoList ls from position to =
     map (λ place. record { from = from; position = position; to = to; place = place }) (range 0 (suc (length (at ls to))))
 
--- ---- one visit, with what is known of it
-
--- what it costs to insert a visit into a list at a place: what the cache is about
-abbrev pub costOf : Columns → Setup → List ℕ → ℕ → ℕ → Float
-costOf c s = insertionDelta (leg (c .l) (c .distances)) (s .depot) (s .fixed)
+-- ---- the cache
 
 -- the cache is right of these lists
 abbrev pub Cached : Columns → Setup → List (List ℕ) → List Float → List ℕ → Type 0
 Cached c s ls figures places = Known (costOf c s) (c .l) ls figures places
-
--- the visit at a position of X, offered
-abbrev pub offerOf : Columns → Setup → List ℕ → ℕ → ℕ → ℕ → Offer
-offerOf c s X from position to = record {
-  from = from;
-  position = position;
-  to = to;
-  visit = getD X position 0;
-  removal = removalDelta (leg (c .l) (c .distances)) (s .depot) (s .fixed) X position;
-}
-
--- offered to Y: nothing where that has no room for it, nothing where no place gains, or else every place
-unfoldable pub tried : Columns → List ℤ → Setup → Bool → List ℕ → List ℕ → ℕ → ℕ → ℕ → ℕ → Choice → Least → Tried
-tried c demand s pruning X Y load from position to best known =
-    let offer = offerOf c s X from position to in
-    let untouched : Tried = record { best = best; least = known } in
-    cond (ltb (s .capacity) (load + boxesOf demand (offer .visit))) untouched
-    (cond (ruledOut pruning (s .floor) (offer .removal) (known .figure)) untouched
-    (record {
-      best = bestAmong c s Y offer (range 0 (suc (length Y))) best;
-      least = leastBelow (costOf c s Y (offer .visit)) (suc (length Y));
-    }))
 
 -- ---- the best so far, as a scan
 

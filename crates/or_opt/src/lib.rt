@@ -2,8 +2,8 @@
 //
 // Order of search: piece lengths 1, 2, 3 in turn, at each the best move of a piece of that length (segment_moves); after a move the sweep goes on with the
 // next length. Every function states what the definition chooses from here on, so that each loop shows that the rest equals the whole.
-use day::matrix::scale;
 use day::vehicle::RouteLimits;
+use day_scans::matrix::scale;
 use edits::move_piece;
 use engine::Ended;
 use evaluation::route::route_checks_needed;

@@ -209,7 +209,3 @@ module _ (delta : Relocation → Float) (pass : Relocation → Bool) (bound : Fl
         (standing-iff (OfPairs ls (length ls)) (λ m. m ∈ relocations ls) (leastEntry (length ls) bound t) (of-relocations ls) (relocation-of ls)
         (table-standing (length ls) t r) .best)
         (best-sorted delta pass bound (relocations ls) (relocations-sorted ls))
-
-    pub least-entry-figured : (n : ℕ) (t : Table) → Right delta pass bound ls n t
-        → (leastEntry n bound t) .delta ≡ figure delta pass bound (moveOf (leastEntry n bound t))
-    least-entry-figured n t r = table-standing n t r .figured

@@ -107,17 +107,6 @@ module _ (delta : Relocation → Float) (pass : Relocation → Bool) (bound : Fl
       (best-sorted delta pass bound (relocations ls) (relocations-sorted ls)) in
       relocation-there ls (asMove c) (b .0)
 
--- in the tables of the lists, so that it can be made
-pub least-relocates : (delta : Relocation → Float) (pass : Relocation → Bool) (bound : Float) (visits lengths : List ℕ) (t : Table) (c : Choice)
-    → Laid visits lengths → Right delta pass bound (lists visits lengths) (length lengths) t → c ≡ leastEntry (length lengths) bound t → isFound c ≡ true
-    → Relocates visits lengths (c .from) (c .position) (c .to) (c .place)
-least-relocates delta pass bound visits lengths t c laid r e f =
-    let r′ : Right delta pass bound (lists visits lengths) (length (lists visits lengths)) t = rw (length-lists visits lengths) r in
-    let is : moveOf c ≡ onward delta pass bound none (relocations (lists visits lengths)) =
-    ap moveOf e ∙ ap (λ (n : ℕ). moveOf (leastEntry n bound t)) (sym (length-lists visits lengths))
-    ∙ least-entry-taken delta pass bound (lists visits lengths) t r′ in
-    relocates visits lengths laid (c .from) (c .position) (c .to) (c .place) (choice-there delta pass bound (lists visits lengths) c is f)
-
 -- after it the entries of the pairs without its lists are right still
 pub right-moved : (delta delta′ : Relocation → Float) (pass pass′ : Relocation → Bool) (bound : Float) (visits lengths visits′ lengths′ : List ℕ) (t : Table)
     (from position to place : ℕ) → Agree delta delta′ pass pass′ (lists visits lengths) (lists visits′ lengths′) from to

@@ -1,9 +1,9 @@
 // The best place of a list for a visit (relocate.rs, `best_between`: the loop over the places): the visit is offered at each, and what the places cost at
 // least is noted. Of equal deltas the first place is taken; the list with the visit in it has to pass.
+use buffers::append_one;
+use buffers::append_stretch;
 use day::vehicle::RouteLimits;
 use deltas_across::insertion_delta;
-use edits::append_one;
-use edits::append_stretch;
 use edits::wide;
 use engine::passes;
 use insertions::Least;

@@ -3,15 +3,14 @@
 pub mod improve; // 2-opt, Or-opt and 3-opt of a list
 pub mod rearrange; // engines over all lists
 pub mod depots; // the engine over all lists and a fleet
+mod answers; // what an export writes from the answer of a check
 
+use crate::answers::write_evaluated;
+use crate::answers::write_scheduled;
+use crate::answers::write_table;
 use day::vehicle::Van;
 use planner::check::Distance;
-use planner::check::Evaluated;
 use planner::check::Feasibility;
-use planner::check::Timetable;
-use planner::table::Table;
-use written::bit_of;
-use written::write_taken;
 ghost use mathlib.Core.Path.{_≡_};
 ghost use Rattle.day.specs.Day.{dayAt};
 ghost use Rattle.fleet.specs.Fleet.{fleetAt};
@@ -311,26 +310,7 @@ pub extern "C" fn planner_route_eval(
         lengths,
         list,
     );
-    match answer {
-        Evaluated::Refused(n) => n,
-        Evaluated::Fails => {
-            *passes = 0;
-            0
-        }
-        Evaluated::Passes {
-            distance: a,
-            duration: b,
-            lateness: c,
-            lateness_cost: d,
-        } => {
-            *passes = 1;
-            *distance = a;
-            *duration = b;
-            *lateness = c;
-            *lateness_cost = d;
-            0
-        }
-    }
+    write_evaluated(answer, passes, distance, duration, lateness, lateness_cost)
 }
 
 // The schedule of the list asked for, where it has one.
@@ -387,28 +367,17 @@ pub extern "C" fn planner_schedule(
         lengths,
         list,
     );
-    match answer {
-        Timetable::Refused(n) => n,
-        Timetable::Impossible => {
-            *found = 0;
-            0
-        }
-        Timetable::Possible {
-            distance: a,
-            duration: b,
-            lateness: c,
-            lateness_cost: d,
-            rest: t,
-        } => {
-            *found = 1;
-            *distance = a;
-            *duration = b;
-            *lateness = c;
-            *lateness_cost = d;
-            write_taken(t, taken, position, start);
-            0
-        }
-    }
+    write_scheduled(
+        answer,
+        found,
+        distance,
+        duration,
+        lateness,
+        lateness_cost,
+        taken,
+        position,
+        start,
+    )
 }
 
 // What the searches work out of the day and the van before the first move.
@@ -452,21 +421,5 @@ pub extern "C" fn planner_table(
         times,
         van,
     );
-    match answer {
-        Table::Refused(n) => n,
-        Table::Known {
-            scale: a,
-            floor: b,
-            symmetric: c,
-            fixed: d,
-            depots: e,
-        } => {
-            *scale = a;
-            *floor = b;
-            *symmetric = bit_of(c);
-            *fixed = d;
-            *depots = e;
-            0
-        }
-    }
+    write_table(answer, scale, floor, symmetric, fixed, depots)
 }

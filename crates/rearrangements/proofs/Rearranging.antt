@@ -30,7 +30,7 @@ use Rattle.engine.specs.declared.Ended.{Ended}
 use Rattle.loads.specs.Loads.{Loaded, Held}
 use Rattle.loads.proofs.Boxes.{loaded-of}
 use Rattle.loads.proofs.Tables.{held-of}
-use Rattle.exchange.proofs.Tables.{lent-of}
+use Rattle.exchange_sweeps.proofs.Tables.{lent-of}
 use Rattle.across.specs.Across.{Ran, hardExchange, exchangeRan, hardRelocate, relocateRan}
 use Rattle.across.proofs.Hard.{exchange-hard, relocate-hard}
 use Rattle.refusals.specs.Refusal.{refusalOfLists, FineLists, fine-lists}
@@ -175,7 +175,8 @@ module _ (d : Day) (van : Van) (visits lengths : List ℕ) (limit : ℕ) (f : Fi
   exchange-claim whole =
       subst (λ (ran : Ran). ClaimOf tail-exchange (lists visits lengths) (ran .lists) (dropped (ran .lists)) (ran .moves) (ran .word))
       (sym (exchange-hard (settingOf d van) limit (lists visits lengths) (whole .hard)))
-      (float-demand-3 (mapFor d van) (whole-map d van (f .day .shaped .tables .of-distances) (f .depot) whole) tail-exchange (checksFor d van) limit (lists visits lengths) tt there)
+      (float-demand-3 (mapFor d van) (whole-map d van (f .day .shaped .tables .of-distances) (f .depot) whole) tail-exchange (checksFor d van) limit
+      (lists visits lengths) tt there)
 
   relocate-claim : WholeDay d van → let ran = runOver relocateRan d van visits lengths limit in
       ClaimOf (relocate false) (lists visits lengths) (ran .lists) (dropped (ran .lists)) (ran .moves) (ran .word)
@@ -183,7 +184,8 @@ module _ (d : Day) (van : Van) (visits lengths : List ℕ) (limit : ℕ) (f : Fi
   relocate-claim whole =
       subst (λ (ran : Ran). ClaimOf (relocate false) (lists visits lengths) (ran .lists) (dropped (ran .lists)) (ran .moves) (ran .word))
       (sym (relocate-hard (settingOf d van) limit (lists visits lengths) (whole .hard)))
-      (float-demand-3 (mapFor d van) (whole-map d van (f .day .shaped .tables .of-distances) (f .depot) whole) (relocate false) (checksFor d van) limit (lists visits lengths) tt there)
+      (float-demand-3 (mapFor d van) (whole-map d van (f .day .shaped .tables .of-distances) (f .depot) whole) (relocate false) (checksFor d van) limit
+      (lists visits lengths) tt there)
 
 module _ (engine : Over) (d : Day) (van : Van) (visits lengths : List ℕ) (limit : ℕ) (none : refusalOfLists d van visits lengths ≡ 0) where
   -- where nothing is refused, the definitions are the run's

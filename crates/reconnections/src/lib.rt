@@ -1,7 +1,7 @@
 // Ports parts of local_search/three_opt.rs: a list cut behind three of its visits, with the pieces B and C between the cuts put back as one of the seven
 // patterns has them: built in a buffer, or in place of the list.
-use edits::append_stretch;
-use edits::append_stretch_reversed;
+use buffers::append_stretch;
+use buffers::append_stretch_reversed;
 use layouts::Way;
 use layouts::way_of;
 ghost use mathlib.Core.Path.{_≡_};

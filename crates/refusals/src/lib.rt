@@ -1,7 +1,7 @@
 // The number of the first refusal, which every entry asks first.
-use day::customer::num_depots;
 use day::vehicle::Van;
 use day_refusals::day_refusal;
+use day_scans::customer::num_depots;
 use fleet_columns::prices_refusal;
 use fleet_refusals::fleet_refusal;
 use list_refusals::lists_refusal;

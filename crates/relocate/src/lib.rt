@@ -5,8 +5,8 @@
 // As in the Rust the best move of every pair of lists is kept in a table (crate `relocations`), and so is what it costs at least to insert a visit into a
 // list (crate `insertions`), by which most visits need not be offered (crate `offers`). A move changes two lists, so that only the pairs with one of them in
 // it are searched again (crate `changes`). The move taken is the one that a scan of all candidates takes, which is the definition.
-use day::matrix::scale;
 use day::vehicle::RouteLimits;
+use day_scans::matrix::scale;
 use engine::Ended;
 use evaluation::route::route_checks_needed;
 use numbers::gain_floor;

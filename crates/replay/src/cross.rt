@@ -3,6 +3,7 @@
 use crate::rearrange::BEFORE;
 use crate::rearrange::are_handed_back;
 use crate::rearrange::ends_as_stored;
+use crate::rearrange::limit_at;
 use sample::columns;
 use sample::columns::room_for;
 use sample::layout::gap;
@@ -132,7 +133,7 @@ fn agrees_on(
     latest: &[f64],
     durations: &[f64],
 ) -> bool {
-    let limit = columns::short(value(table, byte_at(end, 0)));
+    let limit = limit_at(end, 0, table);
     let answer = planner::depots::cross_depot_improve(
         l,
         flags,
@@ -161,6 +162,11 @@ fn agrees_on(
         limit,
     );
     ends_as_stored(end, table, answer) && are_all_handed_back(end, table, visits, lengths, ids)
+}
+
+// What the run has from a position on.
+fn rest_of(run: &[u8], at: usize) -> &[u8] {
+    part(run, at, gap(at, run.len()))
 }
 
 // Whether the run with this fleet agrees; what is of the lists starts at a position.
@@ -194,7 +200,6 @@ fn agrees_with(
     let n = room_for(visits.len());
     let m = room_for(lengths.len());
     let prices_at = behind(run, ids_at, m);
-    let end_at = behind(run, prices_at, m);
     let prices = columns::numbers(table, run, prices_at, m);
     let mut own_visits = columns::copied(visits);
     let mut own_lengths = columns::copied(lengths);
@@ -203,8 +208,8 @@ fn agrees_with(
         &mut own_visits[0..n],
         &mut own_lengths[0..m],
         &mut own_ids[0..m],
-        columns::first_numbers(&prices, m),
-        part(run, end_at, gap(end_at, run.len())),
+        &prices[0..m],
+        rest_of(run, behind(run, prices_at, m)),
         table,
         l,
         flags,
@@ -233,6 +238,7 @@ fn agrees_with(
 fn agrees_under(
     run: &[u8],
     places: Columns,
+    vans: usize,
     table: &[u8],
     l: usize,
     flags: &[u8],
@@ -251,7 +257,6 @@ fn agrees_under(
     visits: &[u16],
     lengths: &[u16],
 ) -> bool {
-    let vans = count_at(run, 0);
     let van_ids = columns::ids(table, run, 1, vans);
     let depots = columns::depots(table, run, places.depots, vans);
     let capacities = columns::demands(table, run, places.capacities, vans);
@@ -315,6 +320,7 @@ pub fn agrees(
     agrees_under(
         run,
         places,
+        vans,
         table,
         l,
         flags,

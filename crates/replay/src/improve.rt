@@ -1,5 +1,7 @@
 // The kinds of run that change one list: 2-opt, Or-opt and 3-opt. Each is made on a copy of the day's visits, and agrees if the end word, the moves, the
 // distance and every visit of the whole table are the stored ones: the visits of the list asked for as the run has them, all others as the day has them.
+use crate::rearrange::has_limit;
+use crate::rearrange::limit_at;
 use day::vehicle::Van;
 use lists::length_of;
 use lists::start_of;
@@ -11,9 +13,7 @@ use sample::stored::is_count;
 use sample::stored::is_number;
 use sample_bytes::byte_at;
 use sample_bytes::count_at;
-use sample_bytes::is_known;
 use sample_bytes::part;
-use sample_bytes::value;
 
 pub const TWO_OPT: u8 = 16;
 
@@ -176,7 +176,7 @@ fn agrees_on(
     lengths: &[u16],
 ) -> bool {
     let list = count_at(run, 0);
-    let limit = columns::short(value(table, byte_at(run, 1)));
+    let limit = limit_at(run, 1, table);
     let answer = improve_list(
         tag,
         l,
@@ -216,7 +216,7 @@ pub fn agrees(
     lengths: &[u16],
 ) -> bool {
     let n = room_for(visits.len());
-    if !is_known(table, byte_at(run, 1)) {
+    if !has_limit(run, 1, table) {
         return false;
     }
     let mut copy = columns::copied(visits);

@@ -20,22 +20,34 @@ fn line(kind: &[u8], data: &[u8], tag: u8) {
     io::write_all(1, b" differ\n");
 }
 
+fn checks(data: &[u8]) {
+    line(b"feasible ", data, runs::FEASIBLE);
+    line(b"eval ", data, runs::EVAL);
+    line(b"schedule ", data, runs::SCHEDULE);
+    line(b"distance ", data, runs::DISTANCE);
+}
+
+fn engines_of_a_list(data: &[u8]) {
+    line(b"two_opt ", data, improve::TWO_OPT);
+    line(b"or_opt ", data, improve::OR_OPT);
+    line(b"three_opt ", data, improve::THREE_OPT);
+}
+
+fn engines_of_all_lists(data: &[u8]) {
+    line(b"relocate ", data, rearrange::RELOCATE);
+    line(b"relocate_np ", data, rearrange::RELOCATE_WITHOUT_PRUNING);
+    line(b"exchange ", data, rearrange::EXCHANGE);
+    line(b"cross ", data, cross::CROSS);
+}
+
 fn replay(data: &[u8]) {
     if !file_is_whole(data) {
         io::write_all(1, b"malformed\n");
         return;
     }
-    line(b"feasible ", data, runs::FEASIBLE);
-    line(b"eval ", data, runs::EVAL);
-    line(b"schedule ", data, runs::SCHEDULE);
-    line(b"distance ", data, runs::DISTANCE);
-    line(b"two_opt ", data, improve::TWO_OPT);
-    line(b"or_opt ", data, improve::OR_OPT);
-    line(b"three_opt ", data, improve::THREE_OPT);
-    line(b"relocate ", data, rearrange::RELOCATE);
-    line(b"relocate_np ", data, rearrange::RELOCATE_WITHOUT_PRUNING);
-    line(b"exchange ", data, rearrange::EXCHANGE);
-    line(b"cross ", data, cross::CROSS);
+    checks(data);
+    engines_of_a_list(data);
+    engines_of_all_lists(data);
 }
 
 // Room for the file, 524,288 bytes.

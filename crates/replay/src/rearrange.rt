@@ -21,6 +21,16 @@ pub const EXCHANGE: u8 = 21;
 // The bytes before the lengths handed back: limit, end word, moves, lists that remain.
 pub const BEFORE: usize = 4;
 
+// The limit that stands at a position of a run.
+pub fn limit_at(run: &[u8], at: usize, table: &[u8]) -> u32 {
+    columns::short(value(table, byte_at(run, at)))
+}
+
+// Whether the limit at a position of a run is in the table.
+pub fn has_limit(run: &[u8], at: usize, table: &[u8]) -> bool {
+    is_known(table, byte_at(run, at))
+}
+
 fn is_end(run: &[u8], table: &[u8], word: u8, moves: u32, remaining: usize) -> bool {
     if byte_at(run, 1) != word || !is_count(run, table, 2, moves) {
         return false;
@@ -142,7 +152,7 @@ fn agrees_on(
     times: &[f64],
     van: Van,
 ) -> bool {
-    let limit = columns::short(value(table, byte_at(run, 0)));
+    let limit = limit_at(run, 0, table);
     let answer = rearrange(
         tag,
         l,
@@ -182,7 +192,7 @@ pub fn agrees(
 ) -> bool {
     let n = room_for(visits.len());
     let m = room_for(lengths.len());
-    if !is_known(table, byte_at(run, 0)) {
+    if !has_limit(run, 0, table) {
         return false;
     }
     let mut own_visits = columns::copied(visits);

@@ -39,6 +39,11 @@ fn counted(score: Score, agreed: bool) -> Score {
     }
 }
 
+// The bytes of the run at a position, behind its tag and its size.
+fn run_at(day: &[u8], at: usize) -> &[u8] {
+    part(day, behind(day, at, 2), count_at(day, behind(day, at, 1)))
+}
+
 // The score behind the run at a position, which counts if it is of the kind asked for.
 fn of_run(
     day: &[u8],
@@ -62,7 +67,7 @@ fn of_run(
     if byte_at(day, at) != tag {
         return score;
     }
-    let run = part(day, behind(day, at, 2), count_at(day, behind(day, at, 1)));
+    let run = run_at(day, at);
     counted(
         score,
         agrees(

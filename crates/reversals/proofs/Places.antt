@@ -14,9 +14,10 @@ use Rattle.descent.proofs.Loops.{reversals-from, reversals-start, reversals-tur
 use Rattle.labels.specs.Columns.{Columns}
 use Rattle.heads.specs.Head.{atDepot}
 use Rattle.heads.proofs.Heads.{depot-driven}
-use Rattle.reversals.specs.declared.Terms.{Terms}
-use Rattle.reversals.specs.declared.Place.{Place}
-use Rattle.reversals.specs.Reversals.{Worked, Shared, InSweep, reversalAt, next-in-row, next-row, placeAfter, from}
+use Rattle.reversal_places.specs.declared.Terms.{Terms}
+use Rattle.reversal_places.specs.declared.Place.{Place}
+use Rattle.reversal_places.specs.Places.{Worked, Shared, reversalAt, next-in-row, next-row, placeAfter}
+use Rattle.reversals.specs.Reversals.{InSweep, from}
 
 -- behind the last place of a row comes the next row, if there is one
 row-over : (n i : ℕ) → suc i < n → reversals-from n i n ≡ reversals-from n (suc i) (suc (suc i))

@@ -5,30 +5,24 @@ use mathlib.Core.Bool.{Bool, true, false, cond}
 use mathlib.Core.Option.{Option, none}
 use mathlib.Core.List.{List}
 use Prim.Native.Nat.{ℕ, _+_, _<_, _≤_}
-use native.Mathlib.Numerals.{add-one}
 use native.Mathlib.Omega.{arith}
 use lib.ListN.{length}
 use lib.Dec.{ltb}
 use borrow.Author.Tests.{lt-ltb, ltb-true}
-use Rattle.edits.specs.Edits.{reversed}
 use Rattle.edits.proofs.Kept.{same-reversed, same-each, length-reversed}
 use Rattle.edits.proofs.Turns.{reversed-twice}
 use Rattle.labels.specs.Columns.{Columns, Visits}
 use Rattle.descent.specs.Search.{Sweep, taken, firstMove}
-use Rattle.descent.specs.Within.{Reversal, turned}
+use Rattle.descent.specs.Within.{Reversal}
 use Rattle.descent.proofs.Loops.{place-passed, place-moved, one-taken, one-left, next-ahead, next-sweep}
-use Rattle.reversals.specs.declared.Terms.{Terms}
-use Rattle.reversals.specs.declared.Place.{Place}
+use Rattle.reversal_places.specs.declared.Terms.{Terms}
+use Rattle.reversal_places.specs.declared.Place.{Place}
+use Rattle.reversal_places.specs.Places.{searching, judging, reversalAt, placeAfter, gains, turnedAt}
+use Rattle.reversal_places.proofs.Tried.{turned-is}
 use Rattle.reversals.specs.declared.Found.{Found}
 use Rattle.reversals.specs.declared.Found.the-variants.{At, Nothing}
-use Rattle.reversals.specs.Reversals.{searching, judging, InSweep, reversalAt, placeAfter, from, gains, turnedAt, firstTurn, nextTurn}
-use Rattle.reversals.specs.Reversals.{led, leaves, Inside, Searched}
+use Rattle.reversals.specs.Reversals.{InSweep, from, firstTurn, nextTurn, led, leaves, Inside, Searched}
 use Rattle.reversals.proofs.Places.{from-turn, from-end, from-start}
-
--- a reversal in the definition's words
-pub turned-is : (xs : List ℕ) (p : Place) → turned xs (reversalAt p) ≡ turnedAt xs p
-unfolding reversed
-turned-is xs p = rw (add-one (p .last))
 
 -- what a reversal keeps
 pub turned-length : (xs : List ℕ) (p : Place) → p .first < p .last → length (turnedAt xs p) ≡ length xs

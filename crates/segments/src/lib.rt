@@ -1,8 +1,8 @@
 // local_search/or_opt.rs (Or 1976): a piece of a list at one new position of it: what that changes, whether the list then passes, and the better of it and
 // the best so far. The Rust's one test against the best so far is the definition's two, as what is below the best also counts.
+use buffers::append;
 use day::vehicle::RouteLimits;
 use deltas_within::piece_insertion;
-use edits::append;
 use edits::move_piece;
 use evaluation::route::route_feasible;
 ghost use mathlib.Core.Path.{_≡_};

@@ -1,3 +1,2 @@
-pub mod Choice
 pub mod Offices
-pub mod Passes
+pub mod Moves

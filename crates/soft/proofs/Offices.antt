@@ -1,31 +1,30 @@
 -- A soft run keeps the visits of its list, whatever its numbers: each neighbour is a candidate of 2-opt, of Or-opt with its reach to the end, or of 3-opt,
 -- where everything passes, so it is a permitted move of that engine, and these keep the visits.
-use mathlib.Core.Path.{_≡_, refl, sym, ap, _∙_}
+use mathlib.Core.Path.{_≡_, refl}
 use mathlib.Core.Bool.{true}
 use mathlib.Core.Option.{some}
-use mathlib.Core.List.{List, [], _∷_}
-use Prim.Native.Nat.{ℕ, _+_, _≤_}
+use mathlib.Core.List.{List, []}
+use Prim.Native.Nat.{ℕ, _+_}
 use native.Mathlib.Omega.{arith}
 use lib.ListN.{length}
 use lib.Ieee.{Float}
 use Rattle.day.specs.declared.vehicle.RouteLimits.{RouteLimits}
-use Rattle.edits.specs.Total.{total, SameVisits}
+use Rattle.edits.specs.Total.{SameVisits}
 use Rattle.edits.proofs.Kept.{same-on}
 use Rattle.labels.specs.Columns.{Columns}
 use Rattle.evaluation.specs.Route.{effectiveCost}
 use Rattle.descent.specs.Order.{_∈_, here, range}
-use Rattle.descent.specs.Permitted.{Checks, Engine, State, lists, two-opt, or-opt, three-opt}
+use Rattle.descent.specs.Permitted.{Checks, two-opt, or-opt, three-opt}
 use Rattle.descent.specs.Search.{Sweep, next}
 use Rattle.descent.specs.Within.{Reversal, reversals, turned, Piece, pieces, put-before, Cut, Reconnection, cuts, reconnect}
-use Rattle.descent.specs.Engines.{Move, search-of}
-use Rattle.descent.proofs.Members.{map-in, each-in, not-in}
+use Rattle.descent.proofs.Members.{map-in, each-in}
 use Rattle.descent.proofs.Kept.{permitted-keeps}
-use Rattle.descent.proofs.Claims.{Tried}
-use Rattle.descent.proofs.Demand3.{Proper, faithful}
+use Rattle.descent.proofs.Demand3.{faithful}
 use Rattle.descent.proofs.Runs.{ran, chain-map, chain-keeps}
 use Rattle.descent.proofs.Sweeps.{next-some}
 use Rattle.neighbours.specs.Neighbours.{Neighbour, reversal, relocation, reconnection, ways, to-the-end, neighbours, made}
-use Rattle.soft.specs.Soft.{soft-search, soft-judge, soft-run}
+use Rattle.soft_neighbours.specs.SoftSearch.{soft-search, soft-judge}
+use Rattle.soft.specs.Soft.{soft-run}
 use Rattle.neighbours.specs.declared.Neighbourhood.{Neighbourhood}
 use Rattle.neighbours.specs.declared.Neighbourhood.the-variants.{Reverse, Relocate, Reconnect}
 

@@ -1,4 +1,4 @@
--- The scan over two lists' cuts takes the first least of the exchanges that count and pass, by the law of `exchange`. Assumes nothing.
+-- The scan over two lists' cuts takes the first least of the exchanges that count and pass, by the law of `exchange_sweeps`. Assumes nothing.
 use mathlib.Core.Path.{_≡_}
 use mathlib.Core.List.{List}
 use Prim.Native.Nat.{ℕ}
@@ -10,10 +10,10 @@ use Rattle.lists.proofs.Tables.{at-lists}
 use Rattle.descent.specs.Search.{ok, taken}
 use Rattle.descent.specs.Scan.{chosen, onward}
 use Rattle.descent.specs.Across.{at, Pair}
-use Rattle.exchange.specs.Exchange.{pairAt, movedBy}
-use Rattle.exchange.specs.declared.Place.{Place}
-use Rattle.tails.specs.declared.Choice.{Choice}
-use Rattle.exchange.proofs.Choosing.{best-first}
+use Rattle.exchange_sweeps.specs.Exchange.{pairAt, movedBy}
+use Rattle.exchange_sweeps.specs.declared.Place.{Place}
+use Rattle.tail_candidates.specs.declared.Choice.{Choice}
+use Rattle.exchange_sweeps.proofs.Choosing.{best-first}
 use Rattle.soft_tails.specs.Parts.{passesOf, judgeOf, bestOf, takenAt}
 use Rattle.tail_prices.specs.declared.Terms.{Terms}
 

@@ -1,20 +1,20 @@
 // Tail exchange between lists where a day has a soft window, in place (local_search/exchange.rs, the `soft` branches).
 //
-// Pairs and the order of search are those of `exchange`, and the best exchange of two lists is that of `soft_tails`. Where the rounded delta of an exchange
-// that changes nothing counts, only the limit ends the run, as in the Rust.
-use day::matrix::scale;
+// Pairs and the order of search are those of `exchange_sweeps`, and the best exchange of two lists is that of `soft_tails`. Where the rounded delta of an
+// exchange that changes nothing counts, only the limit ends the run, as in the Rust.
 use day::vehicle::RouteLimits;
+use day_scans::matrix::scale;
 use engine::Ended;
-use exchange::Found;
-use exchange::Place;
-use exchange::place_after;
+use exchange_sweeps::Found;
+use exchange_sweeps::Place;
+use exchange_sweeps::place_after;
 use list_changes::exchange_tails;
 use lists::list_of;
 use loads::boxes_in;
 use numbers::gain_floor;
 use soft_tails::best_exchange;
+use tail_candidates::Choice;
 use tail_prices::Terms;
-use tails::Choice;
 ghost use mathlib.Core.Path.{_≡_};
 ghost use mathlib.Core.Bool.{true};
 ghost use mathlib.Core.List.{[]};
@@ -30,7 +30,7 @@ ghost use Rattle.labels.specs.Columns.{columnsAt, Formed};
 ghost use Rattle.descent.specs.Search.{run};
 ghost use Rattle.engine.specs.Engine.{endedAs};
 ghost use Rattle.loads.specs.Loads.{Loaded, Held};
-ghost use Rattle.exchange.specs.Exchange.{pairAt, movedBy, from, InSweep, leads, Apt};
+ghost use Rattle.exchange_sweeps.specs.Exchange.{pairAt, movedBy, from, InSweep, leads, Apt};
 ghost use Rattle.soft_exchange.specs.SoftExchange.{soft-exchange-run};
 ghost use Rattle.soft_tails.specs.Parts.{Asked, takenAt, firstAt, nextOf};
 

@@ -15,8 +15,8 @@ use Rattle.descent.specs.Search.{begins-again, Search, Judge}
 use Rattle.descent.specs.Across.{at, Relocation, relocations, giver, receiver}
 use Rattle.deltas.specs.Changes.{fixedIf}
 
--- ---- what a move changes; `price` is the Rust's `eval`, `giving` the list `without` the visit, `receiving` the one with it `inserted`, and the operations are in
--- its order
+-- ---- what a move changes; `price` is the Rust's `eval`, `giving` the list `without` the visit, `receiving` the one with it `inserted`, and the operations are
+-- in its order
 
 module _ (price : List ℕ → Float) (fixed : Float) where
   -- `from_delta = eval(&giving) - old_from - if giving.is_empty() { fixed } else { 0.0 }`

@@ -1,15 +1,15 @@
 // The best place of a list for a visit where a day has a soft window (relocate.rs, `best_between_soft`: the prices and the loop over the places). What a
 // visit taken out and put in changes can't be told from its neighbours there, for one put in front of a late one makes it later, so that every list is priced
 // whole. Offers at later places share the list's first visits: these are driven once (`heads`), and a list is priced from there on.
+use buffers::append;
+use buffers::append_one;
+use buffers::append_stretch;
 use day::vehicle::RouteLimits;
 use deltas_across::fixed_if;
-use edits::append;
-use edits::append_one;
-use edits::append_stretch;
 use evaluation::route::effective_cost;
+use head_prices::price_from;
 use heads::Head;
 use heads::at_depot;
-use heads::price_from;
 use heads::reach;
 use pairs::Choice;
 ghost use mathlib.Core.Path.{_≡_};

@@ -24,7 +24,8 @@ use Rattle.edits.specs.Edits.{inserted}
 use Rattle.soft_places.specs.Prices.{softDelta, priced}
 use Rattle.soft_places.specs.Places.{priceOf}
 use Rattle.soft_offers.specs.Offers.{searchOf, judgeOf, bound}
-use Rattle.soft_relocate.specs.Running.{runFrom, RightOf, AllRight}
+use Rattle.soft_relocations.specs.Relocations.{RightOf, AllRight}
+use Rattle.soft_relocate.specs.Running.{runFrom}
 use Rattle.soft_places.specs.declared.Setup.{Setup}
 
 -- ---- the run

@@ -19,8 +19,9 @@ use Rattle.descent.specs.Order.{range, scan}
 use Rattle.descent.specs.Permitted.{room}
 use Rattle.descent.proofs.Members.{and-both}
 use Rattle.loads.specs.Loads.{boxesOf}
-use Rattle.tails.specs.Best.{nothing, betterBy, rowBy, bestBy}
-use Rattle.tails.specs.declared.Choice.{Choice}
+use Rattle.tail_candidates.specs.Candidate.{betterBy}
+use Rattle.tails.specs.Best.{nothing, rowBy, bestBy}
+use Rattle.tail_candidates.specs.declared.Choice.{Choice}
 use Rattle.tail_prices.specs.Tails.{priced, change}
 use Rattle.tail_prices.specs.Changes.{costIn, changeOf}
 use Rattle.tail_prices.specs.declared.Terms.{Terms}

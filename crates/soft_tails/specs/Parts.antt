@@ -1,5 +1,5 @@
 -- Soft tail exchange as its functions state it: what stays the same over a run, what is known of a pair, the best exchange so far, and the next move.
--- For src/; the engine's own definition is in tail_prices/specs/Tails.antt, and places and moves are those of `exchange`. Assumes nothing.
+-- For src/; the engine's own definition is in tail_prices/specs/Tails.antt, and places and moves are those of `exchange_sweeps`. Assumes nothing.
 use mathlib.Core.Path.{_≡_}
 use mathlib.Core.Bool.{Bool, _&&_}
 use mathlib.Core.Option.{Option}
@@ -15,8 +15,9 @@ use Rattle.descent.specs.Permitted.{Measure, room}
 use Rattle.descent.specs.Search.{Search, Judge, Sweep, taken, firstMove, next}
 use Rattle.descent.specs.Across.{Pair, Tails}
 use Rattle.loads.specs.Loads.{boxesOf, Loaded}
-use Rattle.tails.specs.Best.{exchanging, betterBy, rowBy, bestBy}
-use Rattle.tails.specs.declared.Choice.{Choice}
+use Rattle.tail_candidates.specs.Candidate.{betterBy}
+use Rattle.tails.specs.Best.{exchanging, rowBy, bestBy}
+use Rattle.tail_candidates.specs.declared.Choice.{Choice}
 use Rattle.tail_prices.specs.Tails.{priced, soft-exchange-search, soft-exchange-judge}
 use Rattle.tail_prices.specs.Changes.{costIn, Priced, changeOf}
 use Rattle.tail_prices.specs.declared.Terms.{Terms}
@@ -57,7 +58,7 @@ module _ (c : Columns) (t : Terms) (X Y : List ℕ) (demand : List ℤ) where
   abbrev pub passBy : ℕ → ℕ → Bool
   passBy cut1 cut2 = (room (measuresFor demand t) (joined X cut1 Y cut2) && room (measuresFor demand t) (joined Y cut2 X cut1)) && priced (costIn c t) X Y
 
--- the best so far as in `exchange`
+-- the best so far, and the loops over the cuts, as in `tails`
 module _ (c : Columns) (demand : List ℤ) (t : Terms) (X Y : List ℕ) where
   abbrev pub better : ℕ → ℕ → Choice → Choice
   better = betterBy (changeOf c t X Y) (passBy c t X Y demand)

@@ -1,7 +1,7 @@
 // The best tail exchange of two lists where a day has a soft window (local_search/exchange.rs, the `soft` branches), judged by the whole of both new lists
 // (crate `tail_prices`).
 //
-// Cuts, loads and the order of search are those of `exchange`. What differs is the delta, and that a pair of which one list has no finite price has no move.
+// Cuts, loads and the order of search are those of `tails`. What differs is the delta, and that a pair of which one list has no finite price has no move.
 // The cut at both ends, which changes nothing, is tried too, as in the Rust.
 // Candidates with one cut share the head in front of it: it is driven once (`heads`), and a new list is priced from there on.
 use evaluation::route::effective_cost;
@@ -11,10 +11,10 @@ use heads::reach;
 use loads::boxes_at;
 use loads::load_of;
 use numbers::is_finite;
+use tail_candidates::Choice;
 use tail_prices::Figures;
 use tail_prices::Terms;
 use tail_prices::change_of;
-use tails::Choice;
 ghost use mathlib.Core.Path.{_≡_};
 ghost use mathlib.Core.Bool.{true};
 ghost use Prim.Native.Nat.{_≤_};

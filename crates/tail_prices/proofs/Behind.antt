@@ -12,9 +12,10 @@ use Rattle.edits.proofs.Cuts.{to-end, lent}
 use Rattle.day.specs.declared.vehicle.RouteLimits.{RouteLimits}
 use Rattle.labels.specs.Columns.{Columns, Visits}
 use Rattle.evaluation.specs.Route.{effectiveCost}
-use Rattle.heads.specs.Head.{Driven, priceFrom}
+use Rattle.heads.specs.Head.{Driven}
 use Rattle.heads.specs.declared.Head.{Head}
-use Rattle.heads.proofs.Heads.{from-head}
+use Rattle.head_prices.specs.Prices.{priceFrom}
+use Rattle.head_prices.proofs.Prices.{from-head}
 use Rattle.list_changes.specs.Edits.{joined}
 use Rattle.loads.specs.Loads.{Two}
 use Rattle.tail_prices.specs.Tails.{change}

@@ -1,11 +1,11 @@
 // What a tail exchange changes where a day has a soft window (local_search/exchange.rs, the `soft` branches). An exchange that shortens two lists can make
 // a van late, so that it is judged by the whole of both new lists: distance plus lateness cost. Each is priced from the head that it keeps, where that was
 // driven up to the cut (`heads`).
+use buffers::append_stretch;
 use day::vehicle::RouteLimits;
-use edits::append_stretch;
 use evaluation::route::effective_cost;
+use head_prices::price_from;
 use heads::Head;
-use heads::price_from;
 use tests::both;
 ghost use mathlib.Core.Path.{_≡_};
 ghost use Prim.Native.Nat.{_<_, _≤_};

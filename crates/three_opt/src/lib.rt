@@ -1,9 +1,9 @@
 // Intra-route 3-opt (Lin 1965), ports local_search/three_opt.rs. Places are triples i < j < k, a list being cut behind its visits i, j and k; at a
 // place the pieces B and C between the cuts take the least of the seven patterns that counts and passes, ties to the lower pattern; after a move the
 // search starts again.
-use day::matrix::is_symmetric;
-use day::matrix::scale;
 use day::vehicle::RouteLimits;
+use day_scans::matrix::is_symmetric;
+use day_scans::matrix::scale;
 use engine::Ended;
 use evaluation::route::route_checks_needed;
 use numbers::gain_floor;

@@ -11,11 +11,12 @@ use Rattle.descent.specs.Within.{Reversal}
 use Rattle.engine.specs.declared.Ended.{Ended}
 use Rattle.engine.specs.declared.Ended.the-variants.{Settled, Stopped}
 use Rattle.engine.specs.Engine.{endedAs}
-use Rattle.reversals.specs.declared.Terms.{Terms}
-use Rattle.reversals.specs.declared.Place.{Place}
+use Rattle.reversal_places.specs.declared.Terms.{Terms}
+use Rattle.reversal_places.specs.declared.Place.{Place}
+use Rattle.reversal_places.specs.Places.{placeAfter, turnedAt}
 use Rattle.reversals.specs.declared.Found.{Found}
 use Rattle.reversals.specs.declared.Found.the-variants.{At, Nothing}
-use Rattle.reversals.specs.Reversals.{placeAfter, from, turnedAt, nextTurn, led, Searched}
+use Rattle.reversals.specs.Reversals.{from, nextTurn, led, Searched}
 use Rattle.descent.proofs.Going.{Going, going-starts, going-moves}
 use Rattle.engine.proofs.Running.{going-settles, going-stops}
 use Rattle.reversals.proofs.Turns.{left-as-it-was, left-turned, turned-back}

@@ -2,18 +2,18 @@
 //
 // After a kept reversal the sweep goes on behind it; a sweep with no move ends the run. A run is written as a chain of searches (reversals), each equal to
 // the definition's `firstMove`, so that the chain equals its `run`.
-use day::matrix::is_symmetric;
-use day::matrix::scale;
 use day::vehicle::RouteLimits;
+use day_scans::matrix::is_symmetric;
+use day_scans::matrix::scale;
 use edits::reverse;
 use engine::Ended;
 use evaluation::route::route_checks_needed;
 use numbers::gain_floor;
+use reversal_places::Place;
+use reversal_places::Terms;
+use reversal_places::place_after;
 use reversals::Found;
-use reversals::Place;
-use reversals::Terms;
 use reversals::next_move;
-use reversals::place_after;
 ghost use mathlib.Core.Path.{_≡_};
 ghost use mathlib.Core.Bool.{true};
 ghost use mathlib.Core.List.{[]};
@@ -26,7 +26,8 @@ ghost use Rattle.descent.specs.Search.{run};
 ghost use Rattle.descent.specs.Engines.{run-of};
 ghost use Rattle.deltas.specs.Judged.{float-judge};
 ghost use Rattle.engine.specs.Engine.{checksOf, mapOf, endedAs};
-ghost use Rattle.reversals.specs.Reversals.{Worked, nextTurn};
+ghost use Rattle.reversal_places.specs.Places.{Worked};
+ghost use Rattle.reversals.specs.Reversals.{nextTurn};
 
 // Moves until none is left or the limit is used up. The run starts with nothing ahead, in front of a new sweep. The move that a used up limit forbids
 // is turned back.

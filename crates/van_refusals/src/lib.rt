@@ -1,9 +1,9 @@
 // Refusals 6 and 7 of document 01, those of the van, found in the order of their numbers.
-use day::customer::num_depots;
 use day::flags::flag0;
 use day::flags::flag1;
 use day::flags::flag2;
 use day::vehicle::Van;
+use day_scans::customer::num_depots;
 use day_tests::span_ok;
 use numbers::is_plain;
 use tests::both;

@@ -1,13 +1,12 @@
 -- A run within a list keeps its visits, whatever its numbers: without soft windows since it makes permitted moves only, with them by the neighbours' own law.
 -- So the list that it leaves is one of the table still. Assumes nothing.
-use mathlib.Core.Path.{_≡_, refl}
+use mathlib.Core.Path.{_≡_}
 use mathlib.Core.Bool.{Bool, true, false, cond}
 use mathlib.Core.List.{List, []}
-use Prim.Native.Nat.{ℕ, _+_, _≤_, _<_}
+use Prim.Native.Nat.{ℕ, _+_}
 use native.Mathlib.Omega.{arith}
 use borrow.Author.Tests.{lt-ltb, ltb-true}
 use lib.Dec.{ltb}
-use lib.ListN.{length, getD}
 use Rattle.numbers.specs.Floor.{gainFloor}
 use Rattle.day.specs.Matrix.{scaleOf}
 use Rattle.day.specs.Customer.{hasSoftWindows}
@@ -55,9 +54,6 @@ module _ (c : Columns) (limits : RouteLimits) (depot limit : ℕ) (list : List �
         few = rw (same-length list back same) (v .few);
         below = λ k h. ltb-true _ _ (same-each (λ x. ltb x (c .l)) list back same (λ i there. lt-ltb _ _ (v .below i there)) k h);
       }
-
-  pub ran-length : (which : Neighbourhood) → length (ranBy which c limits depot limit list .list) ≡ length list
-  ran-length which = same-length list (ranBy which c limits depot limit list .list) (ran-same which)
 
   -- without a soft window the run is the engine's of demand 3
   pub ran-hard : (which : Neighbourhood) → hasSoftWindows (c .flags) ≡ false → ranBy which c limits depot limit list ≡ hardRan which c limits depot limit list

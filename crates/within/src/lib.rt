@@ -1,6 +1,6 @@
 // 2-opt, Or-opt and 3-opt on one list of a day: the search of the engine or, where a window is soft, the same neighbourhood over the effective cost.
-use day::customer::has_soft_windows;
 use day::vehicle::RouteLimits;
+use day_scans::customer::has_soft_windows;
 use engine::Ended;
 use neighbours::Neighbourhood;
 use or_opt::or_opt_improve;

@@ -3,28 +3,31 @@ use crate::line;
 use crate::print;
 use crate::print::text;
 
-// List `list` of 2,1,3 and 4.
-fn list(words: &[u8], list: usize) {
-    let flags = [1u8, 0, 0, 0, 0];
-    let demand = [1i32; 5];
-    let zeros = [0.0f64; 5];
-    let gaps = line::distances();
-    let visits = [2u16, 1, 3, 4];
-    let lengths = [3u16, 1];
-    let van = line::van(0, 0.0, 0.0, 0.0);
+// One list of the two.
+fn list(
+    words: &[u8],
+    flags: &[u8],
+    demand: &[i32],
+    zeros: &[f64],
+    gaps: &[f64],
+    times: &[f64],
+    visits: &[u16],
+    lengths: &[u16],
+    list: usize,
+) {
     let part = planner::list::list_of(
         5,
-        &flags,
-        &demand,
-        &zeros,
-        &zeros,
-        &zeros,
-        &zeros,
-        &gaps,
-        &[],
-        van,
-        &visits,
-        &lengths,
+        flags,
+        demand,
+        zeros,
+        zeros,
+        zeros,
+        zeros,
+        gaps,
+        times,
+        line::van(),
+        visits,
+        lengths,
         list,
     );
     text(words);
@@ -32,7 +35,30 @@ fn list(words: &[u8], list: usize) {
     text(b"\n");
 }
 
-pub fn both_lists() {
-    list(b"list 0:", 0);
-    list(b"list 1:", 1);
+// The lists 2,1,3 and 4.
+pub fn both_lists(flags: &[u8], demand: &[i32], zeros: &[f64], gaps: &[f64], times: &[f64]) {
+    let visits = [2u16, 1, 3, 4];
+    let lengths = [3u16, 1];
+    list(
+        b"list 0:",
+        flags,
+        demand,
+        zeros,
+        gaps,
+        times,
+        &visits,
+        &lengths,
+        0,
+    );
+    list(
+        b"list 1:",
+        flags,
+        demand,
+        zeros,
+        gaps,
+        times,
+        &visits,
+        &lengths,
+        1,
+    );
 }

@@ -44,83 +44,6 @@ fn distances() -> [f64; 25]
     ]
 }
 
-// The run with a van of id 0 at depot 0 and one of id 1 at depot 1.
-fn with_two_vans(
-    visits: &mut [u16],
-    lengths: &mut [u16],
-    ids: &mut [u32],
-    prices: &[f64],
-) -> Rearranged {
-    let zeros = [0.0f64; 5];
-    let gaps = distances();
-    let none = [0.0f64; 2];
-    planner::depots::cross_depot_improve(
-        5,
-        &[1u8, 1, 0, 0, 0],
-        &[1i32; 5],
-        &zeros,
-        &zeros,
-        &zeros,
-        &zeros,
-        &gaps,
-        &[],
-        &[0u32, 1],
-        &[0usize, 1],
-        &[10i32; 2],
-        &[1.0f64; 2],
-        &none,
-        &[0u8; 2],
-        &none,
-        &none,
-        &none,
-        &none,
-        &none,
-        visits,
-        lengths,
-        ids,
-        prices,
-        ENOUGH,
-    )
-}
-
-// The run with no van.
-fn with_no_van(
-    visits: &mut [u16],
-    lengths: &mut [u16],
-    ids: &mut [u32],
-    prices: &[f64],
-) -> Rearranged {
-    let zeros = [0.0f64; 5];
-    let gaps = distances();
-    planner::depots::cross_depot_improve(
-        5,
-        &[1u8, 1, 0, 0, 0],
-        &[1i32; 5],
-        &zeros,
-        &zeros,
-        &zeros,
-        &zeros,
-        &gaps,
-        &[],
-        &[],
-        &[],
-        &[],
-        &[],
-        &[],
-        &[],
-        &[],
-        &[],
-        &[],
-        &[],
-        &[],
-        visits,
-        lengths,
-        ids,
-        prices,
-        ENOUGH,
-    )
-}
-
 // All visits handed back, the length of each list, the id of its van, and how the run ended.
 fn line(words: &[u8], answer: Rearranged, visits: &[u16], lengths: &[u16], ids: &[u32]) {
     text(words);
@@ -132,89 +55,186 @@ fn line(words: &[u8], answer: Rearranged, visits: &[u16], lengths: &[u16], ids: 
     rearranged(answer);
 }
 
-pub fn moved() {
-    let mut visits = [2u16, 3, 4];
-    let mut lengths = [2u16, 1];
-    let mut ids = [0u32, 1];
-    let answer = with_two_vans(&mut visits, &mut lengths, &mut ids, &[180.0f64, 10.0]);
-    line(
-        b"cross-depot of 2,3 and 4, prices 180 and 10:",
-        answer,
-        &visits,
-        &lengths,
-        &ids,
-    );
-}
-
-pub fn emptied() {
-    let mut visits = [3u16, 4];
-    let mut lengths = [1u16, 1];
-    let mut ids = [0u32, 1];
-    let answer = with_two_vans(&mut visits, &mut lengths, &mut ids, &[180.0f64, 10.0]);
-    line(
-        b"cross-depot of 3 and 4, prices 180 and 10:",
-        answer,
-        &visits,
-        &lengths,
-        &ids,
-    );
-}
-
-// The lent price counts, not the list's own: at 0 nothing gains. An id that no van has stands for the first van.
-pub fn unmoved() {
-    let mut visits = [2u16, 3, 4];
-    let mut lengths = [2u16, 1];
-    let mut ids = [7u32, 1];
-    let answer = with_two_vans(&mut visits, &mut lengths, &mut ids, &[0.0f64, 0.0]);
-    line(
-        b"cross-depot of 2,3 under van 7 and 4, prices 0 and 0:",
-        answer,
-        &visits,
-        &lengths,
-        &ids,
-    );
-}
-
-pub fn unmanned() {
-    let mut visits = [2u16, 3, 4];
-    let mut lengths = [2u16, 1];
-    let mut ids = [7u32, 1];
-    let answer = with_no_van(&mut visits, &mut lengths, &mut ids, &[180.0f64, 10.0]);
-    line(
-        b"cross-depot of 2,3 under van 7 and 4, no vans:",
-        answer,
-        &visits,
-        &lengths,
-        &ids,
-    );
-}
-
-// The refusal of lists 2,3 and 4 with a van at each depot, at these prices.
-fn refused(words: &[u8], prices: &[f64]) {
-    let zeros = [0.0f64; 5];
-    let gaps = distances();
-    let none = [0.0f64; 2];
-    let number = planner::refusal::refusal_of_fleet(
+// The run with this fleet, whose fixed costs, limits and breaks are `none`.
+fn cross_depot(
+    words: &[u8],
+    flags: &[u8],
+    demand: &[i32],
+    zeros: &[f64],
+    gaps: &[f64],
+    times: &[f64],
+    van_ids: &[u32],
+    depots: &[usize],
+    capacities: &[i32],
+    costs: &[f64],
+    van_flags: &[u8],
+    none: &[f64],
+    visits: &mut [u16],
+    lengths: &mut [u16],
+    ids: &mut [u32],
+    prices: &[f64],
+) {
+    let answer = planner::depots::cross_depot_improve(
         5,
+        flags,
+        demand,
+        zeros,
+        zeros,
+        zeros,
+        zeros,
+        gaps,
+        times,
+        van_ids,
+        depots,
+        capacities,
+        costs,
+        none,
+        van_flags,
+        none,
+        none,
+        none,
+        none,
+        none,
+        visits,
+        lengths,
+        ids,
+        prices,
+        ENOUGH,
+    );
+    line(words, answer, visits, lengths, ids);
+}
+
+// With a van of id 0 at depot 0 and one of id 1 at depot 1.
+fn with_two_vans(
+    words: &[u8],
+    visits: &mut [u16],
+    lengths: [u16; 2],
+    ids: [u32; 2],
+    prices: [f64; 2],
+) {
+    let gaps = distances();
+    let mut own_lengths = lengths;
+    let mut own_ids = ids;
+    cross_depot(
+        words,
         &[1u8, 1, 0, 0, 0],
         &[1i32; 5],
-        &zeros,
-        &zeros,
-        &zeros,
-        &zeros,
+        &[0.0f64; 5],
         &gaps,
         &[],
         &[0u32, 1],
         &[0usize, 1],
         &[10i32; 2],
         &[1.0f64; 2],
-        &none,
         &[0u8; 2],
-        &none,
-        &none,
-        &none,
-        &none,
-        &none,
+        &[0.0f64; 2],
+        visits,
+        &mut own_lengths,
+        &mut own_ids,
+        &prices,
+    );
+}
+
+// With no van.
+fn with_no_van(
+    words: &[u8],
+    visits: &mut [u16],
+    lengths: [u16; 2],
+    ids: [u32; 2],
+    prices: [f64; 2],
+) {
+    let gaps = distances();
+    let mut own_lengths = lengths;
+    let mut own_ids = ids;
+    cross_depot(
+        words,
+        &[1u8, 1, 0, 0, 0],
+        &[1i32; 5],
+        &[0.0f64; 5],
+        &gaps,
+        &[],
+        &[],
+        &[],
+        &[],
+        &[],
+        &[],
+        &[],
+        visits,
+        &mut own_lengths,
+        &mut own_ids,
+        &prices,
+    );
+}
+
+// The lent price counts, not the list's own: at 0 nothing gains. An id that no van has stands for the first van.
+pub fn days() {
+    with_two_vans(
+        b"cross-depot of 2,3 and 4, prices 180 and 10:",
+        &mut [2u16, 3, 4],
+        [2, 1],
+        [0, 1],
+        [180.0, 10.0],
+    );
+    with_two_vans(
+        b"cross-depot of 3 and 4, prices 180 and 10:",
+        &mut [3u16, 4],
+        [1, 1],
+        [0, 1],
+        [180.0, 10.0],
+    );
+    with_two_vans(
+        b"cross-depot of 2,3 under van 7 and 4, prices 0 and 0:",
+        &mut [2u16, 3, 4],
+        [2, 1],
+        [7, 1],
+        [0.0, 0.0],
+    );
+    with_no_van(
+        b"cross-depot of 2,3 under van 7 and 4, no vans:",
+        &mut [2u16, 3, 4],
+        [2, 1],
+        [7, 1],
+        [180.0, 10.0],
+    );
+}
+
+// The refusal of lists 2,3 and 4 with this fleet, at these prices.
+fn refused_with(
+    words: &[u8],
+    flags: &[u8],
+    demand: &[i32],
+    zeros: &[f64],
+    gaps: &[f64],
+    times: &[f64],
+    van_ids: &[u32],
+    depots: &[usize],
+    capacities: &[i32],
+    costs: &[f64],
+    van_flags: &[u8],
+    none: &[f64],
+    prices: &[f64],
+) {
+    let number = planner::refusal::refusal_of_fleet(
+        5,
+        flags,
+        demand,
+        zeros,
+        zeros,
+        zeros,
+        zeros,
+        gaps,
+        times,
+        van_ids,
+        depots,
+        capacities,
+        costs,
+        none,
+        van_flags,
+        none,
+        none,
+        none,
+        none,
+        none,
         &[2u16, 3, 4],
         &[2u16, 1],
         &[0u32, 1],
@@ -225,7 +245,27 @@ fn refused(words: &[u8], prices: &[f64]) {
     text(words);
 }
 
-pub fn by_fleet() {
+// The same with a van at each depot.
+fn refused(words: &[u8], prices: &[f64]) {
+    let gaps = distances();
+    refused_with(
+        words,
+        &[1u8, 1, 0, 0, 0],
+        &[1i32; 5],
+        &[0.0f64; 5],
+        &gaps,
+        &[],
+        &[0u32, 1],
+        &[0usize, 1],
+        &[10i32; 2],
+        &[1.0f64; 2],
+        &[0u8; 2],
+        &[0.0f64; 2],
+        prices,
+    );
+}
+
+pub fn refusals() {
     refused(b": two lists, one price\n", &[180.0f64]);
     refused(b": a price of -1\n", &[-1.0f64, 10.0]);
 }

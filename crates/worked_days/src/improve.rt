@@ -47,26 +47,32 @@ fn improved(answer: Improved) {
     }
 }
 
-// The engine's run on the line. Where the flags of place 2 say so, it has a soft window from 0 to 20 with penalty 3.
-fn improve(engine: Engine, flag: u8, visits: &mut [u16], lengths: &[u16], limit: u32) -> Improved {
-    let flags = [1u8, 0, flag, 0, 0];
-    let demand = [1i32; 5];
-    let zeros = [0.0f64; 5];
-    let due = [0.0f64, 0.0, 20.0, 0.0, 0.0];
-    let penalty = [0.0f64, 0.0, 3.0, 0.0, 0.0];
-    let gaps = line::distances();
-    let van = line::van(0, 0.0, 0.0, 0.0);
+// The engine's run on these columns.
+fn run(
+    engine: Engine,
+    flags: &[u8],
+    demand: &[i32],
+    zeros: &[f64],
+    due: &[f64],
+    penalty: &[f64],
+    gaps: &[f64],
+    times: &[f64],
+    visits: &mut [u16],
+    lengths: &[u16],
+    limit: u32,
+) -> Improved {
+    let van = line::van();
     match engine {
         Engine::TwoOpt => planner::improve::two_opt_improve(
             5,
-            &flags,
-            &demand,
-            &zeros,
-            &zeros,
-            &due,
-            &penalty,
-            &gaps,
-            &[],
+            flags,
+            demand,
+            zeros,
+            zeros,
+            due,
+            penalty,
+            gaps,
+            times,
             van,
             visits,
             lengths,
@@ -75,14 +81,14 @@ fn improve(engine: Engine, flag: u8, visits: &mut [u16], lengths: &[u16], limit:
         ),
         Engine::OrOpt => planner::improve::or_opt_improve(
             5,
-            &flags,
-            &demand,
-            &zeros,
-            &zeros,
-            &due,
-            &penalty,
-            &gaps,
-            &[],
+            flags,
+            demand,
+            zeros,
+            zeros,
+            due,
+            penalty,
+            gaps,
+            times,
             van,
             visits,
             lengths,
@@ -91,14 +97,14 @@ fn improve(engine: Engine, flag: u8, visits: &mut [u16], lengths: &[u16], limit:
         ),
         Engine::ThreeOpt => planner::improve::three_opt_improve(
             5,
-            &flags,
-            &demand,
-            &zeros,
-            &zeros,
-            &due,
-            &penalty,
-            &gaps,
-            &[],
+            flags,
+            demand,
+            zeros,
+            zeros,
+            due,
+            penalty,
+            gaps,
+            times,
             van,
             visits,
             lengths,
@@ -106,6 +112,29 @@ fn improve(engine: Engine, flag: u8, visits: &mut [u16], lengths: &[u16], limit:
             limit,
         ),
     }
+}
+
+// The engine's run on the line. Where the flags of place 2 say so, it has a soft window from 0 to 20 with penalty 3.
+fn improve(engine: Engine, flag: u8, visits: &mut [u16], length: u16, limit: u32) -> Improved {
+    let flags = [1u8, 0, flag, 0, 0];
+    let demand = [1i32; 5];
+    let zeros = [0.0f64; 5];
+    let due = [0.0f64, 0.0, 20.0, 0.0, 0.0];
+    let penalty = [0.0f64, 0.0, 3.0, 0.0, 0.0];
+    let gaps = line::distances();
+    run(
+        engine,
+        &flags,
+        &demand,
+        &zeros,
+        &due,
+        &penalty,
+        &gaps,
+        &[],
+        visits,
+        &[length],
+        limit,
+    )
 }
 
 // The visits of a list, or that it has none.
@@ -118,98 +147,112 @@ fn list(visits: &[u16]) {
 }
 
 // One day: the list handed back, and how the run ended.
-fn day(words: &[u8], engine: Engine, flag: u8, visits: &mut [u16], lengths: &[u16], limit: u32) {
-    let answer = improve(engine, flag, visits, lengths, limit);
+fn day(words: &[u8], engine: Engine, flag: u8, visits: &mut [u16], length: u16, limit: u32) {
+    let answer = improve(engine, flag, visits, length, limit);
     text(words);
     list(visits);
     improved(answer);
 }
 
-fn none(words: &[u8], engine: Engine) {
-    let mut visits = [0u16; 1];
-    day(words, engine, OPEN, &mut visits[0..0], &[0u16], ENOUGH);
-}
-
-pub fn two_opt() {
-    let mut first = [2u16, 1, 3];
+fn two_opt() {
     day(
         b"2-opt of 2,1,3:",
         Engine::TwoOpt,
         OPEN,
-        &mut first,
-        &[3u16],
+        &mut [2u16, 1, 3],
+        3,
         ENOUGH,
     );
-    let mut second = [2u16, 1, 3];
     day(
         b"2-opt of 2,1,3, limit 0:",
         Engine::TwoOpt,
         OPEN,
-        &mut second,
-        &[3u16],
+        &mut [2u16, 1, 3],
+        3,
         0,
     );
-    let mut third = [3u16, 1, 2];
     day(
         b"2-opt of 3,1,2, place 2 due 20, penalty 3:",
         Engine::TwoOpt,
         SOFT,
-        &mut third,
-        &[3u16],
+        &mut [3u16, 1, 2],
+        3,
         ENOUGH,
     );
-    none(b"2-opt of the empty list:", Engine::TwoOpt);
+    day(
+        b"2-opt of the empty list:",
+        Engine::TwoOpt,
+        OPEN,
+        &mut [],
+        0,
+        ENOUGH,
+    );
 }
 
-pub fn or_opt() {
-    let mut first = [3u16, 1, 2];
+fn or_opt() {
     day(
         b"Or-opt of 3,1,2:",
         Engine::OrOpt,
         OPEN,
-        &mut first,
-        &[3u16],
+        &mut [3u16, 1, 2],
+        3,
         ENOUGH,
     );
-    let mut second = [3u16, 1, 2];
     day(
         b"Or-opt of 3,1,2, place 2 due 20, penalty 3:",
         Engine::OrOpt,
         SOFT,
-        &mut second,
-        &[3u16],
+        &mut [3u16, 1, 2],
+        3,
         ENOUGH,
     );
-    none(b"Or-opt of the empty list:", Engine::OrOpt);
+    day(
+        b"Or-opt of the empty list:",
+        Engine::OrOpt,
+        OPEN,
+        &mut [],
+        0,
+        ENOUGH,
+    );
 }
 
-pub fn three_opt() {
-    let mut first = [2u16, 1, 3];
+fn three_opt() {
     day(
         b"3-opt of 2,1,3:",
         Engine::ThreeOpt,
         OPEN,
-        &mut first,
-        &[3u16],
+        &mut [2u16, 1, 3],
+        3,
         ENOUGH,
     );
-    let mut second = [1u16, 3, 2, 4];
     day(
         b"3-opt of 1,3,2,4:",
         Engine::ThreeOpt,
         OPEN,
-        &mut second,
-        &[4u16],
+        &mut [1u16, 3, 2, 4],
+        4,
         ENOUGH,
     );
-    let mut third = [2u16, 4, 1, 3];
     day(
         b"3-opt of 2,4,1,3, place 2 due 20, penalty 3:",
         Engine::ThreeOpt,
         SOFT,
-        &mut third,
-        &[4u16],
+        &mut [2u16, 4, 1, 3],
+        4,
         ENOUGH,
     );
-    none(b"3-opt of the empty list:", Engine::ThreeOpt);
+    day(
+        b"3-opt of the empty list:",
+        Engine::ThreeOpt,
+        OPEN,
+        &mut [],
+        0,
+        ENOUGH,
+    );
+}
+
+pub fn days() {
+    two_opt();
+    or_opt();
+    three_opt();
 }

@@ -36,19 +36,29 @@ pub fn distances() -> [f64; 25]
     ]
 }
 
-// A van of depot 0 without cost or limits; bit 2 of the flags gives it the break.
-pub fn van(flags: u8, earliest: f64, latest: f64, duration: f64) -> Van {
+// A van of depot 0 without cost, limits or break.
+pub fn van() -> Van {
     Van {
         id: 1,
         depot: 0,
         capacity: 3,
         cost_per_distance: 0.0,
         fixed_cost: 0.0,
-        flags: flags,
+        flags: 0,
         max_distance: 0.0,
         max_duration: 0.0,
-        earliest: earliest,
-        latest: latest,
-        duration: duration,
+        earliest: 0.0,
+        latest: 0.0,
+        duration: 0.0,
     }
+}
+
+// The same with a break, which bit 2 of the flags gives it.
+pub fn van_with_break(earliest: f64, latest: f64, duration: f64) -> Van {
+    let mut van = van();
+    van.flags = 4;
+    van.earliest = earliest;
+    van.latest = latest;
+    van.duration = duration;
+    van
 }

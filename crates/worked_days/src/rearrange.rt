@@ -2,13 +2,7 @@
 use crate::line;
 use crate::print;
 use crate::print::text;
-use day::vehicle::Van;
 use planner::rearrange::Rearranged;
-
-enum Engine {
-    Relocate,
-    Exchange,
-}
 
 // More moves than any lists here take.
 const ENOUGH: u32 = 1000;
@@ -42,50 +36,8 @@ pub fn rearranged(answer: Rearranged) {
     }
 }
 
-// The engine's run on the line.
-fn rearrange(engine: Engine, van: Van, visits: &mut [u16], lengths: &mut [u16]) -> Rearranged {
-    let flags = [1u8, 0, 0, 0, 0];
-    let demand = [1i32; 5];
-    let zeros = [0.0f64; 5];
-    let gaps = line::distances();
-    match engine {
-        Engine::Relocate => planner::rearrange::relocate_improve(
-            5,
-            &flags,
-            &demand,
-            &zeros,
-            &zeros,
-            &zeros,
-            &zeros,
-            &gaps,
-            &[],
-            van,
-            visits,
-            lengths,
-            ENOUGH,
-            true,
-        ),
-        Engine::Exchange => planner::rearrange::exchange_improve(
-            5,
-            &flags,
-            &demand,
-            &zeros,
-            &zeros,
-            &zeros,
-            &zeros,
-            &gaps,
-            &[],
-            van,
-            visits,
-            lengths,
-            ENOUGH,
-        ),
-    }
-}
-
 // One day: all visits handed back, the length of each list behind them, and how the run ended.
-fn day(words: &[u8], engine: Engine, van: Van, visits: &mut [u16], lengths: &mut [u16]) {
-    let answer = rearrange(engine, van, visits, lengths);
+fn day(words: &[u8], visits: &[u16], lengths: &[u16], answer: Rearranged) {
     text(words);
     print::visits(visits);
     text(b", lengths");
@@ -93,36 +45,95 @@ fn day(words: &[u8], engine: Engine, van: Van, visits: &mut [u16], lengths: &mut
     rearranged(answer);
 }
 
-pub fn relocate() {
-    let mut visits = [1u16, 3, 2];
-    let mut lengths = [2u16, 1];
-    day(
-        b"relocate of 1,3 and 2:",
-        Engine::Relocate,
-        line::van(0, 0.0, 0.0, 0.0),
-        &mut visits,
-        &mut lengths,
+fn relocate(
+    words: &[u8],
+    flags: &[u8],
+    demand: &[i32],
+    zeros: &[f64],
+    gaps: &[f64],
+    times: &[f64],
+    visits: &mut [u16],
+    lengths: &mut [u16],
+) {
+    let answer = planner::rearrange::relocate_improve(
+        5,
+        flags,
+        demand,
+        zeros,
+        zeros,
+        zeros,
+        zeros,
+        gaps,
+        times,
+        line::van(),
+        visits,
+        lengths,
+        ENOUGH,
+        true,
     );
-    let mut only = [2u16, 1];
-    day(
-        b"relocate of 2,1 alone:",
-        Engine::Relocate,
-        line::van(0, 0.0, 0.0, 0.0),
-        &mut only,
-        &mut [2u16],
-    );
+    day(words, visits, lengths, answer);
 }
 
-pub fn exchange() {
-    let mut visits = [3u16, 1, 2, 4];
-    let mut lengths = [2u16, 2];
-    let mut van = line::van(0, 0.0, 0.0, 0.0);
+// With a van of capacity 2.
+fn exchange(
+    words: &[u8],
+    flags: &[u8],
+    demand: &[i32],
+    zeros: &[f64],
+    gaps: &[f64],
+    times: &[f64],
+    visits: &mut [u16],
+    lengths: &mut [u16],
+) {
+    let mut van = line::van();
     van.capacity = 2;
-    day(
-        b"tail exchange of 3,1 and 2,4, capacity 2:",
-        Engine::Exchange,
+    let answer = planner::rearrange::exchange_improve(
+        5,
+        flags,
+        demand,
+        zeros,
+        zeros,
+        zeros,
+        zeros,
+        gaps,
+        times,
         van,
-        &mut visits,
-        &mut lengths,
+        visits,
+        lengths,
+        ENOUGH,
+    );
+    day(words, visits, lengths, answer);
+}
+
+pub fn days(flags: &[u8], demand: &[i32], zeros: &[f64], gaps: &[f64], times: &[f64]) {
+    relocate(
+        b"relocate of 1,3 and 2:",
+        flags,
+        demand,
+        zeros,
+        gaps,
+        times,
+        &mut [1u16, 3, 2],
+        &mut [2u16, 1],
+    );
+    relocate(
+        b"relocate of 2,1 alone:",
+        flags,
+        demand,
+        zeros,
+        gaps,
+        times,
+        &mut [2u16, 1],
+        &mut [2u16],
+    );
+    exchange(
+        b"tail exchange of 3,1 and 2,4, capacity 2:",
+        flags,
+        demand,
+        zeros,
+        gaps,
+        times,
+        &mut [3u16, 1, 2, 4],
+        &mut [2u16, 2],
     );
 }

@@ -13,23 +13,24 @@ fn refused(
     l: usize,
     flags: &[u8],
     demand: &[i32],
+    zeros: &[f64],
     ready: &[f64],
     distances: &[f64],
+    times: &[f64],
     van: Van,
     visits: &[u16],
     lengths: &[u16],
 ) {
-    let zeros = [0.0f64; 5];
     let number = planner::refusal::refusal_of(
         l,
         flags,
         demand,
-        &zeros,
+        zeros,
         ready,
-        &zeros,
-        &zeros,
+        zeros,
+        zeros,
         distances,
-        &[],
+        times,
         van,
         visits,
         lengths,
@@ -40,109 +41,207 @@ fn refused(
     text(words);
 }
 
-fn of_day(words: &[u8], l: usize, flags: &[u8], demand: &[i32], ready: &[f64], distances: &[f64]) {
-    let van = line::van(0, 0.0, 0.0, 0.0);
+// With list 2,1,3 of a plain van.
+fn of_day(
+    words: &[u8],
+    l: usize,
+    flags: &[u8],
+    demand: &[i32],
+    zeros: &[f64],
+    ready: &[f64],
+    distances: &[f64],
+    times: &[f64],
+) {
     refused(
         words,
         l,
         flags,
         demand,
+        zeros,
         ready,
         distances,
-        van,
+        times,
+        line::van(),
         &[2u16, 1, 3],
         &[3u16],
     );
 }
 
-pub fn by_size() {
-    let flags = [1u8, 0, 0, 0, 0];
-    let demand = [1i32; 5];
-    let zeros = [0.0f64; 5];
-    let gaps = line::distances();
+fn by_size(flags: &[u8], demand: &[i32], zeros: &[f64], gaps: &[f64], times: &[f64]) {
     of_day(
         b": nothing, the line as it is\n",
         5,
-        &flags,
-        &demand,
-        &zeros,
-        &gaps,
+        flags,
+        demand,
+        zeros,
+        zeros,
+        gaps,
+        times,
     );
-    of_day(b": no locations\n", 0, &flags, &demand, &zeros, &gaps);
+    of_day(
+        b": no locations\n",
+        0,
+        flags,
+        demand,
+        zeros,
+        zeros,
+        gaps,
+        times,
+    );
     of_day(
         b": 4 locations, 5 flags\n",
         4,
-        &flags,
-        &demand,
-        &zeros,
-        &gaps,
+        flags,
+        demand,
+        zeros,
+        zeros,
+        gaps,
+        times,
     );
 }
 
-pub fn by_numbers() {
+fn by_numbers(demand: &[i32], zeros: &[f64], gaps: &[f64], times: &[f64]) {
     let flags = [1u8, 2, 0, 0, 0];
-    let demand = [1i32; 5];
-    let zeros = [0.0f64; 5];
-    let gaps = line::distances();
     of_day(
         b": distances of -1\n",
         5,
         &flags,
-        &demand,
-        &zeros,
+        demand,
+        zeros,
+        zeros,
         &[-1.0f64; 25],
+        times,
     );
-    of_day(b": demands of -1\n", 5, &flags, &[-1i32; 5], &zeros, &gaps);
+    of_day(
+        b": demands of -1\n",
+        5,
+        &flags,
+        &[-1i32; 5],
+        zeros,
+        zeros,
+        gaps,
+        times,
+    );
     of_day(
         b": place 1 ready at 1, due at 0\n",
         5,
         &flags,
-        &demand,
+        demand,
+        zeros,
         &[1.0f64; 5],
-        &gaps,
+        gaps,
+        times,
     );
 }
 
-fn of_van(words: &[u8], van: Van) {
-    let gaps = line::distances();
+fn of_van(
+    words: &[u8],
+    flags: &[u8],
+    demand: &[i32],
+    zeros: &[f64],
+    gaps: &[f64],
+    times: &[f64],
+    van: Van,
+) {
     refused(
         words,
         5,
-        &[1u8, 0, 0, 0, 0],
-        &[1i32; 5],
-        &[0.0f64; 5],
-        &gaps,
+        flags,
+        demand,
+        zeros,
+        zeros,
+        gaps,
+        times,
         van,
         &[2u16, 1, 3],
         &[3u16],
     );
 }
 
-pub fn by_van() {
-    let mut elsewhere = line::van(0, 0.0, 0.0, 0.0);
+fn by_van(flags: &[u8], demand: &[i32], zeros: &[f64], gaps: &[f64], times: &[f64]) {
+    let mut elsewhere = line::van();
     elsewhere.depot = 1;
-    of_van(b": the van's depot is place 1\n", elsewhere);
-    of_van(b": break from 20 to 19\n", line::van(4, 20.0, 19.0, 30.0));
-}
-
-fn of_lists(words: &[u8], visits: &[u16], lengths: &[u16]) {
-    let gaps = line::distances();
-    let van = line::van(0, 0.0, 0.0, 0.0);
-    refused(
-        words,
-        5,
-        &[1u8, 0, 0, 0, 0],
-        &[1i32; 5],
-        &[0.0f64; 5],
-        &gaps,
-        van,
-        visits,
-        lengths,
+    of_van(
+        b": the van's depot is place 1\n",
+        flags,
+        demand,
+        zeros,
+        gaps,
+        times,
+        elsewhere,
+    );
+    of_van(
+        b": break from 20 to 19\n",
+        flags,
+        demand,
+        zeros,
+        gaps,
+        times,
+        line::van_with_break(20.0, 19.0, 30.0),
     );
 }
 
-pub fn by_lists() {
-    of_lists(b": 3 visits, a list of 2\n", &[2u16, 1, 3], &[2u16]);
-    of_lists(b": visit 5\n", &[2u16, 1, 5], &[3u16]);
-    of_lists(b": office 1 twice\n", &[2u16, 1, 1], &[3u16]);
+fn of_lists(
+    words: &[u8],
+    flags: &[u8],
+    demand: &[i32],
+    zeros: &[f64],
+    gaps: &[f64],
+    times: &[f64],
+    visits: [u16; 3],
+    length: u16,
+) {
+    refused(
+        words,
+        5,
+        flags,
+        demand,
+        zeros,
+        zeros,
+        gaps,
+        times,
+        line::van(),
+        &visits,
+        &[length],
+    );
+}
+
+fn by_lists(flags: &[u8], demand: &[i32], zeros: &[f64], gaps: &[f64], times: &[f64]) {
+    of_lists(
+        b": 3 visits, a list of 2\n",
+        flags,
+        demand,
+        zeros,
+        gaps,
+        times,
+        [2, 1, 3],
+        2,
+    );
+    of_lists(
+        b": visit 5\n",
+        flags,
+        demand,
+        zeros,
+        gaps,
+        times,
+        [2, 1, 5],
+        3,
+    );
+    of_lists(
+        b": office 1 twice\n",
+        flags,
+        demand,
+        zeros,
+        gaps,
+        times,
+        [2, 1, 1],
+        3,
+    );
+}
+
+pub fn days(flags: &[u8], demand: &[i32], zeros: &[f64], gaps: &[f64], times: &[f64]) {
+    by_size(flags, demand, zeros, gaps, times);
+    by_numbers(demand, zeros, gaps, times);
+    by_van(flags, demand, zeros, gaps, times);
+    by_lists(flags, demand, zeros, gaps, times);
 }

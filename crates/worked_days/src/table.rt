@@ -23,26 +23,7 @@ fn known(scale: f64, symmetric: bool, fixed: f64, depots: usize) {
     text(b"\n");
 }
 
-pub fn table() {
-    let flags = [1u8, 0, 0, 0, 0];
-    let demand = [1i32; 5];
-    let zeros = [0.0f64; 5];
-    let gaps = line::distances();
-    let mut van = line::van(0, 0.0, 0.0, 0.0);
-    van.cost_per_distance = 2.0;
-    van.fixed_cost = 10.0;
-    let answer = planner::table::table_of(
-        5,
-        &flags,
-        &demand,
-        &zeros,
-        &zeros,
-        &zeros,
-        &zeros,
-        &gaps,
-        &[],
-        van,
-    );
+fn answered(answer: Table) {
     match answer {
         Table::Refused(_) => {
             text(b"refused\n");
@@ -57,4 +38,23 @@ pub fn table() {
             known(a, b, c, d);
         }
     }
+}
+
+pub fn table(flags: &[u8], demand: &[i32], zeros: &[f64], gaps: &[f64], times: &[f64]) {
+    let mut van = line::van();
+    van.cost_per_distance = 2.0;
+    van.fixed_cost = 10.0;
+    let answer = planner::table::table_of(
+        5,
+        flags,
+        demand,
+        zeros,
+        zeros,
+        zeros,
+        zeros,
+        gaps,
+        times,
+        van,
+    );
+    answered(answer);
 }

@@ -38,7 +38,13 @@ start-at-requires-2 : tie.Need-start-at-requires-2 Inv-loop μ-loop
 start-at-requires-2 c κs =
     let at-loop-test = c .before .before in
     let start = at-loop-test .before .before .before .before .before .before .before in
-    omega (arith, start .pre .1 .1 .0 .others-ordered _ (at-loop-test .loop-test .taken), start .pre .1 .1 .0 .others-within _ (at-loop-test .loop-test .taken), start .pre .0 .2 .few)
+    omega (
+      arith,
+      start .pre .1 .1 .0 .others-ordered _ (at-loop-test .loop-test .taken),
+      start .pre .1 .1 .0 .others-within _
+          (at-loop-test .loop-test .taken),
+      start .pre .0 .2 .few,
+    )
 
 end-at-requires-2 : tie.Need-end-at-requires-2 Inv-loop μ-loop
 end-at-requires-2 c κs =
@@ -58,7 +64,18 @@ fits-requires c κs =
     let d = at-start-at2 .start-at2 .ensures in
     let e = c .end-at2 .ensures in (
       (start .pre .0 .0, start .pre .0 .1 .0, start .pre .0 .2),
-      (start .pre .1 .0, (rw (a, b) (start .pre .1 .1 .0 .ordered _ (at-loop-test .loop-test .taken)), rw b (start .pre .1 .1 .0 .within _ (at-loop-test .loop-test .taken)), rw (d, e) (start .pre .1 .1 .0 .others-ordered _ (at-loop-test .loop-test .taken)), rw e (start .pre .1 .1 .0 .others-within _ (at-loop-test .loop-test .taken)))),
+      (
+        start .pre .1 .0,
+        (
+          rw (a, b) (start .pre .1 .1 .0 .ordered _ (at-loop-test .loop-test .taken)),
+          rw b
+              (start .pre .1 .1 .0 .within _ (at-loop-test .loop-test .taken)),
+          rw (d, e)
+              (start .pre .1 .1 .0 .others-ordered _ (at-loop-test .loop-test .taken)),
+          rw e
+              (start .pre .1 .1 .0 .others-within _ (at-loop-test .loop-test .taken)),
+        ),
+      ),
     )
 
 fits-requires-2 : tie.Need-fits-requires-2 Inv-loop μ-loop
@@ -76,7 +93,14 @@ fits-requires-2 c κs =
       (start .pre .0 .0, start .pre .0 .1 .1, two-turned _ _ _ (start .pre .0 .2)),
       (
         (start .pre .1 .0 .1, start .pre .1 .0 .0),
-        (rw (d, e) (start .pre .1 .1 .0 .others-ordered _ (at-loop-test .loop-test .taken)), rw e (start .pre .1 .1 .0 .others-within _ (at-loop-test .loop-test .taken)), rw (a, b) (start .pre .1 .1 .0 .ordered _ (at-loop-test .loop-test .taken)), rw b (start .pre .1 .1 .0 .within _ (at-loop-test .loop-test .taken))),
+        (
+          rw (d, e) (start .pre .1 .1 .0 .others-ordered _ (at-loop-test .loop-test .taken)),
+          rw e
+              (start .pre .1 .1 .0 .others-within _ (at-loop-test .loop-test .taken)),
+          rw (a, b)
+              (start .pre .1 .1 .0 .ordered _ (at-loop-test .loop-test .taken)),
+          rw b (start .pre .1 .1 .0 .within _ (at-loop-test .loop-test .taken)),
+        ),
       ),
     )
 
@@ -119,7 +143,8 @@ loop-again c =
     let at-loop = at-loop-test .before in
     let start = at-loop .before .before .before .before .before .before in
     filled-turns _ _ _ _ (at-loop .loop .inv) (omega (arith, at-loop-test .loop-test .taken, start .pre .1 .1 .0 .few))
-    (marked _ _ _ _ _ (start .args .own) (start .args .others) _ _ _ _ _ _ _ _ _ (at-start-at .start-at .ensures) (at-end-at .end-at .ensures) (at-start-at2 .start-at2 .ensures) (at-end-at2 .end-at2 .ensures)
+    (marked _ _ _ _ _ (start .args .own) (start .args .others) _ _ _ _ _ _ _ _ _ (at-start-at .start-at .ensures) (at-end-at .end-at .ensures)
+    (at-start-at2 .start-at2 .ensures) (at-end-at2 .end-at2 .ensures)
     (at-fits2 .fits2 .ensures) (at-fits3 .fits3 .ensures) (c .mark .ensures))
 
 same-length : tie.Need-same-length Inv-loop μ-loop

@@ -4,7 +4,7 @@ use mathlib.Core.Path.{sym, _∙_}
 use native.Mathlib.Omega.{arith}
 use lib.Dec.{ltb}
 use lib.ListN.{length}
-use Rattle.cross_runs.proofs.Going.{length-part}
+use Rattle.cross_steps.proofs.Parts.{length-part}
 use Rattle.cross_depot.proofs.Answering.{some-van, improves-as-given, improves-by-search}
 use Rattle.cross_depot.proofs.improve.Statement.{statement}
 use Rattle.cross_depot.proofs.improve.Tie as tie

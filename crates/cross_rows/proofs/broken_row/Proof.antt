@@ -6,7 +6,7 @@ use lib.ListN.{length-set}
 use borrow.Author.Needs.{needs}
 use Rattle.tests.specs.Pick.{yes, no}
 use Rattle.labels.specs.Columns.{columns}
-use Rattle.cross_prices.proofs.Candidates.{amount-costs, amount-none}
+use Rattle.cross_candidates.proofs.Candidates.{amount-costs, amount-none}
 use Rattle.cross_rows.proofs.Rows.{cost-skipped, cost-asked}
 use Rattle.cross_rows.proofs.Rows.{Costing, costing-starts, costing-turns, costing-turns-twice, costing-ends}
 use Rattle.cross_rows.proofs.broken_row.Statement.{statement}

@@ -38,7 +38,18 @@ refuse-unless-requires-3 c κs = search needs
 returns : tie.Need-returns
 unfolding contentsRefusal
 returns c =
-    rw (c .refuse-unless3 .ensures, c .before .refuse-unless2 .ensures, c .before .before .refuse-unless .ensures, c .before .before .before .windows-ok .ensures, c .before .before .before .before .both2 .ensures, c .before .before .before .before .before .depots-lead .ensures, c .before .before .before .before .before .before .locations-ok .ensures, c .before .before .before .before .before .before .before .both .ensures, c .before .before .before .before .before .before .before .before .all-plain2 .ensures, c .before .before .before .before .before .before .before .before .before .all-plain .ensures)
+    rw (
+      c .refuse-unless3 .ensures,
+      c .before .refuse-unless2 .ensures,
+      c .before .before .refuse-unless .ensures,
+      c .before .before .before .windows-ok .ensures,
+      c .before .before .before .before .both2 .ensures,
+      c .before .before .before .before .before .depots-lead .ensures,
+      c .before .before .before .before .before .before .locations-ok .ensures,
+      c .before .before .before .before .before .before .before .both .ensures,
+      c .before .before .before .before .before .before .before .before .all-plain2 .ensures,
+      c .before .before .before .before .before .before .before .before .before .all-plain .ensures,
+    )
 
 pub contents-refusal-spec : {M : Type 1} → statement M
 contents-refusal-spec =

@@ -28,7 +28,15 @@ both-requires-6 c κs = search needs
 returns : tie.Need-returns
 unfolding lengthsOk
 returns c =
-    rw (c .both6 .ensures, c .before .both5 .ensures, c .before .before .both4 .ensures, c .before .before .before .both3 .ensures, c .before .before .before .before .both2 .ensures, c .before .before .before .before .before .both .ensures, c .before .before .before .before .before .before .tables-ok .ensures)
+    rw (
+      c .both6 .ensures,
+      c .before .both5 .ensures,
+      c .before .before .both4 .ensures,
+      c .before .before .before .both3 .ensures,
+      c .before .before .before .before .both2 .ensures,
+      c .before .before .before .before .before .both .ensures,
+      c .before .before .before .before .before .before .tables-ok .ensures,
+    )
 
 pub lengths-ok-spec : {M : Type 1} → statement M
 lengths-ok-spec =

@@ -49,7 +49,12 @@ is-plain-requires-4 : tie.Need-is-plain-requires-4
 is-plain-requires-4 c κs = search needs
 
 returns : tie.Need-returns
-returns c = rw (c .before .before .before .before .before .before .is-plain .ensures, c .before .before .before .before .is-plain2 .ensures, c .before .before .is-plain3 .ensures, c .is-plain4 .ensures)
+returns c = rw (
+  c .before .before .before .before .before .before .is-plain .ensures,
+  c .before .before .before .before .is-plain2 .ensures,
+  c .before .before .is-plain3 .ensures,
+  c .is-plain4 .ensures,
+)
 
 pub four-plain-spec : {M : Type 1} → statement M
 four-plain-spec =

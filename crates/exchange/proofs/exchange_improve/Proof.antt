@@ -5,8 +5,8 @@ use mir.Syntax.{w32}
 use mir.ValLaws.{toZ-ofZ}
 use Rattle.numbers.specs.Floor.{gainFloor}
 use Rattle.descent.specs.Engines.{run-of}
-use Rattle.exchange.specs.Exchange.{passesOf, judgeOf}
-use Rattle.exchange.proofs.Tables.{edited-length}
+use Rattle.exchange_sweeps.specs.Exchange.{passesOf, judgeOf}
+use Rattle.exchange_sweeps.proofs.Tables.{edited-length}
 use Rattle.exchange.proofs.exchange_improve.Statement.{statement}
 use Rattle.exchange.proofs.exchange_improve.Tie as tie
 

@@ -25,7 +25,14 @@ both-requires-3 c κs = search needs
 returns : tie.Need-returns
 unfolding fleetOk columnsOk
 returns c =
-    rw (c .both3 .ensures, c .before .both2 .ensures, c .before .before .both .ensures, c .before .before .before .list-columns-ok .ensures, c .before .before .before .before .limit-columns-ok .ensures, c .before .before .before .before .before .cost-columns-ok .ensures)
+    rw (
+      c .both3 .ensures,
+      c .before .both2 .ensures,
+      c .before .before .both .ensures,
+      c .before .before .before .list-columns-ok .ensures,
+      c .before .before .before .before .limit-columns-ok .ensures,
+      c .before .before .before .before .before .cost-columns-ok .ensures,
+    )
 
 pub fleet-ok-spec : {M : Type 1} → statement M
 fleet-ok-spec =

@@ -41,8 +41,12 @@ cast-visit c =
 
 get-requires : tie.Need-get-requires Inv-loop μ-loop
 get-requires c κs =
-    let pre = c .before .before .before .before .before .before .before .before .before .before .before .before .pre in
-    (pre .0 .tables .of-distances, c .before .before .loop .inv .2, pre .1 .1 .below (c .before .before .loop .i) (omega (arith, c .before .loop-test .taken, pre .1 .3)))
+    let pre = c .before .before .before .before .before .before .before .before .before .before .before .before .pre in (
+      pre .0 .tables .of-distances,
+      c .before .before .loop .inv .2,
+      pre .1 .1 .below (c .before .before .loop .i)
+          (omega (arith, c .before .loop-test .taken, pre .1 .3)),
+    )
 
 travel-time-requires : tie.Need-travel-time-requires Inv-loop μ-loop
 travel-time-requires c κs =

@@ -29,7 +29,8 @@ drive-requires c κs =
 returns : tie.Need-returns
 returns c =
     let pre = c .before .before .before .before .before .before .before .before .before .before .before .pre in
-    drives-on _ _ _ _ _ _ _ _ _ (pre .1 .0 .0) (pre .1 .0 .2) (pre .1 .1) (c .before .before .shared-visits .ensures) (c .before .nearest-start .ensures) (c .drive .ensures)
+    drives-on _ _ _ _ _ _ _ _ _ (pre .1 .0 .0) (pre .1 .0 .2) (pre .1 .1) (c .before .before .shared-visits .ensures) (c .before .nearest-start .ensures)
+    (c .drive .ensures)
 
 pub reach-spec : {M : Type 1} → statement M
 reach-spec =

@@ -1,4 +1,4 @@
--- `push`, by hand: the borrow is opened, the clock that stands there is passed to evaluation's `push` by value, what comes back is stored over it, and the
+-- `push`, by hand: the borrow is opened, the clock that stands there is passed to break_clock's `push` by value, what comes back is stored over it, and the
 -- borrow is closed at that clock. True because both callees meet their contracts, and nothing else of them is used. The slices can be copied: what they own
 -- is had twice, and one copy is kept for the exit. A clock owns only facts, so what it owns is made anew where it is asked for again. Assumes nothing.
 use mathlib.Core.Path.{_≡_, refl}
@@ -203,7 +203,7 @@ module _ {M : Type 1} (𝓤 : URA M) (H : Heap 𝓤) (A : Atoms 𝓤) (W : Given
       )
       (a .1) (vals .1)
 
-  -- the call of evaluation's `push`: what it asks, and what it says
+  -- the call of break_clock's `push`: what it asks, and what it says
   abbrev passed : Args push.signature κs
   passed = (clock, a .1)
 

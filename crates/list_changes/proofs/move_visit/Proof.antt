@@ -1,4 +1,5 @@
--- `list_changes::move_visit` meets its contract: both places lie in the table, and proofs/Across.antt has what the two edits make of the lists. Assumes nothing.
+-- `list_changes::move_visit` meets its contract: both places lie in the table, and proofs/Across.antt has what the two edits make of the lists. Assumes
+-- nothing.
 use native.Mathlib.Omega.{arith}
 use borrow.Author.Needs.{needs}
 use Rattle.list_changes.proofs.Across.{relocation-room, relocate-edited}

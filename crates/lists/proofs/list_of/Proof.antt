@@ -25,7 +25,12 @@ add-end c =
 
 mul-result : tie.Need-mul-result
 mul-result c =
-    omega (arith, list-within _ _ (c .before .before .before .before .pre .0) (c .before .before .before .before .args .r), c .before .start-of .ensures, c .length-of .ensures .0)
+    omega (
+      arith,
+      list-within _ _ (c .before .before .before .before .pre .0) (c .before .before .before .before .args .r),
+      c .before .start-of .ensures,
+      c .length-of .ensures .0,
+    )
 
 sub-result : tie.Need-sub-result
 sub-result c = search needs
@@ -35,7 +40,12 @@ part-result-start c = search needs
 
 part-result-end : tie.Need-part-result-end
 part-result-end c =
-    omega (arith, list-within _ _ (c .before .before .before .before .pre .0) (c .before .before .before .before .args .r), c .before .start-of .ensures, c .length-of .ensures .0)
+    omega (
+      arith,
+      list-within _ _ (c .before .before .before .before .pre .0) (c .before .before .before .before .args .r),
+      c .before .start-of .ensures,
+      c .length-of .ensures .0,
+    )
 
 returns : tie.Need-returns
 returns c = part-is _ _ _ _ _ (c .before .before .start-of .ensures) (ap₂ _+_ (c .before .before .start-of .ensures) (c .before .length-of .ensures .0))

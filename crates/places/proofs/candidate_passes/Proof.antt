@@ -41,7 +41,8 @@ passes-requires c κs =
       (
         start .pre .0 .depot-there,
         rw (front (at-inserted-into .inserted-into .result) (at-inserted-into .inserted-into .last .0) _ (at-inserted-into .inserted-into .ensures .1))
-            (visits-inserted _ (start .args .list .now) (start .args .visit) (start .args .place) (start .pre .1 .1 .0) (start .pre .1 .1 .1) (start .pre .1 .1 .2)),
+            (visits-inserted _ (start .args .list .now) (start .args .visit) (start .args .place) (start .pre .1 .1 .0) (start .pre .1 .1 .1)
+            (start .pre .1 .1 .2)),
       ),
     )
 

@@ -1,39 +1,19 @@
--- `planner_table`: one arm for each case of the entry's answer; a refusal writes nothing.
+-- `planner_table`: the entry's answer, written out.
 use borrow.Author.Needs.{needs}
-use mathlib.Core.Path.{refl}
-use Rattle.written.specs.Written.{tableCode, scaleIn, floorIn, symmetricIn, fixedIn, depotsIn}
 use Rattle.planner_c.proofs.planner_table.Statement.{statement}
 use Rattle.planner_c.proofs.planner_table.Tie as tie
 
 table-of-requires : tie.Need-table-of-requires
 table-of-requires c κs = search needs
 
-enum-known-answer : tie.Need-enum-known-answer
-enum-known-answer c = search needs
-
-enum-known-answer-2 : tie.Need-enum-known-answer-2
-enum-known-answer-2 c = search needs
-
-bit-of-requires : tie.Need-bit-of-requires
-bit-of-requires c κs = search needs
+write-table-requires : tie.Need-write-table-requires
+write-table-requires c κs = search needs
 
 returns : tie.Need-returns
-unfolding tableCode scaleIn floorIn symmetricIn fixedIn depotsIn
-returns c = rw (← c .before .before .before .table-of .ensures, c .before .answer .given .1) (refl, refl, refl, refl, refl, refl)
-
-returns-2 : tie.Need-returns-2
-unfolding tableCode scaleIn floorIn symmetricIn fixedIn depotsIn
-returns-2 c =
-    rw (← c .before .before .before .before .table-of .ensures, c .before .before .answer2 .given .1)
-    (refl, refl, refl, c .bit-of .ensures, refl, refl)
+returns c =
+    let e = c .before .before .before .before .before .before .table-of .ensures in
+    let w = c .write-table .ensures in
+    rw (← e) (w .0, w .1, w .2, w .3, w .4, w .5)
 
 pub planner-table-spec : {M : Type 1} → statement M
-planner-table-spec =
-    tie.close
-    (tie.spec
-    table-of-requires
-    enum-known-answer
-    enum-known-answer-2
-    bit-of-requires
-    returns
-    returns-2)
+planner-table-spec = tie.close (tie.spec table-of-requires write-table-requires returns)

@@ -17,8 +17,18 @@ make-moves-requires c κs =
     let at-search-all = further .before .before .before .before .before .before .before .before .before .before in
     let further2 = at-search-all .before .before .before .before .before .before .before .before .before .before in
     let further3 = further2 .before .before .before .before .before .before .before .before .before .before in
-    let start = further3 .before .before .before .before in
-    (start .pre .0, ((start .pre .1 .0 .0, start .pre .1 .0 .1, omega (arith, at-search-all .search-all .kept .1 .1 .1 .1 .1 .1 .1 .1 .1 .1 .1 .0, start .pre .1 .0 .2)), (at-search-all .search-all .ensures .1, at-search-all .search-all .ensures .0)))
+    let start = further3 .before .before .before .before in (
+      start .pre .0,
+      (
+        (
+          start .pre .1 .0 .0,
+          start .pre .1 .0 .1,
+          omega
+              (arith, at-search-all .search-all .kept .1 .1 .1 .1 .1 .1 .1 .1 .1 .1 .1 .0, start .pre .1 .0 .2),
+        ),
+        (at-search-all .search-all .ensures .1, at-search-all .search-all .ensures .0),
+      ),
+    )
 
 same-length : tie.Need-same-length
 same-length c =
@@ -70,7 +80,8 @@ same-length-7 c =
     let at-make-moves = further .before .before .before .before .before .before in
     let further2 = at-make-moves .before .before .before .before .before .before .before .before .before .before in
     let at-search-all = further2 .before .before .before .before .before .before .before .before .before .before .before in
-    at-make-moves .make-moves .kept .1 .1 .1 .1 .1 .1 .1 .1 .1 .1 .1 .1 .1 .1 .1 .0 ∙ at-search-all .search-all .kept .1 .1 .1 .1 .1 .1 .1 .1 .1 .1 .1 .1 .1 .1 .1 .0
+    at-make-moves .make-moves .kept .1 .1 .1 .1 .1 .1 .1 .1 .1 .1 .1 .1 .1 .1 .1 .0 ∙
+    at-search-all .search-all .kept .1 .1 .1 .1 .1 .1 .1 .1 .1 .1 .1 .1 .1 .1 .1 .0
 
 same-length-8 : tie.Need-same-length-8
 same-length-8 c =
@@ -78,7 +89,8 @@ same-length-8 c =
     let at-make-moves = further .before .before .before .before .before .before in
     let further2 = at-make-moves .before .before .before .before .before .before .before .before .before .before in
     let at-search-all = further2 .before .before .before .before .before .before .before .before .before .before .before in
-    at-make-moves .make-moves .kept .1 .1 .1 .1 .1 .1 .1 .1 .1 .1 .1 .1 .1 .1 .1 .1 .0 ∙ at-search-all .search-all .kept .1 .1 .1 .1 .1 .1 .1 .1 .1 .1 .1 .1 .1 .1 .1 .1 .0
+    at-make-moves .make-moves .kept .1 .1 .1 .1 .1 .1 .1 .1 .1 .1 .1 .1 .1 .1 .1 .1 .0 ∙
+    at-search-all .search-all .kept .1 .1 .1 .1 .1 .1 .1 .1 .1 .1 .1 .1 .1 .1 .1 .1 .0
 
 returns : tie.Need-returns
 returns c =

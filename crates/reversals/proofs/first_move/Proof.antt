@@ -5,7 +5,8 @@ use native.Mathlib.Omega.{arith}
 use mathlib.Core.Path.{_≡_, refl, ap, _∙_}
 use lib.ListN.{length}
 use Rattle.labels.specs.Columns.{columns}
-use Rattle.reversals.specs.Reversals.{InSweep, Shared, from, firstTurn, leaves, Inside}
+use Rattle.reversal_places.specs.Places.{Shared}
+use Rattle.reversals.specs.Reversals.{InSweep, from, firstTurn, leaves, Inside}
 use Rattle.reversals.proofs.Places.{left-less, still-in, none-shared, still-behind}
 use Rattle.reversals.proofs.Turns.{found-here, not-here, none-left}
 use Rattle.reversals.proofs.first_move.Statement.{statement}

@@ -8,9 +8,9 @@ use Rattle.labels.specs.Columns.{columns, Visits}
 use Rattle.evaluation.specs.Route.{effectiveCost}
 use Rattle.descent.specs.Search.{Sweep}
 use Rattle.soft.specs.Soft.{soft-run}
-use Rattle.soft.proofs.Choice.{known-at}
+use Rattle.soft_neighbours.proofs.Choice.{known-at}
 use Rattle.neighbours.proofs.Layouts.{made-kept}
-use Rattle.soft.proofs.Passes.{step, at, no-step, one-step}
+use Rattle.soft.proofs.Moves.{step, at, no-step, one-step}
 use Rattle.descent.proofs.Going.{Going, going-starts, going-moves}
 use Rattle.engine.proofs.Running.{going-settles, going-stops}
 use borrow.Author.Needs.{needs}

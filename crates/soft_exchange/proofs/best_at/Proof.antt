@@ -1,7 +1,7 @@
 -- `best_at`: the two lists are those of the tables, and the best of their exchanges is what the definition takes.
 use native.Mathlib.Omega.{arith}
 use Rattle.soft_exchange.proofs.Choosing.{best-at}
-use Rattle.exchange.proofs.Tables.{two-lists}
+use Rattle.exchange_sweeps.proofs.Tables.{two-lists}
 use Rattle.soft_exchange.proofs.best_at.Statement.{statement}
 use Rattle.soft_exchange.proofs.best_at.Tie as tie
 

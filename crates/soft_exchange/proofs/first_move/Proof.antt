@@ -5,10 +5,10 @@ use lib.ListN.{length}
 use Rattle.labels.specs.Columns.{columns}
 use Rattle.lists.specs.Table.{lists}
 use Rattle.lists.proofs.Tables.{length-lists}
-use Rattle.exchange.specs.Exchange.{from, InSweep}
+use Rattle.exchange_sweeps.specs.Exchange.{from, InSweep}
 use Rattle.soft_tails.specs.Parts.{firstAt}
-use Rattle.exchange.proofs.Places.{still-in, left-less}
-use Rattle.exchange.proofs.Moves.{found-here, not-here, none-left, apt}
+use Rattle.exchange_sweeps.proofs.Places.{still-in, left-less}
+use Rattle.exchange_sweeps.proofs.Moves.{found-here, not-here, none-left, apt}
 use Rattle.soft_exchange.proofs.first_move.Statement.{statement}
 use Rattle.soft_exchange.proofs.first_move.Tie as tie
 

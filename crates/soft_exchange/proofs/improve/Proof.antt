@@ -4,7 +4,7 @@ use mathlib.Core.Path.{ap, _∙_}
 use mir.Syntax.{w32}
 use mir.ValLaws.{toZ-ofZ}
 use Rattle.numbers.specs.Floor.{gainFloor}
-use Rattle.exchange.proofs.Tables.{edited-length}
+use Rattle.exchange_sweeps.proofs.Tables.{edited-length}
 use Rattle.soft_exchange.specs.SoftExchange.{soft-exchange-run}
 use Rattle.soft_tails.specs.Parts.{passesOf, judgeOf}
 use Rattle.soft_exchange.proofs.improve.Statement.{statement}

@@ -1,8 +1,8 @@
 -- `next_move`: the first move ahead in this sweep or, where there is none, the first of a new one.
 use native.Mathlib.Omega.{arith}
 use Rattle.lists.proofs.Tables.{length-lists}
-use Rattle.exchange.proofs.Places.{start-in}
-use Rattle.exchange.proofs.Moves.{is-ahead, is-anew}
+use Rattle.exchange_sweeps.proofs.Places.{start-in}
+use Rattle.exchange_sweeps.proofs.Moves.{is-ahead, is-anew}
 use Rattle.soft_exchange.proofs.next_move.Statement.{statement}
 use Rattle.soft_exchange.proofs.next_move.Tie as tie
 

@@ -12,7 +12,7 @@ use Rattle.descent.proofs.Going.{going-starts}
 use Rattle.list_changes.proofs.Edited.{edited-none}
 use Rattle.pairs.proofs.Going.{edited-again}
 use Rattle.loads.specs.Loads.{Held}
-use Rattle.soft_relocate.specs.Running.{AllRight}
+use Rattle.soft_relocations.specs.Relocations.{AllRight}
 use Rattle.loads.proofs.Tables.{still-held}
 use Rattle.soft_relocate.proofs.Running.{Running, least-taken, least-there, after-move, answers-settled, answers-stopped, goes-on}
 use Rattle.soft_relocate.proofs.descend.Statement.{statement}
@@ -42,8 +42,18 @@ loop-holds : tie.Need-loop-holds Inv-loop μ-loop
 loop-holds c =
     let at-search-all = c .before .before .before .before .before .before .before .before in
     let further = at-search-all .before .before .before .before .before .before .before .before .before .before in
-    let start = further .before .before .before .before .before .before .before .before .before .before in
-    (going-starts _ _ _, edited-none _ _ (start .pre .1 .0 .1 .laid), start .pre .1 .0 .1, at-search-all .search-all .ensures, refl, refl, refl, refl, refl, refl)
+    let start = further .before .before .before .before .before .before .before .before .before .before in (
+      going-starts _ _ _,
+      edited-none _ _ (start .pre .1 .0 .1 .laid),
+      start .pre .1 .0 .1,
+      at-search-all .search-all .ensures,
+      refl,
+      refl,
+      refl,
+      refl,
+      refl,
+      refl,
+    )
 
 best-pair-requires : tie.Need-best-pair-requires Inv-loop μ-loop
 best-pair-requires c κs =

@@ -3,7 +3,7 @@ use borrow.Author.Needs.{needs}
 use mathlib.Core.Path.{ap, _∙_}
 use Rattle.evaluation.specs.Route.{effectiveCost}
 use Rattle.edits.proofs.Cuts.{front}
-use Rattle.tails.proofs.Joined.{visits-joined, built}
+use Rattle.tail_candidates.proofs.Joined.{visits-joined, built}
 use Rattle.tail_prices.proofs.joined_cost.Statement.{statement}
 use Rattle.tail_prices.proofs.joined_cost.Tie as tie
 

@@ -7,7 +7,8 @@ use Rattle.edits.specs.Total.{total}
 use Rattle.labels.specs.Columns.{columns}
 use Rattle.descent.specs.Order.{range, scan}
 use Rattle.loads.specs.Loads.{boxesOf}
-use Rattle.tails.specs.Best.{better, bestRow, rowBy}
+use Rattle.tail_candidates.specs.Candidate.{better}
+use Rattle.tails.specs.Best.{bestRow, rowBy}
 use Rattle.descent.proofs.Loops.{scan-done}
 use Rattle.tails.proofs.Turns.{cut-turn}
 use Rattle.loads.proofs.Boxes.{load-small, load-more, load-joined, sum-small, head-small}

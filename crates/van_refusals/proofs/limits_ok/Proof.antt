@@ -34,7 +34,17 @@ both-requires-3 c κs = search needs
 returns : tie.Need-returns
 unfolding limitsOk
 returns c =
-    rw (c .both3 .ensures, c .before .both2 .ensures, c .before .before .both .ensures, c .before .before .before .break-ok .ensures, c .before .before .before .before .flag2 .ensures, c .before .before .before .before .before .present-ok2 .ensures, c .before .before .before .before .before .before .flag1 .ensures, c .before .before .before .before .before .before .before .present-ok .ensures, c .before .before .before .before .before .before .before .before .flag0 .ensures)
+    rw (
+      c .both3 .ensures,
+      c .before .both2 .ensures,
+      c .before .before .both .ensures,
+      c .before .before .before .break-ok .ensures,
+      c .before .before .before .before .flag2 .ensures,
+      c .before .before .before .before .before .present-ok2 .ensures,
+      c .before .before .before .before .before .before .flag1 .ensures,
+      c .before .before .before .before .before .before .before .present-ok .ensures,
+      c .before .before .before .before .before .before .before .before .flag0 .ensures,
+    )
 
 pub limits-ok-spec : {M : Type 1} → statement M
 limits-ok-spec =

@@ -20,7 +20,12 @@ refuse-unless-requires-2 c κs = search needs
 returns : tie.Need-returns
 unfolding isDepot vanRefusal
 returns c =
-    rw (c .refuse-unless2 .ensures, c .before .refuse-unless .ensures, c .before .before .van-ok .ensures, c .before .before .before .before .num-depots .ensures)
+    rw (
+      c .refuse-unless2 .ensures,
+      c .before .refuse-unless .ensures,
+      c .before .before .van-ok .ensures,
+      c .before .before .before .before .num-depots .ensures,
+    )
 
 pub van-refusal-spec : {M : Type 1} → statement M
 van-refusal-spec =

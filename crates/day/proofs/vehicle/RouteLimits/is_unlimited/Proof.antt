@@ -22,7 +22,13 @@ both-requires-2 c κs = search needs
 returns : tie.Need-returns
 unfolding isUnlimited
 returns c =
-    rw (c .both2 .ensures, c .before .both .ensures, c .before .before .is-no-rest .ensures, c .before .before .before .is-no-limit2 .ensures, c .before .before .before .before .is-no-limit .ensures)
+    rw (
+      c .both2 .ensures,
+      c .before .both .ensures,
+      c .before .before .is-no-rest .ensures,
+      c .before .before .before .is-no-limit2 .ensures,
+      c .before .before .before .before .is-no-limit .ensures,
+    )
 
 pub is-unlimited-spec : {M : Type 1} → statement M
 is-unlimited-spec =

@@ -22,7 +22,13 @@ rest-of-requires c κs = search needs
 returns : tie.Need-returns
 unfolding limitsOf
 returns c =
-    rw (c .rest-of .ensures, c .before .limit-if2 .ensures, c .before .before .flag1 .ensures, c .before .before .before .limit-if .ensures, c .before .before .before .before .flag0 .ensures)
+    rw (
+      c .rest-of .ensures,
+      c .before .limit-if2 .ensures,
+      c .before .before .flag1 .ensures,
+      c .before .before .before .limit-if .ensures,
+      c .before .before .before .before .flag0 .ensures,
+    )
 
 pub of-spec : {M : Type 1} → statement M
 of-spec =

@@ -1,0 +1,4 @@
+pub mod Choosing
+pub mod Places
+pub mod Tables
+pub mod Moves

@@ -1,0 +1,2 @@
+pub mod SoftSearch
+pub mod Chosen
