@@ -32,7 +32,8 @@ ghost use Rattle.engine.specs.Engine.{endedAs};
 ghost use Rattle.loads.specs.Loads.{Loaded, Held};
 ghost use Rattle.exchange_sweeps.specs.Exchange.{pairAt, movedBy, from, InSweep, leads, Apt};
 ghost use Rattle.soft_exchange.specs.SoftExchange.{soft-exchange-run};
-ghost use Rattle.soft_tails.specs.Parts.{Asked, takenAt, firstAt, nextOf};
+ghost use Rattle.soft_tail_candidates.specs.Candidate.{Asked};
+ghost use Rattle.soft_tails.specs.Parts.{takenAt, firstAt, nextOf};
 
 // The exchange to take at a pair of lists.
 fn best_at(

@@ -33,9 +33,10 @@ use Rattle.soft_places.specs.Places.{priceOf, taken-at, offerDelta, better, bes
 use Rattle.soft_places.specs.declared.Setup.{Setup}
 use Rattle.soft_places.specs.declared.Offer.{Offer}
 use Rattle.edits.proofs.Kept.{total-inserted}
-use Rattle.soft_offers.specs.Offers.{searchOf, judgeOf, bound, intoList, Known, offerOf, mayGo}
-use Rattle.soft_offers.specs.Offers.{bestOffer, bestOffers, pairOf, bestPriced, scan, Best, Scanned}
-use Rattle.soft_offers.specs.declared.Pair.{Pair}
+use Rattle.soft_visit_offers.specs.Offer.{Known, offerOf, mayGo, bestOffer}
+use Rattle.soft_visit_offers.specs.declared.Pair.{Pair}
+use Rattle.soft_offers.specs.Offers.{searchOf, judgeOf, bound, intoList}
+use Rattle.soft_offers.specs.Offers.{bestOffers, pairOf, bestPriced, scan, Best, Scanned}
 
 module _ (c : Columns) (demand : List ℤ) (s : Setup) (visits lengths : List ℕ) where
   abbrev ls : List (List ℕ)

@@ -1,19 +1,17 @@
--- The search of a pair of lists as the code goes about it: what a run keeps at hand, the candidates by visit, and the best so far.
+-- The search of a pair of lists as the code goes about it: the candidates by visit, and the best so far.
 -- For the contracts of src/ and of `soft_relocate`; the engine's own search and judging are in soft_places/specs/Prices.antt. Assumes nothing.
 use mathlib.Core.Path.{_≡_}
-use mathlib.Core.Bool.{Bool, true, cond, _&&_}
+use mathlib.Core.Bool.{cond, _&&_}
 use mathlib.Core.Option.{Option}
 use mathlib.Core.List.{List, [], _∷_, map}
-use Prim.Native.Nat.{ℕ, suc, _+_, _<_}
-use lib.Dec.{leb, eqb}
+use Prim.Native.Nat.{ℕ, suc}
 use lib.IntN.{ℤ}
-use lib.ListN.{length, getD}
+use lib.ListN.{length}
 use lib.Ieee.{Float, neg}
 use lib.Ieee.Scale.{finite}
 use Rattle.edits.specs.Total.{total}
 use Rattle.lists.specs.Table.{lists}
-use Rattle.labels.specs.Columns.{Columns, Visits}
-use Rattle.deltas.specs.Changes.{fixedIf}
+use Rattle.labels.specs.Columns.{Columns}
 use Rattle.descent.specs.Order.{range}
 use Rattle.descent.specs.Search.{Search, Judge}
 use Rattle.descent.specs.Across.{at, Relocation}
@@ -21,19 +19,11 @@ use Rattle.descent.specs.Scan.{onward, figure, Counted}
 use Rattle.pairs.specs.Pairs.{moveOf, nothing, IsBest}
 use Rattle.pairs.specs.declared.Choice.{Choice}
 use Rattle.loads.specs.Loads.{boxesOf, measureOf}
-use Rattle.soft_places.specs.Prices.{givingDelta, soft-relocate-search, soft-relocate-judge}
-use Rattle.soft_places.specs.Places.{priceOf, bestAmong}
+use Rattle.soft_places.specs.Prices.{soft-relocate-search, soft-relocate-judge}
+use Rattle.soft_places.specs.Places.{priceOf}
 use Rattle.soft_places.specs.declared.Setup.{Setup}
-use Rattle.soft_places.specs.declared.Offer.{Offer}
-use Rattle.soft_offers.specs.declared.Pair.{Pair}
-
--- ---- what a run asks
-
--- two lists of the tables, the second with room for one visit more
-pub record TwoOf (l : ℕ) (X Y : List ℕ) : Type 0 where
-  pub gives : Visits l X
-  pub takes : Visits l Y
-  pub room-there : length Y < 63
+use Rattle.soft_visit_offers.specs.Offer.{bestOffer}
+use Rattle.soft_visit_offers.specs.declared.Pair.{Pair}
 
 -- ---- the engine's search and judging
 
@@ -58,41 +48,11 @@ intoList ls from to position =
 
 -- ---- a pair of lists
 
--- what is known of it: both are priced, and the receiver's boxes are counted
-pub record Known (c : Columns) (demand : List ℤ) (s : Setup) (X Y : List ℕ) (pair : Pair) : Type 0 where
-  pub price-from : pair .«old_from» ≡ priceOf c s X
-  pub price-to : pair .«old_to» ≡ priceOf c s Y
-  pub finite-from : finite (pair .«old_from») ≡ true
-  pub finite-to : finite (pair .«old_to») ≡ true
-  pub load : pair .load ≡ total (boxesOf demand) Y
-
 module _ (c : Columns) (demand : List ℤ) (s : Setup) (X Y : List ℕ) (pair : Pair) where
-  -- a visit, offered
-  abbrev pub offerOf : ℕ → Offer
-  offerOf position = record {
-    from = pair .from;
-    position = position;
-    to = pair .to;
-    visit = getD X position 0;
-    giving = givingDelta (priceOf c s) (s .fixed) X position;
-    old = pair .«old_to»;
-    paid = fixedIf (eqb (length Y) 0) (s .fixed);
-  }
-
-  -- whether the receiver has room for it, and the giver a price without it
-  abbrev pub mayGo : ℕ → Bool
-  mayGo position =
-      leb (pair .load + boxesOf demand (getD X position 0)) (s .capacity) && finite (givingDelta (priceOf c s) (s .fixed) X position)
-
-  -- the best after an offer of one visit
-  unfoldable pub bestOffer : ℕ → Choice → Choice
-  bestOffer position best =
-      cond (mayGo position) (bestAmong (priceOf c s) Y (offerOf position) (range 0 (suc (length Y))) best) best
-
   -- the best after the offers of some visits
   unfoldable pub bestOffers : List ℕ → Choice → Choice
   bestOffers [] best = best
-  bestOffers (position ∷ positions) best = bestOffers positions (bestOffer position best)
+  bestOffers (position ∷ positions) best = bestOffers positions (bestOffer c demand s X Y pair position best)
 
 -- the best move of two lists: none where one of them has no price
 module _ (c : Columns) (demand : List ℤ) (s : Setup) (X Y : List ℕ) (from to : ℕ) where

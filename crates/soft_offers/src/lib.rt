@@ -1,22 +1,18 @@
 // The best move of a pair of lists where a day has a soft window (relocate.rs, `best_between_soft`): each visit of the one is offered at each place of the
-// other, and every move is priced whole, on both lists, with the fixed cost saved or paid (crate `soft_places`). A list that has no price isn't moved into or
-// out of. Later visits share the giver's first ones: these are driven once (`heads`).
-use deltas_across::fixed_if;
-use edits::wide;
+// other (crate `soft_visit_offers`). A list that has no price isn't moved into or out of. Later visits share the giver's first ones: these are driven once
+// (`heads`).
 use heads::Head;
 use heads::at_depot;
 use heads::reach;
 use lists::length_of;
 use lists::list_of;
-use loads::boxes_of;
 use loads::load_of;
 use numbers::is_finite;
 use pairs::Choice;
-use soft_places::Offer;
 use soft_places::Setup;
-use soft_places::best_place;
-use soft_places::giving_delta;
 use soft_places::price_of;
+use soft_visit_offers::Pair;
+use soft_visit_offers::offer_visit;
 use tests::both;
 ghost use mathlib.Core.Path.{_≡_};
 ghost use Prim.Native.Nat.{_<_, _≤_};
@@ -26,99 +22,8 @@ ghost use Rattle.descent.specs.Order.{range};
 ghost use Rattle.loads.specs.Loads.{Loaded, Held};
 ghost use Rattle.pairs.specs.Pairs.{nothing};
 ghost use Rattle.soft_places.specs.Places.{Prepared, DrivenBy};
-ghost use Rattle.soft_offers.specs.Offers.{TwoOf, bound, Known, bestOffer, bestOffers, bestPriced, BestOf};
-
-// Two lists, what they are priced at, and the boxes of the one that is to receive a visit.
-pub struct Pair {
-    pub from: usize,
-    pub to: usize,
-    pub old_from: f64,
-    pub old_to: f64,
-    pub load: usize,
-}
-
-// ---- a visit
-
-// The best after the visit at `position` was offered by one list of a pair to the other; `head` is driven over the giver's visits in front of it.
-fn offer_visit(
-    setup: Setup,
-    flags: &[u8],
-    service: &[f64],
-    ready: &[f64],
-    due: &[f64],
-    penalty: &[f64],
-    distances: &[f64],
-    times: &[f64],
-    demand: &[i32],
-    giver: &[u16],
-    receiver: &[u16],
-    buffer: &mut [u16],
-    pair: Pair,
-    head: Head,
-    position: usize,
-    best: Choice,
-) -> Choice
-    requires { ⌜ Prepared setup (columnsAt (setup .l) flags service ready due penalty distances times) ⌝ }
-    requires { ⌜ Loaded (setup .l) (now demand) × (64 ≤ length (now buffer)) ⌝ }
-    requires { ⌜ TwoOf (setup .l) (now giver) (now receiver) × (position < length (now giver)) ⌝ }
-    requires { ⌜ Known (columnsAt (setup .l) flags service ready due penalty distances times) (now demand) setup (now giver) (now receiver) pair
-        × (pair .load ≤ 63000000) ⌝ }
-    requires { ⌜ DrivenBy (columnsAt (setup .l) flags service ready due penalty distances times) setup (now giver) head ⌝ }
-    ensures { λ r.
-        ⌜ r ≡ bestOffer (columnsAt (setup .l) (flags .entry) (service .entry) (ready .entry) (due .entry) (penalty .entry) (distances .entry) (times .entry))
-        (now (demand .entry)) setup (now (giver .entry)) (now (receiver .entry)) pair position best ⌝ }
-{
-    let visit = giver[position];
-    let load = pair.load + boxes_of(demand, wide(visit));
-    if load > setup.capacity {
-        return best;
-    }
-    let giving = giving_delta(
-        setup,
-        flags,
-        service,
-        ready,
-        due,
-        penalty,
-        distances,
-        times,
-        giver,
-        buffer,
-        head,
-        pair.old_from,
-        position,
-    );
-    if !is_finite(giving) {
-        return best;
-    }
-    // What an empty list costs once it is opened.
-    let paid = fixed_if(receiver.len() == 0, setup.fixed);
-    let offer = Offer {
-        from: pair.from,
-        position,
-        to: pair.to,
-        visit,
-        giving,
-        old: pair.old_to,
-        paid,
-    };
-    best_place(
-        setup,
-        flags,
-        service,
-        ready,
-        due,
-        penalty,
-        distances,
-        times,
-        receiver,
-        buffer,
-        offer,
-        best,
-    )
-}
-
-// ---- a pair of lists
+ghost use Rattle.soft_visit_offers.specs.Offer.{TwoOf, Known};
+ghost use Rattle.soft_offers.specs.Offers.{bound, bestOffers, bestPriced, BestOf};
 
 // No move.
 fn nothing_below(bound: f64) -> Choice

@@ -1,1 +1,1 @@
-pub mod Considering
+pub mod Unpriced

@@ -1,4 +1,4 @@
--- Soft tail exchange as its functions state it: what stays the same over a run, what is known of a pair, the best exchange so far, and the next move.
+-- Soft tail exchange as its functions state it: the best exchange of two lists, and the next move.
 -- For src/; the engine's own definition is in tail_prices/specs/Tails.antt, and places and moves are those of `exchange_sweeps`. Assumes nothing.
 use mathlib.Core.Path.{_≡_}
 use mathlib.Core.Bool.{Bool, _&&_}
@@ -15,17 +15,12 @@ use Rattle.descent.specs.Permitted.{Measure, room}
 use Rattle.descent.specs.Search.{Search, Judge, Sweep, taken, firstMove, next}
 use Rattle.descent.specs.Across.{Pair, Tails}
 use Rattle.loads.specs.Loads.{boxesOf, Loaded}
-use Rattle.tail_candidates.specs.Candidate.{betterBy}
 use Rattle.tails.specs.Best.{exchanging, rowBy, bestBy}
 use Rattle.tail_candidates.specs.declared.Choice.{Choice}
 use Rattle.tail_prices.specs.Tails.{priced, soft-exchange-search, soft-exchange-judge}
 use Rattle.tail_prices.specs.Changes.{costIn, Priced, changeOf}
 use Rattle.tail_prices.specs.declared.Terms.{Terms}
-use Rattle.tail_prices.specs.declared.Figures.{Figures}
-
--- the boxes against what the van holds
-abbrev pub measuresFor : List ℤ → Terms → List Measure
-measuresFor demand t = record { demand = boxesOf demand; capacity = t .capacity } ∷ []
+use Rattle.soft_tail_candidates.specs.Candidate.{measuresFor, passBy}
 
 -- which exchanges pass on a day, with a van's terms
 unfoldable pub passesOf : Columns → List ℤ → Terms → List (List ℕ) → Tails → Bool
@@ -39,30 +34,10 @@ searchOf c demand t = exchanging (passesOf c demand t)
 unfoldable pub judgeOf : Columns → Terms → Judge (List (List ℕ)) Tails Float
 judgeOf c t = soft-exchange-judge (costIn c t) (t .floor)
 
--- what a run's functions ask of what stays the same
-pub record Asked (c : Columns) (demand : List ℤ) (t : Terms) : Type 0 where
-  pub formed : Formed c
-  pub loaded : Loaded (c .l) demand
-  pub depot-there : t .depot < c .l
-
--- and their loads
-pub record Figured (c : Columns) (demand : List ℤ) (t : Terms) (X Y : List ℕ) (f : Figures) : Type 0 where
-  pub first-load : f .load1 ≡ total (boxesOf demand) X
-  pub second-load : f .load2 ≡ total (boxesOf demand) Y
-  pub costs : Priced c t X Y f
-
 -- ---- the best exchange of two lists
 
-module _ (c : Columns) (t : Terms) (X Y : List ℕ) (demand : List ℤ) where
-  -- whether both new lists have room; both lists have a price
-  abbrev pub passBy : ℕ → ℕ → Bool
-  passBy cut1 cut2 = (room (measuresFor demand t) (joined X cut1 Y cut2) && room (measuresFor demand t) (joined Y cut2 X cut1)) && priced (costIn c t) X Y
-
--- the best so far, and the loops over the cuts, as in `tails`
+-- the loops over the cuts, as in `tails`
 module _ (c : Columns) (demand : List ℤ) (t : Terms) (X Y : List ℕ) where
-  abbrev pub better : ℕ → ℕ → Choice → Choice
-  better = betterBy (changeOf c t X Y) (passBy c t X Y demand)
-
   abbrev pub bestRow : ℕ → Choice → Choice
   bestRow = rowBy (changeOf c t X Y) (passBy c t X Y demand) (length Y)
 

@@ -15,14 +15,16 @@ use Rattle.cross_pairs.proofs.best_of_kind.Statement.{statement}
 use Rattle.cross_pairs.proofs.best_of_kind.Tie as tie
 
 abbrev Inv-loop : tie.InvT-loop
-Inv-loop l flags demand service ready due penalty distances times pair one other loads1 loads2 heads1 heads2 reached1 reached2 costs1₀ costs2₀ kind van1 van2 rows found₀ k₀
+Inv-loop l flags demand service ready due penalty distances times pair one other loads1 loads2 heads1 heads2 reached1 reached2 costs1₀ costs2₀ kind van1 van2
+    rows found₀ k₀
     costs1 costs2 found k =
     Roomy costs1 costs2
     × (scan (bestOfRow (columns l flags service ready due penalty distances times) demand pair one other kind) (range k (rowsIn kind (length one))) found
     ≡ bestOfKind (columns l flags service ready due penalty distances times) demand pair one other kind found₀)
 
 abbrev μ-loop : tie.MeasureT-loop
-μ-loop l flags demand service ready due penalty distances times pair one other loads1 loads2 heads1 heads2 reached1 reached2 costs1₀ costs2₀ kind van1 van2 rows found₀ k₀
+μ-loop l flags demand service ready due penalty distances times pair one other loads1 loads2 heads1 heads2 reached1 reached2 costs1₀ costs2₀ kind van1 van2
+    rows found₀ k₀
     costs1 costs2 found k = rows - k
 
 rows-of-requires : tie.Need-rows-of-requires Inv-loop μ-loop
@@ -53,7 +55,13 @@ add-k c =
     let at-rows-of = at-loop-test .before .before in
     let further = at-rows-of .before .before .before .before .before .before .before .before .before .before in
     let start = further .before .before .before .before .before .before .before .before in
-    omega (arith, at-loop-test .loop-test .taken, at-rows-of .rows-of .ensures, rows-few (start .args .kind) (length (start .args .one .now)), start .pre .0 .two .few)
+    omega (
+      arith,
+      at-loop-test .loop-test .taken,
+      at-rows-of .rows-of .ensures,
+      rows-few (start .args .kind) (length (start .args .one .now)),
+      start .pre .0 .two .few,
+    )
 
 loop-less : tie.Need-loop-less Inv-loop μ-loop
 loop-less c =

@@ -76,7 +76,8 @@ returns-2 c =
     let at-best-of-kind = at-if1 .before .before .before .before .before .before in
     let further = at-best-of-kind .before .before .before .before .before .before .before .before .before .before in
     let start = further .before .before .before .before .before .before .before .before in
-    earlier-list _ _ (start .args .pair) _ _ _ _ _ _ (at-best-of-kind .best-of-kind .ensures) (at-best-of-kind2 .best-of-kind2 .ensures) (at-best-of-kind3 .best-of-kind3 .ensures) (at-if1 .if1 .left)
+    earlier-list _ _ (start .args .pair) _ _ _ _ _ _ (at-best-of-kind .best-of-kind .ensures) (at-best-of-kind2 .best-of-kind2 .ensures)
+    (at-best-of-kind3 .best-of-kind3 .ensures) (at-if1 .if1 .left)
 
 pub best-of-kinds-spec : {M : Type 1} → statement M
 best-of-kinds-spec =

@@ -31,7 +31,11 @@ mark-row-requires c κs =
     let one = start .args .one .now in
     let other = start .args .other .now in
     let some = row-some _ (length one) (length other) _ _ (at-row-of .row-of .ensures) few (start .pre .1 .1) in (
-      (start .pre .0 .asked .loaded, (rw (start .pre .1 .2) (start .pre .0 .paired .driven1), rw (start .pre .1 .3) (start .pre .0 .paired .driven2)), start .pre .0 .two),
+      (
+        start .pre .0 .asked .loaded,
+        (rw (start .pre .1 .2) (start .pre .0 .paired .driven1), rw (start .pre .1 .3) (start .pre .0 .paired .driven2)),
+        start .pre .0 .two,
+      ),
       ((start .pre .0 .prefixed1, start .pre .0 .prefixed2), (some, start .pre .1 .0 .costs2-long)),
     )
 
@@ -64,7 +68,8 @@ returns c =
     let few = start .pre .0 .two .few in
     let one = start .args .one .now in
     let other = start .args .other .now in
-    row-shut _ (start .args .demand .now) (start .args .pair) one other (start .args .kind) (start .args .k) _ _ (at-row-of .row-of .ensures) _ _ (start .pre .1 .2) (start .pre .1 .3) _ (at-is-tested .is-tested .ensures) (at-mark-row .mark-row .ensures)
+    row-shut _ (start .args .demand .now) (start .args .pair) one other (start .args .kind) (start .args .k) _ _ (at-row-of .row-of .ensures) _ _
+    (start .pre .1 .2) (start .pre .1 .3) _ (at-is-tested .is-tested .ensures) (at-mark-row .mark-row .ensures)
     (sym (at-is-shut .is-shut .ensures) ∙ c .if1 .taken) (start .args .best)
 
 row-costs-requires : tie.Need-row-costs-requires
@@ -110,7 +115,10 @@ row-costs-requires-2 c κs =
     let some-kept = at-row-costs .row-costs .kept .1 .1 .1 .1 .1 .1 .1 .1 .1 .1 .1 .1 .1 .1 .1 .1 .1 .0 in
     let marks-kept = at-mark-row .mark-row .kept .1 .1 .1 .1 .1 .1 .1 .1 .1 .1 .1 .1 .0 in (
       (start .pre .0 .asked .formed, rw (start .pre .1 .3) (start .pre .0 .paired .driven2), two-turned _ _ _ (start .pre .0 .two)),
-      ((rw (start .pre .1 .3) (start .pre .0 .kept2), row-turned lies), (at-extend .extend .kept .0 ∙ some-kept ∙ start .pre .1 .0 .costs1-long, marks-kept ∙ start .pre .1 .0 .costs2-long)),
+      (
+        (rw (start .pre .1 .3) (start .pre .0 .kept2), row-turned lies),
+        (at-extend .extend .kept .0 ∙ some-kept ∙ start .pre .1 .0 .costs1-long, marks-kept ∙ start .pre .1 .0 .costs2-long),
+      ),
     )
 
 least-of-requires : tie.Need-least-of-requires
@@ -149,10 +157,12 @@ choose-requires c κs =
     let some-kept = at-row-costs .row-costs .kept .1 .1 .1 .1 .1 .1 .1 .1 .1 .1 .1 .1 .1 .1 .1 .1 .1 .0 in
     let marks-kept = at-mark-row .mark-row .kept .1 .1 .1 .1 .1 .1 .1 .1 .1 .1 .1 .1 .0 in
     let costs2-kept = at-row-costs2 .row-costs2 .kept .1 .1 .1 .1 .1 .1 .1 .1 .1 .1 .1 .1 .1 .1 .1 .1 .1 .0 in
-    let whole = tabled _ (start .args .demand .now) (start .args .pair) one other (start .args .kind) (start .args .k) _ _ _ _ _ (at-row-of .row-of .ensures) _ _ (start .pre .1 .2) (start .pre .1 .3) _ (at-is-tested .is-tested .ensures)
+    let whole = tabled _ (start .args .demand .now) (start .args .pair) one other (start .args .kind) (start .args .k) _ _ _ _ _ (at-row-of .row-of .ensures)
+    _ _ (start .pre .1 .2) (start .pre .1 .3) _ (at-is-tested .is-tested .ensures)
     (at-mark-row .mark-row .ensures) (at-row-costs .row-costs .ensures) (at-extend .extend .ensures) (at-row-costs2 .row-costs2 .ensures) in (
       omega (arith, rows-few (start .args .kind) (length one), start .pre .1 .1, few),
-      least-few _ (start .args .demand .now) (start .args .pair) one other (start .args .kind) (start .args .k) _ _ _ _ _ (at-row-of .row-of .ensures) whole (start .args .best) _
+      least-few _ (start .args .demand .now) (start .args .pair) one other (start .args .kind) (start .args .k) _ _ _ _ _ (at-row-of .row-of .ensures) whole
+          (start .args .best) _
           (at-least-of .least-of .ensures),
       lies .few,
       at-extend .extend .kept .0 ∙ some-kept ∙ start .pre .1 .0 .costs1-long,
@@ -188,9 +198,11 @@ returns-2 c =
     let few = start .pre .0 .two .few in
     let one = start .args .one .now in
     let other = start .args .other .now in
-    let whole = tabled _ (start .args .demand .now) (start .args .pair) one other (start .args .kind) (start .args .k) _ _ _ _ _ (at-row-of .row-of .ensures) _ _ (start .pre .1 .2) (start .pre .1 .3) _ (at-is-tested .is-tested .ensures)
+    let whole = tabled _ (start .args .demand .now) (start .args .pair) one other (start .args .kind) (start .args .k) _ _ _ _ _ (at-row-of .row-of .ensures)
+    _ _ (start .pre .1 .2) (start .pre .1 .3) _ (at-is-tested .is-tested .ensures)
     (at-mark-row .mark-row .ensures) (at-row-costs .row-costs .ensures) (at-extend .extend .ensures) (at-row-costs2 .row-costs2 .ensures) in
-    row-answers _ (start .args .demand .now) (start .args .pair) one other (start .args .kind) (start .args .k) _ _ _ _ _ (at-row-of .row-of .ensures) whole (start .args .best) _
+    row-answers _ (start .args .demand .now) (start .args .pair) one other (start .args .kind) (start .args .k) _ _ _ _ _ (at-row-of .row-of .ensures) whole
+    (start .args .best) _
     (at-least-of .least-of .ensures) _ (c .choose .ensures)
 
 pub best-of-row-spec : {M : Type 1} → statement M

@@ -7,7 +7,11 @@ use Rattle.cross_pairs.proofs.between_lists.Statement.{statement}
 use Rattle.cross_pairs.proofs.between_lists.Tie as tie
 
 prefix-both-requires : tie.Need-prefix-both-requires
-prefix-both-requires c κs = (c .before .before .before .before .before .before .before .before .before .before .before .before .before .pre .0 .0 .loaded, c .before .before .before .before .before .before .before .before .before .before .before .before .before .pre .0 .2, c .before .before .before .before .before .before .before .before .before .before .before .before .before .pre .1 .0)
+prefix-both-requires c κs = (
+  c .before .before .before .before .before .before .before .before .before .before .before .before .before .pre .0 .0 .loaded,
+  c .before .before .before .before .before .before .before .before .before .before .before .before .before .pre .0 .2,
+  c .before .before .before .before .before .before .before .before .before .before .before .before .before .pre .1 .0,
+)
 
 heads-of-both-requires : tie.Need-heads-of-both-requires
 heads-of-both-requires c κs = ((c .before .before .before .before .before .before .before .before .before .before .before .before .before .before .before .before .before .pre .0 .0 .formed, c .before .before .before .before .before .before .before .before .before .before .before .before .before .before .before .before .before .pre .0 .1, c .before .before .before .before .before .before .before .before .before .before .before .before .before .before .before .before .before .pre .0 .2), c .before .before .before .before .before .before .before .before .before .before .before .before .before .before .before .before .before .pre .1 .1)
@@ -19,7 +23,11 @@ part-best-of-kinds-start : tie.Need-part-best-of-kinds-start
 part-best-of-kinds-start c = search needs
 
 part-best-of-kinds-end : tie.Need-part-best-of-kinds-end
-part-best-of-kinds-end c = omega (arith, c .before .before .before .before .before .before .before .prefix-both .kept .1 .1 .1 .1 .0 ∙ c .before .before .before .before .before .before .before .before .before .before .before .before .before .before .before .before .before .before .before .before .before .pre .1 .0)
+part-best-of-kinds-end c = omega (
+  arith,
+  c .before .before .before .before .before .before .before .prefix-both .kept .1 .1 .1 .1 .0 ∙
+      c .before .before .before .before .before .before .before .before .before .before .before .before .before .before .before .before .before .before .before .before .before .pre .1 .0,
+)
 
 sub-best-of-kinds-2 : tie.Need-sub-best-of-kinds-2
 sub-best-of-kinds-2 c = search needs
@@ -28,7 +36,11 @@ part-best-of-kinds-start-2 : tie.Need-part-best-of-kinds-start-2
 part-best-of-kinds-start-2 c = search needs
 
 part-best-of-kinds-end-2 : tie.Need-part-best-of-kinds-end-2
-part-best-of-kinds-end-2 c = omega (arith, c .before .before .before .before .before .before .before .before .prefix-both .kept .1 .1 .1 .1 .0 ∙ c .before .before .before .before .before .before .before .before .before .before .before .before .before .before .before .before .before .before .before .before .before .before .pre .1 .0)
+part-best-of-kinds-end-2 c = omega (
+  arith,
+  c .before .before .before .before .before .before .before .before .prefix-both .kept .1 .1 .1 .1 .0 ∙
+      c .before .before .before .before .before .before .before .before .before .before .before .before .before .before .before .before .before .before .before .before .before .before .pre .1 .0,
+)
 
 sub-best-of-kinds-3 : tie.Need-sub-best-of-kinds-3
 sub-best-of-kinds-3 c = search needs
@@ -37,7 +49,11 @@ part-best-of-kinds-start-3 : tie.Need-part-best-of-kinds-start-3
 part-best-of-kinds-start-3 c = search needs
 
 part-best-of-kinds-end-3 : tie.Need-part-best-of-kinds-end-3
-part-best-of-kinds-end-3 c = omega (arith, c .before .before .before .before .before .before .heads-of-both .kept .1 .1 .1 .1 .1 .1 .1 .1 .1 .1 .1 .0 ∙ c .before .before .before .before .before .before .before .before .before .before .before .before .before .before .before .before .before .before .before .before .before .before .before .before .pre .1 .1)
+part-best-of-kinds-end-3 c = omega (
+  arith,
+  c .before .before .before .before .before .before .heads-of-both .kept .1 .1 .1 .1 .1 .1 .1 .1 .1 .1 .1 .0 ∙
+      c .before .before .before .before .before .before .before .before .before .before .before .before .before .before .before .before .before .before .before .before .before .before .before .before .pre .1 .1,
+)
 
 sub-best-of-kinds-4 : tie.Need-sub-best-of-kinds-4
 sub-best-of-kinds-4 c = search needs
@@ -46,7 +62,11 @@ part-best-of-kinds-start-4 : tie.Need-part-best-of-kinds-start-4
 part-best-of-kinds-start-4 c = search needs
 
 part-best-of-kinds-end-4 : tie.Need-part-best-of-kinds-end-4
-part-best-of-kinds-end-4 c = omega (arith, c .before .before .before .before .before .before .before .heads-of-both .kept .1 .1 .1 .1 .1 .1 .1 .1 .1 .1 .1 .0 ∙ c .before .before .before .before .before .before .before .before .before .before .before .before .before .before .before .before .before .before .before .before .before .before .before .before .before .pre .1 .1)
+part-best-of-kinds-end-4 c = omega (
+  arith,
+  c .before .before .before .before .before .before .before .heads-of-both .kept .1 .1 .1 .1 .1 .1 .1 .1 .1 .1 .1 .0
+      ∙ c .before .before .before .before .before .before .before .before .before .before .before .before .before .before .before .before .before .before .before .before .before .before .before .before .before .pre .1 .1,
+)
 
 slice-aggregate-best-of-kinds : tie.Need-slice-aggregate-best-of-kinds
 slice-aggregate-best-of-kinds c = search needs
@@ -71,7 +91,11 @@ best-of-kinds-requires c κs = (
     kept1 = c .before .before .before .before .before .before .before .before .before .before .heads-of-both .ensures .0;
     kept2 = c .before .before .before .before .before .before .before .before .before .before .heads-of-both .ensures .1;
   },
-  record { costs1-long = refl; costs2-long = length-take-le 64 (c .before .before .before .before .before .before .before .before .before .before .before .before .before .before .before .before .before .before .before .before .before .before .before .before .before .before .before .before .args .costs .now) (omega (arith, c .before .before .before .before .before .before .before .before .before .before .before .before .before .before .before .before .before .before .before .before .before .before .before .before .before .before .before .before .pre .1 .2)) },
+  record {
+    costs1-long = refl;
+    costs2-long = length-take-le 64
+        (c .before .before .before .before .before .before .before .before .before .before .before .before .before .before .before .before .before .before .before .before .before .before .before .before .before .before .before .before .args .costs .now) (omega (arith, c .before .before .before .before .before .before .before .before .before .before .before .before .before .before .before .before .before .before .before .before .before .before .before .before .before .before .before .before .pre .1 .2));
+  },
 )
 
 same-length : tie.Need-same-length

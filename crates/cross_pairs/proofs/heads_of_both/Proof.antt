@@ -21,8 +21,15 @@ part-fill-heads-end c = search needs
 fill-heads-requires : tie.Need-fill-heads-requires
 fill-heads-requires c κs =
     let heads = c .before .before .before .before .before .before .before .before .before .before .before .args .heads .now in
-    let few : 256 + 256 ≤ length heads = omega (arith, c .before .before .before .before .before .before .before .before .before .before .before .pre .1) in
-    (c .before .before .before .before .before .before .before .before .before .before .before .pre .0 .0, (c .before .before .before .before .before .before .before .before .before .before .before .pre .0 .1 .driven1 .depot-there, visits-first _ _ _ (c .before .before .before .before .before .before .before .before .before .before .before .pre .0 .2), lent-long 256 heads heads heads few))
+    let few : 256 + 256 ≤ length heads = omega (arith, c .before .before .before .before .before .before .before .before .before .before .before .pre .1) in (
+      c .before .before .before .before .before .before .before .before .before .before .before .pre .0 .0,
+      (
+        c .before .before .before .before .before .before .before .before .before .before .before .pre .0 .1 .driven1 .depot-there,
+        visits-first _ _ _
+            (c .before .before .before .before .before .before .before .before .before .before .before .pre .0 .2),
+        lent-long 256 heads heads heads few,
+      ),
+    )
 
 sub-fill-heads-2 : tie.Need-sub-fill-heads-2
 sub-fill-heads-2 c = search needs
@@ -38,8 +45,10 @@ fill-heads-requires-2 c κs =
     let first = c .before .before .before .fill-heads .last .1 .1 .1 .1 .1 .1 .1 .1 .1 .1 .0 in
     let heads = c .before .before .before .before .before .before .before .before .before .before .before .before .before .before .before .args .heads .now in
     let few : 256 + 256 ≤ length heads = omega (arith, c .before .before .before .before .before .before .before .before .before .before .before .before .before .before .before .pre .1) in
-    let long = c .before .before .before .fill-heads .kept .1 .1 .1 .1 .1 .1 .1 .1 .1 .1 .0 ∙ lent-long 256 heads first first few in
-    (c .before .before .before .before .before .before .before .before .before .before .before .before .before .before .before .pre .0 .0, (c .before .before .before .before .before .before .before .before .before .before .before .before .before .before .before .pre .0 .1 .driven2 .depot-there, visits-second _ _ _ (c .before .before .before .before .before .before .before .before .before .before .before .before .before .before .before .pre .0 .2), lent-long2 256 heads first first few long))
+    let long = c .before .before .before .fill-heads .kept .1 .1 .1 .1 .1 .1 .1 .1 .1 .1 .0 ∙ lent-long 256 heads first first few in (
+      c .before .before .before .before .before .before .before .before .before .before .before .before .before .before .before .pre .0 .0,
+      (c .before .before .before .before .before .before .before .before .before .before .before .before .before .before .before .pre .0 .1 .driven2 .depot-there, visits-second _ _ _ (c .before .before .before .before .before .before .before .before .before .before .before .before .before .before .before .pre .0 .2), lent-long2 256 heads first first few long),
+    )
 
 same-length : tie.Need-same-length
 same-length c = search needs

@@ -1,7 +1,7 @@
 -- `best_exchange`: where a list has no price no exchange passes; else both have one.
 use borrow.Author.Needs.{needs}
 use borrow.Author.Tests.{not-true, not-false}
-use Rattle.soft_tails.proofs.Considering.{first-unpriced, second-unpriced, prices-known}
+use Rattle.soft_tails.proofs.Unpriced.{first-unpriced, second-unpriced, prices-known}
 use Rattle.soft_tails.proofs.best_exchange.Statement.{statement}
 use Rattle.soft_tails.proofs.best_exchange.Tie as tie
 

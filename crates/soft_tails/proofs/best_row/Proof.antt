@@ -14,7 +14,8 @@ use Rattle.descent.proofs.Loops.{scan-done}
 use Rattle.tails.proofs.Turns.{cut-turn}
 use Rattle.loads.proofs.Boxes.{load-small, load-more, load-joined, sum-small, head-small}
 use Rattle.tail_prices.specs.Changes.{DrivenBy}
-use Rattle.soft_tails.specs.Parts.{better, bestRow}
+use Rattle.soft_tail_candidates.specs.Candidate.{better}
+use Rattle.soft_tails.specs.Parts.{bestRow}
 use Rattle.tail_prices.proofs.Behind.{second-visits}
 use Rattle.soft_tails.proofs.best_row.Statement.{statement}
 use Rattle.soft_tails.proofs.best_row.Tie as tie

@@ -1,7 +1,7 @@
 -- `consider`: each of its ends is one case of the definition's choice with one exchange more.
-use Rattle.soft_tails.proofs.Considering.{stays-first-load, stays-second-load, stays-delta, taken-up}
-use Rattle.soft_tails.proofs.consider.Statement.{statement}
-use Rattle.soft_tails.proofs.consider.Tie as tie
+use Rattle.soft_tail_candidates.proofs.Considering.{stays-first-load, stays-second-load, stays-delta, taken-up}
+use Rattle.soft_tail_candidates.proofs.consider.Statement.{statement}
+use Rattle.soft_tail_candidates.proofs.consider.Tie as tie
 
 returns : tie.Need-returns
 returns c =

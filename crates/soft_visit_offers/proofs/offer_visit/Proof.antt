@@ -2,9 +2,9 @@
 use borrow.Author.Needs.{needs}
 use borrow.Author.Tests.{not-true, not-false}
 use native.Mathlib.Omega.{arith}
-use Rattle.soft_offers.proofs.Offering.{refused-as, fails-as, offered-as}
-use Rattle.soft_offers.proofs.offer_visit.Statement.{statement}
-use Rattle.soft_offers.proofs.offer_visit.Tie as tie
+use Rattle.soft_visit_offers.proofs.Offering.{refused-as, fails-as, offered-as}
+use Rattle.soft_visit_offers.proofs.offer_visit.Statement.{statement}
+use Rattle.soft_visit_offers.proofs.offer_visit.Tie as tie
 
 mul-visit : tie.Need-mul-visit
 mul-visit c =
