@@ -75,7 +75,10 @@ fn table(bench: &mut Bench, both: &Both) {
         (numbers.map(f64::to_bits), u8::from(distances.symmetric()), num_depots(&day.customers))
     };
     let none: [u16; 0] = [];
-    let refusals = || call!(planner_refusal, black_box(&both.lent), both.van, none.as_ptr(), 0, none.as_ptr(), 0, 0);
+    let refusals = || {
+        let lent = black_box(&both.lent);
+        call!(planner_refusal, lent, both.van, none.as_ptr(), 0, none.as_ptr(), 0, 0)
+    };
     let entry = || {
         let (mut scale, mut floor, mut symmetric, mut fixed, mut depots) = (0.0, 0.0, 0, 0.0, 0);
         let lent = black_box(&both.lent);
@@ -89,7 +92,8 @@ fn route_distance(bench: &mut Bench, both: &Both) {
     let rust = || local_search::route_distance(black_box(&both.rust.route), 0, &both.rust.distances).to_bits();
     let entry = || {
         let mut distance = 0.0;
-        let refusal = call_of_list!(planner_route_distance, black_box(&both.lent), both.van, 0, &mut distance);
+        let lent = black_box(&both.lent);
+        let refusal = call_of_list!(planner_route_distance, lent, both.van, 0, &mut distance);
         (refusal, distance.to_bits())
     };
     check(bench, both.row("route_distance"), rust, || both.refusal(), entry);
@@ -102,7 +106,8 @@ fn route_feasible(bench: &mut Bench, both: &Both) {
     };
     let entry = || {
         let mut passes = 0;
-        let refusal = call_of_list!(planner_route_feasible, black_box(&both.lent), both.van, 0, &mut passes);
+        let lent = black_box(&both.lent);
+        let refusal = call_of_list!(planner_route_feasible, lent, both.van, 0, &mut passes);
         (refusal, passes)
     };
     timed_check(bench, both, "route_feasible", rust, entry);
@@ -120,7 +125,8 @@ fn route_eval(bench: &mut Bench, both: &Both) {
     let entry = || {
         let mut passes = 0;
         let [mut distance, mut duration, mut lateness, mut cost] = [0.0; 4];
-        let refusal = call_of_list!(planner_route_eval, black_box(&both.lent), both.van, 0, &mut passes, &mut distance, &mut duration,
+        let lent = black_box(&both.lent);
+        let refusal = call_of_list!(planner_route_eval, lent, both.van, 0, &mut passes, &mut distance, &mut duration,
             &mut lateness, &mut cost);
         (refusal, (passes == 1).then_some([distance, duration, lateness, cost].map(f64::to_bits)))
     };
@@ -138,7 +144,8 @@ fn schedule(bench: &mut Bench, both: &Both) {
     let entry = || {
         let (mut found, mut taken, mut position, mut start) = (0, 0, 0, 0.0);
         let [mut distance, mut duration, mut lateness, mut cost] = [0.0; 4];
-        let refusal = call_of_list!(planner_schedule, black_box(&both.lent), both.van, 0, &mut found, &mut distance, &mut duration,
+        let lent = black_box(&both.lent);
+        let refusal = call_of_list!(planner_schedule, lent, both.van, 0, &mut found, &mut distance, &mut duration,
             &mut lateness, &mut cost, &mut taken, &mut position, &mut start);
         let numbers = [distance, duration, lateness, cost].map(f64::to_bits);
         (refusal, (found == 1).then_some((numbers, (taken == 1).then_some((position, start.to_bits())))))
