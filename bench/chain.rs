@@ -1,5 +1,5 @@
 //! The clock of a list alone: the times of travel, waiting and service added up in the Rust's order, and nothing looked up, compared or kept. Each addition
-//! waits for the one before, and so no port whose bits equal the Rust's takes less.
+//! waits for the one before, and so a port that makes them all takes no less.
 use crate::published::Published;
 
 pub struct Chain {

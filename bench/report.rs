@@ -9,7 +9,7 @@ const GOAL: f64 = 80.0;
 
 const THE_CLOCK: &str = "\
 'The clock alone' is the time of a list's additions of travel, waiting and service in the Rust's order, with nothing looked up (bench/chain.rs), to that of
-the Rust's whole check: each waits for the one before, so that no port with the Rust's bits is below it. 'The call' is this program's own: an entry takes
+the Rust's whole check: each waits for the one before, so that a port that makes them all isn't below it. 'The call' is this program's own: an entry takes
 each column for itself, where the Rust takes five references, and the export (planner_..) hands them on.
 
 ";
