@@ -12,7 +12,7 @@ use labels::stop::stop_of;
 use tests::either;
 
 // What the clock tells of a list that is served.
-#[derive(Drop)]
+#[derive(Clone, Copy)]
 pub struct Scheduled {
     // Depot to depot.
     pub distance: f64,
@@ -27,7 +27,7 @@ pub struct Scheduled {
 }
 
 // The schedule of a list.
-#[derive(Drop)]
+#[derive(Clone, Copy)]
 pub enum Outcome {
     // A hard window can't be kept, or the break can't be placed.
     Impossible,
@@ -35,7 +35,7 @@ pub enum Outcome {
 }
 
 // The clock of a list that grows by one visit at a time.
-#[derive(Drop)]
+#[derive(Clone, Copy)]
 pub struct BreakClock {
     pub rest: VehicleBreak,
     // The break is still to take.

@@ -15,14 +15,14 @@ use labels::stop::stop_of;
 use tests::either;
 
 // A label, if it is there: 1 in place of an enum's tag, so that a loop carries words alone.
-#[derive(Drop)]
+#[derive(Clone, Copy)]
 pub struct MaybeLabel {
     pub there: usize,
     pub label: Label,
 }
 
 // The van behind the first visits of a list, with the labels of its clock.
-#[derive(Drop)]
+#[derive(Clone, Copy)]
 pub struct BrokenHead {
     pub distance: f64,
     pub rest: VehicleBreak,

@@ -11,7 +11,7 @@ use lists::list_of;
 use refusals::refusal_of;
 
 // The distance of a list.
-#[derive(Drop)]
+#[derive(Clone, Copy)]
 pub enum Distance {
     // A refusal by its number.
     Refused(u8),
@@ -20,7 +20,7 @@ pub enum Distance {
 }
 
 // Whether a list passes.
-#[derive(Drop)]
+#[derive(Clone, Copy)]
 pub enum Feasibility {
     // A refusal by its number.
     Refused(u8),
@@ -30,7 +30,7 @@ pub enum Feasibility {
 }
 
 // What a list comes to.
-#[derive(Drop)]
+#[derive(Clone, Copy)]
 pub enum Evaluated {
     // A refusal by its number.
     Refused(u8),
@@ -46,7 +46,7 @@ pub enum Evaluated {
 }
 
 // The clock of a list, whatever its length: the van's limits are not asked.
-#[derive(Drop)]
+#[derive(Clone, Copy)]
 pub enum Timetable {
     // A refusal by its number.
     Refused(u8),

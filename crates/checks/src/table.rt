@@ -10,7 +10,7 @@ use numbers::gain_floor;
 use refusals::day_and_van_refusal;
 
 // What the searches work out of a day and a van.
-#[derive(Drop)]
+#[derive(Clone, Copy)]
 pub enum Table {
     // A refusal by its number.
     Refused(u8),

@@ -11,7 +11,7 @@ use broken_heads::{BrokenHead, next_head};
 use tests::both;
 
 // How far a candidate is driven: to where its stretch begins, and to its end.
-#[derive(Drop)]
+#[derive(Clone, Copy)]
 pub struct Drive {
     pub head: BrokenHead,
     pub end: BrokenHead,

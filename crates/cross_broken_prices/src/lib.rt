@@ -18,7 +18,7 @@ use day::vehicle::{RouteLimits, Van, VehicleBreak};
 use numbers::infinite;
 
 // What a candidate costs, and the head of the visits before its stretch.
-#[derive(Drop)]
+#[derive(Clone, Copy)]
 pub struct Priced {
     pub head: BrokenHead,
     pub cost: f64,

@@ -17,7 +17,7 @@ use tests::{both, either};
 
 // The best move so far, with its delta and what its two lists cost. `found` is 1 where there is one, a whole word as in `Move`; else it is 0, and the delta is
 // minus the floor.
-#[derive(Drop)]
+#[derive(Clone, Copy)]
 pub struct Choice {
     pub found: usize,
     pub chosen: Move,
@@ -27,7 +27,7 @@ pub struct Choice {
 }
 
 // The first least delta of a row so far, and which move has it; at first what it has to be below, and the number of moves.
-#[derive(Drop)]
+#[derive(Clone, Copy)]
 pub struct Least {
     pub at: usize,
     pub delta: f64,

@@ -8,7 +8,7 @@ use cross_moves::pair::{Move, Pair};
 use cross_rows::Stretch;
 
 // A kind of move.
-#[derive(Drop)]
+#[derive(Clone, Copy)]
 pub enum Kind {
     // A visit of the first list goes to a place of the second.
     Relocation,
@@ -19,7 +19,7 @@ pub enum Kind {
 }
 
 // A row of moves.
-#[derive(Drop)]
+#[derive(Clone, Copy)]
 pub struct Row {
     // The stretch of the first list, which stays.
     pub own: Stretch,

@@ -7,7 +7,7 @@ use day::vehicle::Van;
 use vehicles::fleet_vehicle;
 
 // Two lists by number, their vans, and what they cost together.
-#[derive(Drop)]
+#[derive(Clone, Copy)]
 pub struct Pair {
     pub one: usize,
     pub other: usize,
@@ -18,7 +18,7 @@ pub struct Pair {
 
 // List `one` gives the visits from `from1` up to `to1`, list `other` those from `from2` up to `to2`, and each stretch goes where the other was.
 // `tested` is 1 where the load of list `one` has to be within its van's capacity, else 0: a whole word, so that copies of a move move no padding.
-#[derive(Drop)]
+#[derive(Clone, Copy)]
 pub struct Move {
     pub one: usize,
     pub from1: usize,

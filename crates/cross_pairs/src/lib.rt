@@ -237,7 +237,7 @@ fn prefix_both(l: usize, demand: &[i32], one: &[u16], other: &[u16], sums: &mut 
 }
 
 // How far the heads of two lists go.
-#[derive(Drop)]
+#[derive(Clone, Copy)]
 pub struct Reach {
     pub one: usize,
     pub other: usize,

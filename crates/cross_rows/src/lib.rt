@@ -16,7 +16,7 @@ use day::vehicle::{Rest, RouteLimits, Van, VehicleBreak};
 use numbers::infinite;
 
 // The stretch of a list that each candidate of a row changes: where that of the first begins and ends, and by how much (0 or 1) that of the next does so later.
-#[derive(Drop)]
+#[derive(Clone, Copy)]
 pub struct Stretch {
     pub from: usize,
     pub to: usize,

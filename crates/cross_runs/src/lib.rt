@@ -17,7 +17,7 @@ use cross_steps::{Turn, before_turns, take_turn};
 use engine::Ended;
 
 // How a run ended, and how many lists remain.
-#[derive(Drop)]
+#[derive(Clone, Copy)]
 pub struct Crossed {
     pub ended: Ended,
     pub lists: usize,

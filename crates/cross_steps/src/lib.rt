@@ -17,7 +17,7 @@ use cross_search::best_move;
 
 // A turn: `found` is 1 where a move gains, and `made` 1 where it was made; so many lists are left, and of the pairs of the first `kept` lists, but for `one`
 // and `other`, the least deltas are known.
-#[derive(Drop)]
+#[derive(Clone, Copy)]
 pub struct Turn {
     pub found: usize,
     pub made: usize,

@@ -5,7 +5,7 @@ ghost use Rattle.day.specs.Customer.{is_violated, waiting_time, lateness_at, win
 use crate::flags::{flag1, flag2};
 
 // From when to when a location is served.
-#[derive(Drop)]
+#[derive(Clone, Copy)]
 pub struct TimeWindow {
     pub ready: f64,
     pub due: f64,
@@ -41,7 +41,7 @@ impl TimeWindow {
 }
 
 // The window of a location.
-#[derive(Drop)]
+#[derive(Clone, Copy)]
 pub enum Window {
     // It is served at any time.
     Open,

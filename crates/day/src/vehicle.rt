@@ -7,7 +7,7 @@ use tests::both;
 
 // A van as it is lent. Flags: bit 0 distance limit, bit 1 duration limit, bit 2 break.
 #[repr(C)]
-#[derive(Drop)]
+#[derive(Clone, Copy)]
 pub struct Van {
     pub id: u32,
     pub depot: usize,
@@ -42,7 +42,7 @@ impl Van {
 }
 
 // The driver's break: it starts from earliest to latest and takes duration.
-#[derive(Drop)]
+#[derive(Clone, Copy)]
 pub struct VehicleBreak {
     pub earliest: f64,
     pub latest: f64,
@@ -50,21 +50,21 @@ pub struct VehicleBreak {
 }
 
 // A limit of the van, if it has one.
-#[derive(Drop)]
+#[derive(Clone, Copy)]
 pub enum Limit {
     Unlimited,
     AtMost(f64),
 }
 
 // The van's break, if it has one.
-#[derive(Drop)]
+#[derive(Clone, Copy)]
 pub enum Rest {
     NoBreak,
     Break(VehicleBreak),
 }
 
 // What a van allows a list besides its capacity.
-#[derive(Drop)]
+#[derive(Clone, Copy)]
 pub struct RouteLimits {
     pub max_distance: Limit,
     pub max_duration: Limit,

@@ -3,14 +3,14 @@
 // adds up the legs of a turned piece, so does the definition; the short cut on a symmetric table gives the same bits.
 
 // Two stops: those around a piece, or a piece's own first and last visit.
-#[derive(Drop)]
+#[derive(Clone, Copy)]
 pub struct Ends {
     pub from: usize,
     pub to: usize,
 }
 
 // A list cut for 3-opt: the stops around the pieces B and C, the ends of each, and what turning it would change inside it.
-#[derive(Drop)]
+#[derive(Clone, Copy)]
 pub struct Cut {
     pub around: Ends,
     pub b: Ends,

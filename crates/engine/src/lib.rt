@@ -7,7 +7,7 @@ use day::vehicle::RouteLimits;
 use evaluation::route::route_feasible;
 
 // How a run ended, with the moves made.
-#[derive(Drop)]
+#[derive(Clone, Copy)]
 pub enum Ended {
     // No permitted move gains any more.
     Settled(u32),

@@ -15,7 +15,7 @@ use numbers::infinite;
 use tests::either;
 
 // What a list that passes comes to.
-#[derive(Drop)]
+#[derive(Clone, Copy)]
 pub struct RouteEval {
     // Depot to depot.
     pub distance: f64,
@@ -37,7 +37,7 @@ impl RouteEval {
 }
 
 // The answer of `route_eval`.
-#[derive(Drop)]
+#[derive(Clone, Copy)]
 pub enum Evaluation {
     // A hard window can't be kept, the break can't be placed, or a limit is broken.
     Fails,

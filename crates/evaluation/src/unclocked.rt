@@ -9,7 +9,7 @@ use day::matrix::get;
 use day::vehicle::{Limit, RouteLimits};
 
 // The distance of a list, if it needs no clock.
-#[derive(Drop)]
+#[derive(Clone, Copy)]
 pub enum Unclocked {
     // A visit has a window.
     Windowed,

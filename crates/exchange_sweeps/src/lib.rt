@@ -12,14 +12,14 @@ use tail_candidates::{Choice, Terms};
 use tails::best_exchange;
 
 // A place of a sweep: two lists by number.
-#[derive(Drop)]
+#[derive(Clone, Copy)]
 pub struct Place {
     pub one: usize,
     pub other: usize,
 }
 
 // An exchange at a place; `cut1` 0 is none.
-#[derive(Drop)]
+#[derive(Clone, Copy)]
 pub struct Found {
     pub place: Place,
     pub cut1: usize,

@@ -10,7 +10,7 @@ use labels::label::{Label, Reached, at_start, serve};
 use labels::stop::stop_of;
 
 // The van behind the first visits of a list, all of them served, and no break to take.
-#[derive(Drop)]
+#[derive(Clone, Copy)]
 pub struct Head {
     pub visits: usize,
     pub distance: f64,

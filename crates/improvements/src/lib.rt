@@ -22,7 +22,7 @@ use neighbours::Neighbourhood;
 use refusals::refusal_of;
 
 // How a run on one list ended, with the moves made and the distance of the list handed back.
-#[derive(Drop)]
+#[derive(Clone, Copy)]
 pub enum Improved {
     // A refusal by its number: nothing is changed.
     Refused(u8),

@@ -16,7 +16,7 @@ use edits::wide;
 use numbers::{is_finite, unknown};
 
 // A least insertion, and the first place that reaches it.
-#[derive(Drop)]
+#[derive(Clone, Copy)]
 pub struct Least {
     pub figure: f64,
     pub place: u16,

@@ -15,7 +15,7 @@ use day::vehicle::VehicleBreak;
 use tests::{both, either};
 
 // Whether the break is taken.
-#[derive(Drop)]
+#[derive(Clone, Copy)]
 pub enum Taken {
     // It is still to take, or left out.
     Untaken,
@@ -24,7 +24,7 @@ pub enum Taken {
 }
 
 // The van at a stop with its service done.
-#[derive(Drop)]
+#[derive(Clone, Copy)]
 pub struct Label {
     pub time: f64,
     pub lateness: f64,
@@ -35,7 +35,7 @@ pub struct Label {
 }
 
 // A label, or none.
-#[derive(Drop)]
+#[derive(Clone, Copy)]
 pub enum Reached {
     // A hard window closed before the service, or the break could not start by its latest.
     Missed,

@@ -5,7 +5,7 @@ ghost use Rattle.labels.specs.Columns.{stop_of};
 use day::customer::{Window, time_window};
 
 // A visit, as a clock needs it.
-#[derive(Drop)]
+#[derive(Clone, Copy)]
 pub struct Stop {
     pub service: f64,
     pub window: Window,

@@ -20,7 +20,7 @@ use labels::stop::stop_of;
 use stops::visit_at;
 
 // How two pieces are arranged.
-#[derive(Drop)]
+#[derive(Clone, Copy)]
 pub struct Way {
     pub exchanged: bool,
     pub b_turned: bool,
@@ -28,7 +28,7 @@ pub struct Way {
 }
 
 // Where the pieces B, C and D begin, and how B and C are arranged.
-#[derive(Drop)]
+#[derive(Clone, Copy)]
 pub struct Layout {
     pub b: usize,
     pub c: usize,

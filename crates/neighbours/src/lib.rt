@@ -14,7 +14,7 @@ ghost use Rattle.neighbours.specs.Places.{Inside, InsideAny, rest, firsts_from, 
 ghost use Rattle.neighbours.specs.declared.Place.TheVariants.{Turned, Moved, Reconnected};
 
 // Which neighbourhood a search moves in.
-#[derive(Drop)]
+#[derive(Clone, Copy)]
 pub enum Neighbourhood {
     // Reverse a stretch of the list.
     Reverse,
@@ -25,7 +25,7 @@ pub enum Neighbourhood {
 }
 
 // A neighbour, by its numbers.
-#[derive(Drop)]
+#[derive(Clone, Copy)]
 pub enum Place {
     // The visits from the first to the last turned round.
     Turned(usize, usize),
@@ -36,7 +36,7 @@ pub enum Place {
 }
 
 // A place, if there is one.
-#[derive(Drop)]
+#[derive(Clone, Copy)]
 pub enum Found {
     Nothing,
     At(Place),

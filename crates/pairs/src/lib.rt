@@ -9,7 +9,7 @@ use edits::wide;
 
 // The best move so far with its delta; while none is found, minus the floor. `found` is 1 or 0 in a whole word: a bool would leave padding that every copy
 // in a loop moves.
-#[derive(Drop)]
+#[derive(Clone, Copy)]
 pub struct Choice {
     pub found: usize,
     pub from: usize,

@@ -24,7 +24,7 @@ use reconnections::{Place, reconnected_into};
 use tests::either;
 
 // What is worked out once before the first move.
-#[derive(Drop)]
+#[derive(Clone, Copy)]
 pub struct Setup {
     pub l: usize,
     pub depot: usize,
@@ -38,7 +38,7 @@ pub struct Setup {
 }
 
 // The best pattern so far with its delta; 0 is none, and its delta is minus the floor.
-#[derive(Drop)]
+#[derive(Clone, Copy)]
 struct Choice {
     pattern: usize,
     delta: f64,

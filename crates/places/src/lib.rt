@@ -20,7 +20,7 @@ use numbers::{infinite, is_finite};
 use pairs::Choice;
 
 // What is worked out once before the first move.
-#[derive(Drop)]
+#[derive(Clone, Copy)]
 pub struct Setup {
     pub l: usize,
     pub depot: usize,
@@ -36,7 +36,7 @@ pub struct Setup {
 }
 
 // The visit at `position` of list `from`, offered to list `to`; `removal` is what taking it out changes.
-#[derive(Drop)]
+#[derive(Clone, Copy)]
 pub struct Offer {
     pub from: usize,
     pub position: usize,
@@ -46,7 +46,7 @@ pub struct Offer {
 }
 
 // What an offer of a visit to a list leaves: the best so far, and what is known of the two.
-#[derive(Drop)]
+#[derive(Clone, Copy)]
 pub struct Tried {
     pub best: Choice,
     pub least: Least,

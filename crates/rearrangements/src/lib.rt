@@ -16,7 +16,7 @@ use list_changes::drop_empty;
 use refusals::refusal_of_lists;
 
 // How a run over all lists ended, with the moves made and the lists that remain.
-#[derive(Drop)]
+#[derive(Clone, Copy)]
 pub enum Rearranged {
     // A refusal by its number: nothing is changed.
     Refused(u8),

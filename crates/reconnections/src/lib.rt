@@ -11,7 +11,7 @@ use buffers::{append_stretch, append_stretch_reversed};
 use layouts::{Way, way_of};
 
 // The list is cut behind its visits i, j and k.
-#[derive(Drop)]
+#[derive(Clone, Copy)]
 pub struct Place {
     pub i: usize,
     pub j: usize,

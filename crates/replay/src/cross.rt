@@ -10,7 +10,7 @@ use sample_bytes::{behind, byte_at, count_at, part, value};
 pub const CROSS: u8 = 22;
 
 // Where the columns of the fleet behind the ids start, and behind them what is of the lists.
-#[derive(Drop)]
+#[derive(Clone, Copy)]
 struct Columns {
     depots: usize,
     capacities: usize,

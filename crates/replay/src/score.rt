@@ -5,7 +5,7 @@ use sample::columns;
 use sample::layout::{Head, Tail, head_of, tail_of};
 use sample_bytes::{behind, byte_at, count_at, pair, part};
 
-#[derive(Drop)]
+#[derive(Clone, Copy)]
 pub struct Score {
     pub agree: u64,
     pub differ: u64,

@@ -15,7 +15,7 @@ use layouts::{laid_passes, reversal};
 use numbers::counts_as_gain;
 
 // The constants of a run: worked out once, before the first move.
-#[derive(Drop)]
+#[derive(Clone, Copy)]
 pub struct Terms {
     pub l: usize,
     pub depot: usize,
@@ -26,7 +26,7 @@ pub struct Terms {
 }
 
 // A place of a sweep: the reversal of the visits from `first` to `last`.
-#[derive(Drop)]
+#[derive(Clone, Copy)]
 pub struct Place {
     pub first: usize,
     pub last: usize,

@@ -12,7 +12,7 @@ use layouts::head_up_to;
 use reversal_places::{Place, Terms, place_after, try_reversal};
 
 // The place of the move that a search made.
-#[derive(Drop)]
+#[derive(Clone, Copy)]
 pub enum Found {
     Nothing,
     At(Place),

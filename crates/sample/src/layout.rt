@@ -4,7 +4,7 @@ ghost use Rattle.std.specs.Prelude.{◌≤◌};
 use sample_bytes::{behind, count_at};
 
 // The parts up to the distances. Positions, but for the locations and the bytes of the two tables.
-#[derive(Drop)]
+#[derive(Clone, Copy)]
 pub struct Head {
     pub l: usize,
     pub table_size: usize,
@@ -20,7 +20,7 @@ pub struct Head {
 }
 
 // The parts from the times on.
-#[derive(Drop)]
+#[derive(Clone, Copy)]
 pub struct Tail {
     pub times: usize,
     pub times_size: usize,

@@ -16,7 +16,7 @@ use edits::move_piece;
 use evaluation::route::route_feasible;
 
 // What stays the same over a run.
-#[derive(Drop)]
+#[derive(Clone, Copy)]
 pub struct Terms {
     pub l: usize,
     pub depot: usize,
@@ -28,7 +28,7 @@ pub struct Terms {
 }
 
 // A piece taken out of the list, and what that gains.
-#[derive(Drop)]
+#[derive(Clone, Copy)]
 pub struct Segment {
     pub size: usize,
     pub from: usize,
@@ -36,7 +36,7 @@ pub struct Segment {
 }
 
 // A piece and its new position, with the change in distance.
-#[derive(Drop)]
+#[derive(Clone, Copy)]
 pub struct Change {
     pub size: usize,
     pub from: usize,
@@ -45,7 +45,7 @@ pub struct Change {
 }
 
 // The best change so far.
-#[derive(Drop)]
+#[derive(Clone, Copy)]
 pub enum Best {
     Nothing,
     Move(Change),

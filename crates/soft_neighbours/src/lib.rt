@@ -21,7 +21,7 @@ use neighbours::layout::layout_of;
 use neighbours::{Found, Neighbourhood, Place, after, first_place};
 
 // The best neighbour so far, and the cost that a better one must be below.
-#[derive(Drop)]
+#[derive(Clone, Copy)]
 pub struct Best {
     pub bound: f64,
     pub found: Found,
@@ -43,7 +43,7 @@ impl Best {
 }
 
 // The price of a neighbour, and the head of the list that it shares.
-#[derive(Drop)]
+#[derive(Clone, Copy)]
 pub struct Priced {
     pub price: f64,
     pub head: Head,

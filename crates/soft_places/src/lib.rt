@@ -17,7 +17,7 @@ use heads::{Head, at_depot, reach};
 use pairs::Choice;
 
 // What is worked out once before the first move.
-#[derive(Drop)]
+#[derive(Clone, Copy)]
 pub struct Setup {
     pub l: usize,
     pub depot: usize,
@@ -32,7 +32,7 @@ pub struct Setup {
 
 // The visit at `position` of list `from`, offered to list `to`. `giving` is what taking it out changes, `old` the receiver's price, and `paid` the fixed
 // cost where the receiver is empty.
-#[derive(Drop)]
+#[derive(Clone, Copy)]
 pub struct Offer {
     pub from: usize,
     pub position: usize,

@@ -15,7 +15,7 @@ use pairs::Choice;
 use soft_places::{Offer, Setup, best_place, giving_delta};
 
 // Two lists, what they are priced at, and the boxes of the one that is to receive a visit.
-#[derive(Drop)]
+#[derive(Clone, Copy)]
 pub struct Pair {
     pub from: usize,
     pub to: usize,

@@ -14,7 +14,7 @@ use deltas_across::exchange_delta;
 use engine::passes;
 
 // What stays the same over a run: worked out once, before the first move.
-#[derive(Drop)]
+#[derive(Clone, Copy)]
 pub struct Terms {
     pub l: usize,
     pub depot: usize,
@@ -28,7 +28,7 @@ pub struct Terms {
 }
 
 // The best exchange of two lists so far, with its change in distance; `cut1` 0 is none, and its delta is minus the floor.
-#[derive(Drop)]
+#[derive(Clone, Copy)]
 pub struct Choice {
     pub cut1: usize,
     pub cut2: usize,

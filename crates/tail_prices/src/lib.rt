@@ -17,7 +17,7 @@ use heads::Head;
 use tests::both;
 
 // What stays the same over a run: worked out once, before the first move.
-#[derive(Drop)]
+#[derive(Clone, Copy)]
 pub struct Terms {
     pub l: usize,
     pub depot: usize,
@@ -29,7 +29,7 @@ pub struct Terms {
 }
 
 // What two lists load and cost as they are.
-#[derive(Drop)]
+#[derive(Clone, Copy)]
 pub struct Figures {
     pub load1: usize,
     pub load2: usize,

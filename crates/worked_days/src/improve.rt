@@ -3,7 +3,7 @@ use crate::print::{number, text};
 use crate::{line, print};
 use planner::improve::Improved;
 
-#[derive(Drop)]
+#[derive(Clone, Copy)]
 enum Engine {
     TwoOpt,
     OrOpt,
