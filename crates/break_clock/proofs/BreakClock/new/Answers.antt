@@ -1,0 +1,9 @@
+-- `new`: the definition, field by field.
+use borrow.Author.Rules.{rules}
+use Rattle.break_clock.specs.Schedule.{begun}
+use Rattle.break_clock.proofs.BreakClock.new.Goals as goal
+
+pub returns : goal.returns
+unfolding begun
+returns c =
+    rw c.at_start.ensures

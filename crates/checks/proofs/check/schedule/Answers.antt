@@ -1,0 +1,31 @@
+-- `schedule`: an input that is not refused has its list in the table and its columns in shape.
+use borrow.Author.Rules.{rules}
+use mathlib.Core.Path.{sym, ◌∙◌}
+use Rattle.refusals.specs.Answered.{refused_by, answered}
+use Rattle.checks.specs.Answer.{schedule_answer}
+use Rattle.refusals.specs.Refusal.{listed, checkable}
+use Rattle.checks.proofs.check.schedule.Goals as goal
+
+pub returns-then-refused-ne0 : goal.returns-then-refused-ne0
+unfolding schedule_answer
+returns-then-refused-ne0 c =
+    record { answer = refused_by _ _ c.refusal_of-refused.result _ c.if-refused-ne0.true c.refusal_of-refused.ensures.answer }
+
+pub list_of-visited-requires : goal.list_of-visited-requires
+list_of-visited-requires c =
+    listed _ _ _ _ _ (sym c.refusal_of-refused.ensures.answer ∙ c.if-refused-ne0.false)
+
+pub outcome_of-requires-clause-formed : goal.outcome_of-requires-clause-formed
+outcome_of-requires-clause-formed c =
+    (checkable _ _ _ _ _ (sym c.refusal_of-refused.ensures.answer ∙ c.if-refused-ne0.false) _ c.list_of-visited.ensures).0
+
+pub outcome_of-requires-clause-depot_lt_l : goal.outcome_of-requires-clause-depot_lt_l
+outcome_of-requires-clause-depot_lt_l c =
+    (checkable _ _ _ _ _ (sym c.refusal_of-refused.ensures.answer ∙ c.if-refused-ne0.false) _ c.list_of-visited.ensures).1
+
+pub returns : goal.returns
+unfolding schedule_answer
+returns c =
+    record { answer = answered _ _ c.refusal_of-refused.result _ _ c.if-refused-ne0.false
+    c.refusal_of-refused.ensures.answer (rw
+    (c.scheduled_as.ensures, c.outcome_of.ensures, c.list_of-visited.ensures, c.of-rest.ensures)) }

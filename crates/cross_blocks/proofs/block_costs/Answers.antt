@@ -1,0 +1,104 @@
+-- `block_costs`: before each row the costs of those before it are put down.
+use borrow.Author.Rules.{rules}
+use mathlib.Core.Path.{◌≡◌, refl, sym, ◌∙◌}
+use Prim.Native.Nat.{◌+◌, ◌-◌, ◌*◌}
+use native.Mathlib.Omega.{arith}
+use lib.ListN.{length}
+use borrow.Rule.Slice.PartMut.{same_len_mid}
+use Rattle.labels.specs.Columns.{columns}
+use Rattle.cross_blocks.specs.Blocks.{CostedBlock}
+use Rattle.cross_blocks.proofs.Tables.{rows_start, rows_turn, rows_end}
+use Rattle.cross_blocks.proofs.Sides.{entries_few, row_there, lent_long, lent_wide, side_few, counts_wide, costed_part}
+use Rattle.cross_blocks.proofs.block_costs.Goals as goal
+
+pub loop-i-init : goal.loop-i-init
+loop-i-init c =
+    (c.requires.block.2, rows_start _ _ _ _)
+
+pub overflow_mul-from : goal.overflow_mul-from
+overflow_mul-from c =
+    omega (arith, entries_few c.requires.block.0 _ c.loop-i-test.true)
+
+pub overflow_add-to : goal.overflow_add-to
+overflow_add-to c =
+    omega (arith, entries_few c.requires.block.0 _ c.loop-i-test.true)
+
+pub overflow_add-k : goal.overflow_add-k
+overflow_add-k c =
+    let there = row_there c.requires.block.0 _ c.loop-i-test.true in
+    omega (arith, side_few c.args.kind c.args.turned _ _ _ c.requires.formed.2.few there)
+
+pub offset_bounds-skip-from : goal.offset_bounds-skip-from
+offset_bounds-skip-from c =
+    omega (arith, entries_few c.requires.block.0 _ c.loop-i-test.true)
+
+pub slice_bounds-cost_one-start : goal.slice_bounds-cost_one-start
+slice_bounds-cost_one-start c =
+    omega arith
+
+pub slice_bounds-cost_one-end : goal.slice_bounds-cost_one-end
+slice_bounds-cost_one-end c =
+    omega (arith, entries_few c.requires.block.0 _ c.loop-i-test.true, c.requires.block.1)
+
+pub offset_bounds-costs-from : goal.offset_bounds-costs-from
+offset_bounds-costs-from c =
+    omega (arith, entries_few c.requires.block.0 _ c.loop-i-test.true)
+
+pub slice_bounds-cost_one-start-2 : goal.slice_bounds-cost_one-start-2
+slice_bounds-cost_one-start-2 c =
+    omega arith
+
+pub slice_bounds-cost_one-end-2 : goal.slice_bounds-cost_one-end-2
+slice_bounds-cost_one-end-2 c =
+    omega (arith, entries_few c.requires.block.0 _ c.loop-i-test.true, c.loop-i.invariant.0)
+
+pub cost_one-requires-clause-formed : goal.cost_one-requires-clause-formed
+cost_one-requires-clause-formed c =
+    c.requires.formed
+
+pub cost_one-requires-clause-kept : goal.cost_one-requires-clause-kept
+cost_one-requires-clause-kept c =
+    let block = c.requires.block.0 in
+    (c.requires.kept, row_there block _ c.loop-i-test.true)
+
+pub cost_one-requires-clause-other_in_bounds : goal.cost_one-requires-clause-other_in_bounds
+cost_one-requires-clause-other_in_bounds c =
+    let block = c.requires.block.0 in
+    (
+          lent_wide block _ c.loop-i-test.true _ c.requires.block.1,
+          lent_wide block _ c.loop-i-test.true _
+              c.loop-i.invariant.0,
+        )
+
+pub overflow_add-i : goal.overflow_add-i
+overflow_add-i c =
+    let there = row_there c.requires.block.0 _ c.loop-i-test.true in
+    omega (arith, side_few c.args.kind c.args.turned _ _ _ c.requires.formed.2.few there)
+
+pub loop-i-smaller : goal.loop-i-smaller
+loop-i-smaller c =
+    omega (arith, c.loop-i-test.true)
+
+pub loop-i-preserved : goal.loop-i-preserved
+loop-i-preserved c =
+    let block = c.requires.block.0 in
+    let n = length c.args.list.now in
+    let m = length c.args.other.now in
+    let i = c.loop-i.i in
+    let from = i * c.args.width in
+    let to = from + c.args.width in
+    let costs = c.loop-i.costs in
+    let last = c.cost_one.new.costs in
+    let kept = c.cost_one.auto.costs in
+    let few = entries_few block i c.loop-i-test.true in
+    let wide = counts_wide c.args.turned n m block in
+    (
+      same_len_mid from (to - from) costs last kept ∙ c.loop-i.invariant.0,
+      rows_turn _ _ _ wide i from to costs last refl refl (omega (arith, few, c.loop-i.invariant.0))
+          (kept ∙ lent_long block i c.loop-i-test.true costs c.loop-i.invariant.0) c.loop-i.invariant.1
+          (costed_part _ _ _ _ _ from to c.args.skip.now last c.args.width refl (wide i) c.cost_one.ensures),
+    )
+
+pub returns : goal.returns
+returns c =
+    rows_end _ _ _ _ _ _ c.loop-i.invariant.1 c.loop-i-test.false

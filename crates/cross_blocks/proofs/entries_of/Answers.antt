@@ -1,0 +1,41 @@
+-- `entries_of`: the last row begins behind the others, and ends where the block has room.
+use borrow.Author.Rules.{rules}
+use mathlib.Core.Path.{ap}
+use Prim.Native.Nat.{◌-◌, ◌<◌}
+use native.Mathlib.Omega.{arith}
+use Rattle.cross_kinds.specs.declared.kind.Row.{Row}
+use Rattle.cross_kinds.proofs.Along.{rows_few}
+use Rattle.cross_blocks.specs.Blocks.{entries_in}
+use Rattle.cross_blocks.proofs.Tables.{row_ends}
+use Rattle.cross_blocks.proofs.Blocks.{count_wide}
+use Rattle.cross_blocks.proofs.entries_of.Goals as goal
+
+pub overflow_add-k : goal.overflow_add-k
+overflow_add-k c =
+    omega (arith, c.requires.0.within, c.requires.1, rows_few c.args.kind c.args.n1)
+
+pub row_of-last-requires : goal.row_of-last-requires
+row_of-last-requires c =
+    (c.requires.2, omega (arith, c.requires.0.within, c.requires.0.some, c.requires.1, rows_few c.args.kind c.args.n1))
+
+pub overflow_mul-result : goal.overflow_mul-result
+overflow_mul-result c =
+    let last : c.args.rows - 1 < c.args.rows = omega (arith, c.requires.0.some) in
+    omega (arith, row_ends (c.args.rows - 1) c.args.rows c.args.width last, c.requires.0.room)
+
+pub overflow_add-result : goal.overflow_add-result
+overflow_add-result c =
+    let last : c.args.rows - 1 < c.args.rows = omega (arith, c.requires.0.some) in
+    let count = ap (λ (r : Row). r.count) c.row_of-last.ensures in
+    omega (
+      arith,
+      row_ends (c.args.rows - 1) c.args.rows c.args.width last,
+      c.requires.0.room,
+      count,
+      count_wide c.requires.0 (c.args.rows - 1),
+    )
+
+pub returns : goal.returns
+unfolding entries_in
+returns c =
+    rw c.row_of-last.ensures

@@ -1,0 +1,87 @@
+-- `mark_block`: before each row the marks of those before it are put down.
+use borrow.Author.Rules.{rules}
+use mathlib.Core.Path.{◌≡◌, refl, sym, ◌∙◌}
+use Prim.Native.Nat.{◌+◌, ◌-◌, ◌*◌}
+use native.Mathlib.Omega.{arith}
+use lib.ListN.{length}
+use borrow.Rule.Slice.PartMut.{same_len_mid}
+use Rattle.cross_kinds.proofs.Along.{rows_few}
+use Rattle.cross_blocks.specs.Blocks.{MarkedBlock}
+use Rattle.cross_blocks.proofs.Tables.{rows_start, rows_turn, rows_end}
+use Rattle.cross_blocks.proofs.Sides.{entries_few, row_there, lent_long, lent_wide, distinct_wide}
+use Rattle.cross_blocks.proofs.mark_block.Goals as goal
+
+pub loop-i-init : goal.loop-i-init
+loop-i-init c =
+    (c.requires.block.1, rows_start _ _ _ _)
+
+pub overflow_mul-from : goal.overflow_mul-from
+overflow_mul-from c =
+    omega (arith, entries_few c.requires.block.0 _ c.loop-i-test.true)
+
+pub overflow_add-to : goal.overflow_add-to
+overflow_add-to c =
+    omega (arith, entries_few c.requires.block.0 _ c.loop-i-test.true)
+
+pub overflow_add-k : goal.overflow_add-k
+overflow_add-k c =
+    let there = row_there c.requires.block.0 _ c.loop-i-test.true in
+    omega (arith, there, rows_few c.args.kind (length c.args.one.now), c.requires.loaded.2.few)
+
+pub offset_bounds-marks-from : goal.offset_bounds-marks-from
+offset_bounds-marks-from c =
+    omega (arith, entries_few c.requires.block.0 _ c.loop-i-test.true)
+
+pub slice_bounds-mark_one-start : goal.slice_bounds-mark_one-start
+slice_bounds-mark_one-start c =
+    omega arith
+
+pub slice_bounds-mark_one-end : goal.slice_bounds-mark_one-end
+slice_bounds-mark_one-end c =
+    omega (arith, entries_few c.requires.block.0 _ c.loop-i-test.true, c.loop-i.invariant.0)
+
+pub mark_one-requires-clause-loaded : goal.mark_one-requires-clause-loaded
+mark_one-requires-clause-loaded c =
+    c.requires.loaded
+
+pub mark_one-requires-clause-prefixed : goal.mark_one-requires-clause-prefixed
+mark_one-requires-clause-prefixed c =
+    c.requires.prefixed
+
+pub mark_one-requires-clause-k_bound : goal.mark_one-requires-clause-k_bound
+mark_one-requires-clause-k_bound c =
+    (
+          row_there c.requires.block.0 _ c.loop-i-test.true,
+          lent_wide c.requires.block.0 _
+              c.loop-i-test.true _ c.loop-i.invariant.0,
+        )
+
+pub overflow_add-i : goal.overflow_add-i
+overflow_add-i c =
+    let there = row_there c.requires.block.0 _ c.loop-i-test.true in
+    omega (arith, there, rows_few c.args.kind (length c.args.one.now), c.requires.loaded.2.few)
+
+pub loop-i-smaller : goal.loop-i-smaller
+loop-i-smaller c =
+    omega (arith, c.loop-i-test.true)
+
+pub loop-i-preserved : goal.loop-i-preserved
+loop-i-preserved c =
+    let block = c.requires.block.0 in
+    let i = c.loop-i.i in
+    let from = i * c.args.width in
+    let to = from + c.args.width in
+    let marks = c.loop-i.marks in
+    let last = c.mark_one.new.marks in
+    let kept = c.mark_one.auto.marks in
+    let few = entries_few block i c.loop-i-test.true in
+    (
+      same_len_mid from (to - from) marks last kept ∙ c.loop-i.invariant.0,
+      rows_turn _ _ _ (distinct_wide block) i from to marks last refl refl (omega (arith, few, c.loop-i.invariant.0))
+          (kept ∙ lent_long block i c.loop-i-test.true marks c.loop-i.invariant.0) c.loop-i.invariant.1
+          c.mark_one.ensures.mark_at,
+    )
+
+pub returns : goal.returns
+returns c =
+    rows_end _ _ _ _ _ _ c.loop-i.invariant.1 c.loop-i-test.false

@@ -1,0 +1,33 @@
+-- `mark_one`: the row lies in both lists, and has no more moves than entries.
+use borrow.Author.Rules.{rules}
+use native.Mathlib.Omega.{arith}
+use lib.ListN.{length}
+use Rattle.cross_kinds.proofs.Along.{rows_few, row_some, distinct_few}
+use Rattle.cross_blocks.proofs.Blocks.{row_wide}
+use Rattle.cross_blocks.proofs.mark_one.Goals as goal
+
+pub row_of-row-requires : goal.row_of-row-requires
+row_of-row-requires c =
+    let few = c.requires.loaded.2.few in
+    (omega (arith, few), omega (arith, rows_few c.args.kind (length c.args.one.now), c.requires.k_bound.0, few))
+
+pub mark_row-requires-clause-loaded : goal.mark_row-requires-clause-loaded
+mark_row-requires-clause-loaded c =
+    c.requires.loaded
+
+pub mark_row-requires-clause-prefixed : goal.mark_row-requires-clause-prefixed
+mark_row-requires-clause-prefixed c =
+    c.requires.prefixed
+
+pub mark_row-requires-clause-rowed : goal.mark_row-requires-clause-rowed
+mark_row-requires-clause-rowed c =
+    let n1 = length c.args.one.now in
+    let n2 = length c.args.other.now in
+    let some = row_some _ n1 n2 _ _ c.row_of-row.ensures c.requires.loaded.2.few c.requires.k_bound.0 in
+    let fewer = rw (← c.row_of-row.ensures) at (distinct_few c.args.kind n1 n2 c.args.k) in
+    let wide = rw (← c.row_of-row.ensures) at (row_wide c.args.kind n1 n2 c.args.k) in
+    (some, omega (arith, fewer, wide, c.requires.k_bound.1))
+
+pub returns : goal.returns
+returns c =
+    rw (c.is_tested.ensures, c.row_of-row.ensures) at c.mark_row.ensures

@@ -1,0 +1,32 @@
+-- `choose_of_block`: one return for each side of the test; the row and the place of an entry aren't above it.
+use borrow.Author.Rules.{rules}
+use borrow.Author.Tests.{eq-eqb, ne_eqb}
+use mathlib.Core.Path.{refl}
+use native.Mathlib.Nat.{div-le_self, mod-le}
+use native.Mathlib.Omega.{arith}
+use Rattle.tests.specs.Pick.{picked, other}
+use Rattle.cross_choices.specs.Rows.{chosenByBlock}
+use Rattle.cross_choices.proofs.choose_of_block.Goals as goal
+
+pub returns-then-at-count : goal.returns-then-at-count
+unfolding chosenByBlock
+returns-then-at-count c =
+    picked _ _ _ _ (eq-eqb _ _ c.if-at-count.true) refl
+
+pub overflow_add-k : goal.overflow_add-k
+overflow_add-k c =
+    let least = c.args.least in
+    omega (arith, c.requires.k_bound.0, c.requires.k_bound.1, c.requires.k_bound.2, div-le_self least.at c.args.width)
+
+pub move_of-chosen-requires : goal.move_of-chosen-requires
+move_of-chosen-requires c =
+    let least = c.args.least in
+    (
+      omega (arith, c.requires.k_bound.0, c.requires.k_bound.1, c.requires.k_bound.2, div-le_self least.at c.args.width),
+      omega (arith, c.requires.k_bound.1, c.requires.k_bound.2, c.if-at-count.false, mod-le least.at c.args.width),
+    )
+
+pub returns : goal.returns
+unfolding chosenByBlock
+returns c =
+    rw c.move_of-chosen.ensures (other _ _ _ _ (ne_eqb _ _ c.if-at-count.false) refl)

@@ -1,0 +1,43 @@
+-- `extend`: the entries from `from` on, up to here, are the first one; the others are as they were.
+use borrow.Author.Rules.{rules}
+use mathlib.Core.Path.{refl}
+use Prim.Native.Nat.{◌-◌}
+use native.Mathlib.Omega.{arith}
+use Rattle.cross_choices.proofs.Deciding.{Extending, extending_turns}
+use Rattle.cross_choices.proofs.extend.Goals as goal
+
+pub loop-j-init : goal.loop-j-init
+loop-j-init c =
+    record {
+  long = refl;
+  begun = omega arith;
+  kept = λ i below. refl;
+  copied = λ i above some below. absurd (omega (arith, above, below));
+}
+
+pub bounds-costs-0 : goal.bounds-costs-0
+bounds-costs-0 c =
+    omega (arith, c.loop-j-test.true, c.requires.0, c.loop-j.invariant.long)
+
+pub bounds-costs-j : goal.bounds-costs-j
+bounds-costs-j c =
+    omega (arith, c.loop-j-test.true, c.requires.0, c.loop-j.invariant.long)
+
+pub overflow_add-j : goal.overflow_add-j
+overflow_add-j c =
+    omega (arith, c.loop-j-test.true, c.requires.1)
+
+pub loop-j-smaller : goal.loop-j-smaller
+loop-j-smaller c =
+    omega (arith, c.loop-j-test.true)
+
+pub loop-j-preserved : goal.loop-j-preserved
+loop-j-preserved c =
+    extending_turns _ _ _ _ c.loop-j.invariant (omega (arith, c.loop-j-test.true, c.requires.0))
+
+pub returns : goal.returns
+returns c =
+    record {
+      kept = c.loop-j.invariant.kept;
+      copied = λ i above some below. c.loop-j.invariant.copied i above some (omega (arith, below, c.loop-j-test.false));
+    }

@@ -1,0 +1,46 @@
+-- `least_of`: before each move, the scan from here on comes to the first least of all.
+use borrow.Author.Rules.{rules}
+use mathlib.Core.Path.{◌≡◌, refl, sym, ◌∙◌}
+use Prim.Native.Nat.{◌-◌, ◌≤◌}
+use native.Mathlib.Omega.{arith}
+use Rattle.descent.specs.Order.{range, scan}
+use Rattle.cross_choices.specs.Rows.{lesser_of, delta_at, least_of}
+use Rattle.descent.proofs.Loops.{scan_turn, scan_done}
+use Rattle.cross_choices.proofs.least_of.Goals as goal
+
+pub loop-j-init : goal.loop-j-init
+unfolding least_of
+loop-j-init c =
+    (omega arith, refl)
+
+pub offset_bounds-costs1-j : goal.offset_bounds-costs1-j
+offset_bounds-costs1-j c =
+    omega (arith, c.loop-j-test.true, c.requires.2)
+
+pub bounds-costs1-j : goal.bounds-costs1-j
+bounds-costs1-j c =
+    omega (arith, c.loop-j-test.true, c.requires.2, c.requires.0)
+
+pub offset_bounds-costs2-j : goal.offset_bounds-costs2-j
+offset_bounds-costs2-j c =
+    omega (arith, c.loop-j-test.true, c.requires.2)
+
+pub bounds-costs2-j : goal.bounds-costs2-j
+bounds-costs2-j c =
+    omega (arith, c.loop-j-test.true, c.requires.2, c.requires.1)
+
+pub overflow_add-j : goal.overflow_add-j
+overflow_add-j c =
+    omega (arith, c.loop-j-test.true, c.requires.2)
+
+pub loop-j-smaller : goal.loop-j-smaller
+loop-j-smaller c =
+    omega (arith, c.loop-j-test.true)
+
+pub loop-j-preserved : goal.loop-j-preserved
+loop-j-preserved c =
+    (omega (arith, c.loop-j-test.true), scan_turn _ _ _ _ _ c.loop-j-test.true c.lesser-least.ensures ∙ c.loop-j.invariant.1)
+
+pub returns : goal.returns
+returns c =
+    sym (scan_done _ _ _ _ c.loop-j-test.false) ∙ c.loop-j.invariant.1

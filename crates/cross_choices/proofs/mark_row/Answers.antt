@@ -1,0 +1,108 @@
+-- `mark_row`: the table is filled in from its start; each load is asked by the prefix loads of both lists.
+use borrow.Author.Rules.{rules}
+use mathlib.Core.Path.{refl}
+use Prim.Native.Nat.{◌-◌}
+use native.Mathlib.Omega.{arith}
+use lib.ListN.{length}
+use Rattle.cross_moves.specs.CrossDepot.{holds}
+use Rattle.cross_rows.specs.Row.{changed}
+use Rattle.cross_choices.specs.Rows.{mark_of}
+use Rattle.loads.proofs.Visits.{two_turned}
+use Rattle.cross_choices.proofs.Deciding.{Filled, filled_turns, marked}
+use Rattle.cross_choices.proofs.mark_row.Goals as goal
+
+pub loop-j-init : goal.loop-j-init
+loop-j-init c =
+    record { long = refl; so_far = λ i below. absurd (omega (arith, below)) }
+
+pub start_at-from1-requires : goal.start_at-from1-requires
+start_at-from1-requires c =
+    omega (arith, c.requires.rowed.0.ordered _ c.loop-j-test.true, c.requires.rowed.0.within _ c.loop-j-test.true, c.requires.loaded.2.few)
+
+pub end_at-to1-requires : goal.end_at-to1-requires
+end_at-to1-requires c =
+    omega (arith, c.requires.rowed.0.within _ c.loop-j-test.true, c.requires.loaded.2.few)
+
+pub start_at-from2-requires : goal.start_at-from2-requires
+start_at-from2-requires c =
+    omega (
+      arith,
+      c.requires.rowed.0.others_ordered _ c.loop-j-test.true,
+      c.requires.rowed.0.others_within _
+          c.loop-j-test.true,
+      c.requires.loaded.2.few,
+    )
+
+pub end_at-to2-requires : goal.end_at-to2-requires
+end_at-to2-requires c =
+    omega (arith, c.requires.rowed.0.others_within _ c.loop-j-test.true, c.requires.loaded.2.few)
+
+pub fits-first-requires : goal.fits-first-requires
+fits-first-requires c =
+    let a = c.start_at-from1.ensures in
+    let b = c.end_at-to1.ensures in
+    let d = c.start_at-from2.ensures in
+    let e = c.end_at-to2.ensures in
+    (
+      (c.requires.loaded.0, c.requires.loaded.1.0, c.requires.loaded.2),
+      (
+        c.requires.prefixed,
+        (
+          rw (a, b) (c.requires.rowed.0.ordered _ c.loop-j-test.true),
+          rw b
+              (c.requires.rowed.0.within _ c.loop-j-test.true),
+          rw (d, e)
+              (c.requires.rowed.0.others_ordered _ c.loop-j-test.true),
+          rw e
+              (c.requires.rowed.0.others_within _ c.loop-j-test.true),
+        ),
+      ),
+    )
+
+pub fits-second-requires : goal.fits-second-requires
+fits-second-requires c =
+    let a = c.start_at-from1.ensures in
+    let b = c.end_at-to1.ensures in
+    let d = c.start_at-from2.ensures in
+    let e = c.end_at-to2.ensures in
+    (
+      (c.requires.loaded.0, c.requires.loaded.1.1, two_turned _ _ _ c.requires.loaded.2),
+      (
+        (c.requires.prefixed.1, c.requires.prefixed.0),
+        (
+          rw (d, e) (c.requires.rowed.0.others_ordered _ c.loop-j-test.true),
+          rw e
+              (c.requires.rowed.0.others_within _ c.loop-j-test.true),
+          rw (a, b)
+              (c.requires.rowed.0.ordered _ c.loop-j-test.true),
+          rw b (c.requires.rowed.0.within _ c.loop-j-test.true),
+        ),
+      ),
+    )
+
+pub offset_bounds-marks-j : goal.offset_bounds-marks-j
+offset_bounds-marks-j c =
+    omega (arith, c.loop-j-test.true, c.requires.rowed.0.few)
+
+pub bounds-marks-j : goal.bounds-marks-j
+bounds-marks-j c =
+    omega (arith, c.loop-j-test.true, c.requires.rowed.1, c.loop-j.invariant.long)
+
+pub overflow_add-j : goal.overflow_add-j
+overflow_add-j c =
+    omega (arith, c.loop-j-test.true, c.requires.rowed.0.few)
+
+pub loop-j-smaller : goal.loop-j-smaller
+loop-j-smaller c =
+    omega (arith, c.loop-j-test.true)
+
+pub loop-j-preserved : goal.loop-j-preserved
+loop-j-preserved c =
+    filled_turns _ _ _ _ _ c.loop-j.invariant (omega (arith, c.loop-j-test.true, c.requires.rowed.1))
+    (marked _ _ _ _ _ c.args.own c.args.others _ _ _ _ _ _ _ _ _ c.start_at-from1.ensures c.end_at-to1.ensures
+    c.start_at-from2.ensures c.end_at-to2.ensures
+    c.fits-second.ensures c.fits3.ensures c.mark.ensures)
+
+pub returns : goal.returns
+returns c =
+    record { mark_at = λ j below. c.loop-j.invariant.so_far j (omega (arith, below, c.loop-j-test.false)) }

@@ -1,0 +1,83 @@
+-- `best_of_kind`: before each block, the scan from here on comes to all rows of the kind.
+use mathlib.Core.Path.{◌≡◌, refl, sym, ◌∙◌}
+use Prim.Native.Nat.{◌-◌}
+use native.Mathlib.Omega.{arith}
+use lib.ListN.{length}
+use Rattle.labels.specs.Columns.{columns}
+use Rattle.descent.specs.Order.{range, scan}
+use Rattle.cross_kinds.specs.Kinds.{rows_in}
+use Rattle.cross_choices.specs.Scan.{Roomy}
+use Rattle.cross_choices.specs.Rows.{best_of_row, best_of_kind}
+use Rattle.cross_kinds.proofs.Along.{rows_few}
+use Rattle.cross_blocks.proofs.Blocks.{scan_on, width_few}
+use Rattle.cross_pairs.proofs.Between.{roomy_kept}
+use Rattle.descent.proofs.Loops.{scan_done}
+use Rattle.cross_pairs.proofs.best_of_kind.Goals as goal
+
+pub rows_of-rows-requires : goal.rows_of-rows-requires
+rows_of-rows-requires c =
+    omega (arith, c.requires.ready.two.few)
+
+pub width_of-width-requires : goal.width_of-width-requires
+width_of-width-requires c =
+    omega (arith, c.requires.ready.two.few)
+
+pub loop-k-init : goal.loop-k-init
+unfolding best_of_kind
+loop-k-init c =
+    (c.requires.roomy, refl)
+
+pub overflow_sub-rows : goal.overflow_sub-rows
+overflow_sub-rows c =
+    omega (arith, c.loop-k-test.true)
+
+pub rows_at_once-some-requires : goal.rows_at_once-some-requires
+rows_at_once-some-requires c =
+    let few = c.requires.ready.two.few in
+    let rows = rows_few c.args.kind (length c.args.one.now) in
+    (
+      omega (arith, c.width_of-width.ensures, width_few c.args.kind (length c.args.other.now), few),
+      omega (arith, c.loop-k-test.true),
+      omega (arith, c.rows_of-rows.ensures, rows, few),
+    )
+
+pub best_of_block-found-requires : goal.best_of_block-found-requires
+best_of_block-found-requires c =
+    (
+      c.requires.ready,
+      (
+        c.loop-k.invariant.0,
+        record {
+          within = omega (arith, c.rows_of-rows.ensures, c.rows_at_once-some.ensures.1, c.loop-k-test.true);
+          some = c.rows_at_once-some.ensures.0;
+          room = c.rows_at_once-some.ensures.2;
+          is_width = c.width_of-width.ensures;
+        },
+        refl,
+        refl,
+      ),
+    )
+
+pub overflow_add-k : goal.overflow_add-k
+overflow_add-k c =
+    let rows = rows_few c.args.kind (length c.args.one.now) in
+    omega (arith, c.loop-k-test.true, c.rows_at_once-some.ensures.1, c.rows_of-rows.ensures, rows, c.requires.ready.two.few)
+
+pub loop-k-smaller : goal.loop-k-smaller
+loop-k-smaller c =
+    omega (arith, c.loop-k-test.true, c.rows_at_once-some.ensures.0, c.rows_at_once-some.ensures.1)
+
+pub loop-k-preserved : goal.loop-k-preserved
+loop-k-preserved c =
+    let kept = c.best_of_block-found.auto.1.1.1.1.1.1.1.1.1.1.1.1.1.1.1.1.1.1.1.1 in
+    let all = rows_in c.args.kind (length c.args.one.now) in
+    (
+      roomy_kept c.loop-k.invariant.0 kept.0 kept.1.0,
+      scan_on _ _ _ all _ _ c.best_of_block-found.ensures
+          (omega (arith, c.rows_of-rows.ensures, c.rows_at_once-some.ensures.1, c.loop-k-test.true)) ∙ c.loop-k.invariant.1,
+    )
+
+pub returns : goal.returns
+returns c =
+    let all = rows_in c.args.kind (length c.args.one.now) in
+    sym (scan_done _ _ all _ (omega (arith, c.rows_of-rows.ensures, c.loop-k-test.false))) ∙ c.loop-k.invariant.1

@@ -1,0 +1,75 @@
+-- `take_turn`: the scan over all pairs is the definition's choice, its move can be made, and the tables are then what the run's own step leads to.
+use borrow.Author.Rules.{rules}
+use native.Mathlib.Omega.{arith}
+use Rattle.cross_steps.proofs.Turns.{asks_part, kept_part, chosen_in, turned}
+use Rattle.cross_steps.proofs.take_turn.Goals as goal
+
+pub slice_bounds-best_move-count : goal.slice_bounds-best_move-count
+slice_bounds-best_move-count c =
+    omega arith
+
+pub slice_bounds-best_move-start : goal.slice_bounds-best_move-start
+slice_bounds-best_move-start c =
+    omega arith
+
+pub slice_bounds-best_move-end : goal.slice_bounds-best_move-end
+slice_bounds-best_move-end c =
+    c.requires.live.few
+
+pub slice_bounds-best_move-count-2 : goal.slice_bounds-best_move-count-2
+slice_bounds-best_move-count-2 c =
+    omega arith
+
+pub slice_bounds-best_move-start-2 : goal.slice_bounds-best_move-start-2
+slice_bounds-best_move-start-2 c =
+    omega arith
+
+pub slice_bounds-best_move-end-2 : goal.slice_bounds-best_move-end-2
+slice_bounds-best_move-end-2 c =
+    omega (arith, c.requires.live.few, c.requires.live.even_ids)
+
+pub slice_bounds-best_move-count-3 : goal.slice_bounds-best_move-count-3
+slice_bounds-best_move-count-3 c =
+    omega arith
+
+pub slice_bounds-best_move-start-3 : goal.slice_bounds-best_move-start-3
+slice_bounds-best_move-start-3 c =
+    omega arith
+
+pub slice_bounds-best_move-end-3 : goal.slice_bounds-best_move-end-3
+slice_bounds-best_move-end-3 c =
+    omega (arith, c.requires.live.few, c.requires.live.even_costs)
+
+pub best_move-best-requires : goal.best_move-best-requires
+best_move-best-requires c =
+    (
+      c.requires.asked.0,
+      (
+        c.requires.manned,
+        (
+          asks_part _ _ _ _ _ _ c.requires.live,
+          (
+            c.requires.sums_len,
+            (c.requires.deltas_len, kept_part _ _ _ _ _ _ _ _ c.args.last.left _ _ _ _ _ c.requires.kept),
+          ),
+        ),
+      ),
+    )
+
+pub make_found-requires-clause-makes : goal.make_found-requires-clause-makes
+make_found-requires-clause-makes c =
+    let live = c.requires.live in
+    let chosen = chosen_in _ _ _ _ _ _ _ _ _ live _ c.requires.asked.1 _ c.best_move-best.ensures.value in
+    (chosen.makes, live.few)
+
+pub make_found-requires-clause-ids_len : goal.make_found-requires-clause-ids_len
+make_found-requires-clause-ids_len c =
+    let live = c.requires.live in
+    (live.even_ids, live.even_costs)
+
+pub returns : goal.returns
+returns c =
+    turned _ _ _ _ _ _ _ _ _ _ _ c.requires.live c.requires.asked.1 _ c.best_move-best.ensures.value _ _ _ _ _ _ _ _
+    c.best_move-best.ensures.kept_2 _
+    c.make_found.ensures
+    c.make_found.auto.lengths c.make_found.auto.ids c.make_found.auto.costs

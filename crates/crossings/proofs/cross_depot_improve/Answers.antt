@@ -1,0 +1,24 @@
+-- `cross_depot_improve`: a refusal changes nothing; otherwise the fleet is crewed and the lists are held, and the run is the definition's.
+use borrow.Author.Rules.{rules}
+use native.Mathlib.Nat.{not-suc-le-zero}
+use mathlib.Core.Path.{refl, sym, ◌∙◌}
+use Rattle.refusals.specs.Refusal.{fine_fleet}
+use Rattle.crossings.proofs.Crossing.{asked, crewed, held, refused_cross, ended_cross}
+use Rattle.crossings.proofs.cross_depot_improve.Goals as goal
+
+pub returns-then-refused-ne0 : goal.returns-then-refused-ne0
+returns-then-refused-ne0 c =
+    let is = refused_cross _ _ _ _ _ _ _ c.refusal_of_fleet-refused.result c.if-refused-ne0.true c.refusal_of_fleet-refused.ensures.answer in
+    record { answer = (is.0, is.1, is.2, is.3, (λ f. refl), (λ k there. absurd (not-suc-le-zero there))) }
+
+pub improve-crossed-requires : goal.improve-crossed-requires
+improve-crossed-requires c =
+    let f = fine_fleet _ _ _ _ _ _ (sym c.refusal_of_fleet-refused.ensures.answer ∙ c.if-refused-ne0.false) in
+    (asked _ _ _ _ _ _ f, (crewed _ _ _ _ _ _ f, held _ _ _ _ _ _ f))
+
+pub returns : goal.returns
+returns c =
+    let ran = c.improve-crossed.ensures in
+    let refused = c.refusal_of_fleet-refused in
+    let left = c.if-refused-ne0.false in
+    record { answer = ended_cross _ _ _ _ _ _ _ refused.result left refused.ensures _ _ _ _ _ ran c.rearranged_of.ensures }

@@ -1,0 +1,15 @@
+-- `has_soft_windows`: no flag passed is soft, so the rest decides.
+use borrow.Author.Rules.{rules}
+use Prim.Native.Nat.{◌-◌, ◌≤◌}
+use mathlib.Core.Path.{◌≡◌, refl, sym, ◌∙◌}
+use lib.ListN.{length, drop}
+use Rattle.day.specs.Customer.{some_of, is_soft, has_soft_windows, some_here, some_later, some_ends}
+use Rattle.day_scans.proofs.customer.has_soft_windows.Given as goal
+
+abbrev pub invariant-loop-i : goal.invariant-loop-i
+invariant-loop-i l =
+    (l.i ≤ length l.flags) × (some_of is_soft (drop l.i l.flags) ≡ some_of is_soft l.flags)
+
+abbrev pub decreases-loop-i : goal.decreases-loop-i
+decreases-loop-i l =
+    length l.flags - l.i

@@ -1,0 +1,16 @@
+-- `has_time_windows`: no flag passed has a window, so the rest decides.
+use borrow.Author.Rules.{rules}
+use Prim.Native.Nat.{◌-◌, ◌≤◌}
+use mathlib.Core.Path.{◌≡◌, refl, sym, ◌∙◌}
+use lib.ListN.{length, drop}
+use Rattle.day.specs.Day.{bit1}
+use Rattle.day.specs.Customer.{some_of, has_time_windows, some_here, some_later, some_ends}
+use Rattle.day_scans.proofs.customer.has_time_windows.Given as goal
+
+abbrev pub invariant-loop-i : goal.invariant-loop-i
+invariant-loop-i l =
+    (l.i ≤ length l.flags) × (some_of bit1 (drop l.i l.flags) ≡ some_of bit1 l.flags)
+
+abbrev pub decreases-loop-i : goal.decreases-loop-i
+decreases-loop-i l =
+    length l.flags - l.i

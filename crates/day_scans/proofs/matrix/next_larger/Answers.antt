@@ -1,0 +1,35 @@
+-- `next_larger`: an entry that isn't larger than the largest so far leaves the largest of the rest as it was.
+use borrow.Author.Rules.{rules}
+use Prim.Native.Nat.{◌-◌, ◌≤◌}
+use mathlib.Core.Path.{◌≡◌, refl, ◌∙◌}
+use native.Mathlib.Omega.{arith}
+use lib.ListN.{length, drop}
+use Rattle.numbers.specs.Total.{largest}
+use Rattle.day.specs.Matrix.{largest_passed}
+use Rattle.day_scans.proofs.matrix.next_larger.Goals as goal
+
+pub loop-i-init : goal.loop-i-init
+loop-i-init c =
+    let past = c.past_smaller-i.ensures.TAIL:lower_bound|distances_value in
+    (past.0.0, past.0.1, past.1)
+
+pub returns-then-most-distances-clause-lower_bound : goal.returns-then-most-distances-clause-lower_bound
+returns-then-most-distances-clause-lower_bound c =
+    (c.loop-i.invariant.0, c.loop-i.invariant.1)
+
+pub returns-then-most-distances-clause-distances_value : goal.returns-then-most-distances-clause-distances_value
+returns-then-most-distances-clause-distances_value c =
+    c.loop-i.invariant.2
+
+pub loop-i-preserved : goal.loop-i-preserved
+loop-i-preserved c =
+    let test = c.loop-i-test.true in
+    (search rules, search rules, largest_passed _ _ _ test c.if-most-distances.false ∙ c.loop-i.invariant.2)
+
+pub returns-clause-lower_bound : goal.returns-clause-lower_bound
+returns-clause-lower_bound c =
+    (c.loop-i.invariant.0, c.loop-i.invariant.1)
+
+pub returns-clause-distances_value : goal.returns-clause-distances_value
+returns-clause-distances_value c =
+    c.loop-i.invariant.2

@@ -1,0 +1,43 @@
+-- `row_mirrored`: the entries passed equal their mirrors.
+use borrow.Author.Rules.{rules}
+use Prim.Native.Nat.{◌-◌, ◌≤◌}
+use mathlib.Core.Path.{◌≡◌, refl, sym, ◌∙◌}
+use mathlib.Core.Bool.{true}
+use lib.Ieee.{eq, ne}
+use Rattle.tests.specs.All.{all_below, all_none, all_more, all_fails, all_end, no, yes}
+use Rattle.day.specs.Matrix.{leg, mirrored}
+use borrow.Author.Tests.{not-true, not-false}
+use native.Mathlib.Omega.{arith}
+use Rattle.day_scans.proofs.matrix.row_mirrored.Goals as goal
+
+pub loop-to-init : goal.loop-to-init
+loop-to-init c =
+    (search rules, all_none _)
+
+pub get-requires : goal.get-requires
+get-requires c =
+    (c.requires.0, c.requires.1, omega arith)
+
+pub get-requires-in-loop-to : goal.get-requires-in-loop-to
+get-requires-in-loop-to c =
+    (c.requires.0, omega arith, c.requires.1)
+
+pub returns-then-get : goal.returns-then-get
+unfolding mirrored ne
+returns-then-get c =
+    sym (all_fails _ _ c.loop-to.to (search rules) (rw
+    (← c.get.ensures, ← c.get-in-loop-to.ensures) (c.if-get.true)))
+
+pub loop-to-preserved : goal.loop-to-preserved
+unfolding ne
+loop-to-preserved c =
+    (
+  search rules,
+  all_more _ _ c.loop-to.invariant.1 (rw (← c.get.ensures, ← c.get-in-loop-to.ensures)
+      (c.if-get.false)),
+)
+
+pub returns : goal.returns
+unfolding mirrored ne
+returns c =
+    all_end _ _ _ c.loop-to.invariant.0 c.loop-to-test.false c.loop-to.invariant.1

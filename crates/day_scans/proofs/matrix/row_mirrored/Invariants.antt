@@ -1,0 +1,19 @@
+-- `row_mirrored`: the entries passed equal their mirrors.
+use borrow.Author.Rules.{rules}
+use Prim.Native.Nat.{◌-◌, ◌≤◌}
+use mathlib.Core.Path.{◌≡◌, refl, sym, ◌∙◌}
+use mathlib.Core.Bool.{true}
+use lib.Ieee.{eq, ne}
+use Rattle.tests.specs.All.{all_below, all_none, all_more, all_fails, all_end, no, yes}
+use Rattle.day.specs.Matrix.{leg, mirrored}
+use borrow.Author.Tests.{not-true, not-false}
+use native.Mathlib.Omega.{arith}
+use Rattle.day_scans.proofs.matrix.row_mirrored.Given as goal
+
+abbrev pub invariant-loop-to : goal.invariant-loop-to
+invariant-loop-to l =
+    (l.to ≤ l.from) × (all_below (λ k. eq (leg l.l l.distances l.from k) (leg l.l l.distances k l.from)) l.to ≡ true)
+
+abbrev pub decreases-loop-to : goal.decreases-loop-to
+decreases-loop-to l =
+    l.from - l.to

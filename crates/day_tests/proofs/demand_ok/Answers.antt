@@ -1,0 +1,11 @@
+-- `demand_ok`: the callee joins the definition's two tests.
+use borrow.Author.Rules.{rules}
+use mir.Syntax.{w32}
+use mir.ValLaws.{to_z-of_z}
+use Rattle.day.specs.Refusal.{demand_ok}
+use Rattle.day_tests.proofs.demand_ok.Goals as goal
+
+pub returns : goal.returns
+unfolding demand_ok
+returns c =
+    rw (c.both.ensures, to_z-of_z w32 c.args.x c.ranges.x)

@@ -1,0 +1,21 @@
+-- `turned_legs`: the sum so far and the legs still ahead make the whole piece's.
+use mathlib.Core.Path.{◌≡◌, sym, ◌∙◌}
+use Prim.Native.Nat.{◌+◌, ◌-◌, ◌≤◌}
+use native.Mathlib.Omega.{arith}
+use lib.ListN.{get_or}
+use lib.Seq.{slice}
+use lib.Ieee.{of_bits}
+use Rattle.day.specs.Matrix.{leg}
+use Rattle.deltas.specs.Changes.{turned_legs, reversal_delta}
+use Rattle.deltas_within.proofs.Turning.{turning_starts, turning_turns, turning_ends}
+use borrow.Author.Rules.{rules}
+use Rattle.deltas_within.proofs.turned_legs.Given as goal
+
+abbrev pub invariant-loop-k : goal.invariant-loop-k
+invariant-loop-k l =
+    (l.k ≤ l.last) × (turned_legs (leg l.l l.distances) l.sum (get_or l.list l.k 0) (slice (l.k + 1) (l.last + 1) l.list)
+    ≡ reversal_delta (leg l.l l.distances) (slice l.first (l.last + 1) l.list))
+
+abbrev pub decreases-loop-k : goal.decreases-loop-k
+decreases-loop-k l =
+    l.last - l.k

@@ -1,0 +1,17 @@
+-- `route_distance`: what is driven and the rest of the list make the whole distance.
+use borrow.Author.Rules.{rules}
+use native.Mathlib.Omega.{arith}
+use Prim.Native.Nat.{◌-◌, ◌≤◌, ◌<◌}
+use mathlib.Core.Path.{◌≡◌, refl, ◌∙◌}
+use lib.ListN.{length, drop}
+use lib.Ieee.{of_bits}
+use Rattle.evaluation.specs.Distance.{onward_distance, route_distance, distance_none, distance_first, distance_turn, distance_end}
+use Rattle.evaluation.proofs.distance.route_distance.Given as goal
+
+abbrev pub invariant-loop-i : goal.invariant-loop-i
+invariant-loop-i l =
+    (l.i ≤ length l.list) × (l.place < l.l) × (onward_distance l.l l.distances l.depot (drop l.i l.list) l.distance l.place ≡ route_distance l.l l.distances l.depot l.list)
+
+abbrev pub decreases-loop-i : goal.decreases-loop-i
+decreases-loop-i l =
+    length l.list - l.i

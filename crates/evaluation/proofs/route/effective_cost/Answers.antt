@@ -1,0 +1,10 @@
+-- `effective_cost`: the clock of the list, evaluated, and its price.
+use borrow.Author.Rules.{rules}
+use mathlib.Core.Path.{ap, ◌∙◌}
+use Rattle.evaluation.specs.Route.{eval, evaluated, cost_of, effective_cost}
+use Rattle.evaluation.proofs.route.effective_cost.Goals as goal
+
+pub returns : goal.returns
+unfolding effective_cost eval
+returns c =
+    c.cost_of.ensures ∙ ap cost_of (c.evaluate.ensures ∙ ap (evaluated _) c.outcome_of-outcome.ensures)

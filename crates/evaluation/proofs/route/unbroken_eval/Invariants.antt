@@ -1,0 +1,23 @@
+-- `unbroken_eval`: as in `unbroken_schedule`, what is driven and the rest of the list make the whole walk, and its end is evaluated.
+use borrow.Author.Rules.{rules}
+use native.Mathlib.Omega.{arith}
+use Prim.Native.Nat.{◌-◌, ◌≤◌, ◌<◌}
+use mathlib.Core.Path.{◌≡◌, refl, ap, ◌∙◌}
+use lib.ListN.{length, drop}
+use lib.Ieee.{of_bits}
+use Rattle.numbers.specs.Operations.{zero64}
+use Rattle.labels.specs.Columns.{columns, stop_in}
+use Rattle.labels.specs.Walk.{walk, tour_of}
+use Rattle.evaluation.specs.Route.{evaluated, tick, tick_is, unbroken_turns, unbroken_stops, unbroken_ends, unbroken_is}
+use Rattle.labels.specs.declared.label.Reached.TheVariants.{Served}
+use Rattle.evaluation.proofs.route.unbroken_eval.Given as goal
+
+abbrev pub invariant-loop-i : goal.invariant-loop-i
+invariant-loop-i l =
+    (l.i ≤ length l.list) × (l.place < l.l)
+    × (let c = (columns l.l l.flags l.service l.ready l.due l.penalty l.distances l.times) in
+    walk c (tick c) (tour_of l.distance (Served l.label) l.place) (drop l.i l.list) ≡ walk c (tick c) (tour_of zero64 (Served l.initial.label) l.depot) l.list)
+
+abbrev pub decreases-loop-i : goal.decreases-loop-i
+decreases-loop-i l =
+    length l.list - l.i

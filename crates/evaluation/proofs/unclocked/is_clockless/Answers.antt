@@ -1,0 +1,9 @@
+-- `is_clockless`: nothing is set besides the distance limit.
+use borrow.Author.Rules.{rules}
+use Rattle.evaluation.specs.Unclocked.{clockless}
+use Rattle.evaluation.proofs.unclocked.is_clockless.Goals as goal
+
+pub returns : goal.returns
+unfolding clockless
+returns c =
+    c.is_unlimited.ensures

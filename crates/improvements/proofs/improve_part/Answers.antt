@@ -1,0 +1,33 @@
+-- `improve_part`: the run keeps the visits, so that the list that it leaves has a distance.
+use borrow.Author.Rules.{rules}
+use Rattle.improvements.proofs.Improving.{improved_as_lem}
+use Rattle.within.proofs.Kept.{ran_visits}
+use mathlib.Core.Path.{sym, ◌∙◌}
+use Rattle.improvements.proofs.improve_part.Goals as goal
+
+pub improve-ended-requires : goal.improve-ended-requires
+improve-ended-requires c =
+    c.requires.TAIL:formed|depot_lt_l|distances_value
+
+pub route_distance-distance-requires : goal.route_distance-distance-requires
+route_distance-distance-requires c =
+    (
+  c.requires.formed.tables.of_distances,
+  c.requires.depot_lt_l.0,
+  rw
+      c.improve-ended.ensures.0 (ran_visits _ _ _ _ _ _
+      c.requires.depot_lt_l.1),
+)
+
+pub returns : goal.returns
+returns c =
+    (
+  rw (← c.of-limits.ensures) c.improve-ended.ensures.0,
+  rw (
+    c.improved_of.ensures,
+    c.improve-ended.ensures.1,
+    c.route_distance-distance.ensures,
+    c.improve-ended.ensures.0,
+    c.of-limits.ensures,
+  ) (improved_as_lem _ _ _),
+)

@@ -1,0 +1,22 @@
+-- `after_insertion`: down the column, a cell is still the old one when it is read.
+use borrow.Author.Rules.{rules}
+use Prim.Native.Nat.{◌-◌, ◌≤◌}
+use mathlib.Core.Path.{◌≡◌}
+use native.Mathlib.Omega.{arith}
+use lib.ListN.{length, length-set}
+use lib.Ieee.{nan}
+use Rattle.day.specs.Matrix.{leg}
+use Rattle.deltas.specs.Deltas.{insertion_delta}
+use Rattle.insertions.specs.Cache.{column, came_at}
+use Rattle.insertions.proofs.Cached.{column_start, column_read, column_turn, column_end}
+use Rattle.insertions.proofs.after_insertion.Given as goal
+
+abbrev pub invariant-loop-visit : goal.invariant-loop-visit
+invariant-loop-visit l =
+    let f = came_at (insertion_delta (leg l.l l.distances) l.depot l.fixed) l.r l.position l.list l.initial.figures l.initial.places in
+    (l.visit ≤ l.l) × (l.figures ≡ column (λ v. (f v).figure) l.r l.visit l.initial.figures) × (l.places ≡ column (λ v. (f v).place) l.r l.visit l.initial.places)
+    × (length l.figures ≡ 1024) × (length l.places ≡ 1024)
+
+abbrev pub decreases-loop-visit : goal.decreases-loop-visit
+decreases-loop-visit l =
+    l.l - l.visit

@@ -1,0 +1,18 @@
+-- `serve_hard`: the test of lateness picks.
+use borrow.Author.Rules.{rules}
+use mathlib.Core.Path.{refl, sym, ◌∙◌}
+use Rattle.tests.specs.Pick.{picked, other}
+use Rattle.labels.specs.Label.{served_in}
+use Rattle.labels.proofs.label.serve_hard.Goals as goal
+
+pub returns-then-is_violated : goal.returns-then-is_violated
+unfolding served_in
+returns-then-is_violated c =
+    picked _ _ _ _ (sym c.is_violated.ensures ∙ c.if-is_violated.true) refl
+
+pub returns : goal.returns
+unfolding served_in
+returns c =
+    let if1 = c.if-is_violated in
+    let is-violated = c.is_violated in
+    other _ _ _ _ (sym is-violated.ensures ∙ if1.false) (rw (← c.begin_at.ensures) c.in_time.ensures)

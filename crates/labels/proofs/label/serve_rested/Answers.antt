@@ -1,0 +1,24 @@
+-- `serve_rested`: the test picks whether the break can start; if so, the stop is served after it.
+use borrow.Author.Rules.{rules}
+use lib.Ieee.{binary64}
+use lib.Ieee.Fits.{add-fits}
+use mathlib.Core.Path.{refl}
+use Rattle.tests.specs.Pick.{picked, other}
+use Rattle.labels.specs.Label.{served_rested}
+use Rattle.labels.proofs.label.serve_rested.Goals as goal
+
+pub returns-then-start-rest : goal.returns-then-start-rest
+unfolding served_rested
+returns-then-start-rest c =
+    picked _ _ _ _ (rw c.Later-of.ensures at c.if-start-rest.true) refl
+
+pub serve_at-requires : goal.serve_at-requires
+serve_at-requires c =
+    add-fits binary64 _ _
+
+pub returns : goal.returns
+unfolding served_rested
+returns c =
+    let Later-of = c.Later-of in
+    let if1 = c.if-start-rest in
+    other _ _ _ _ (rw Later-of.ensures at if1.false) (rw (c.rest_here.ensures, Later-of.ensures) at c.serve_at.ensures)

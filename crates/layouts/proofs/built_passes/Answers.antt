@@ -1,0 +1,18 @@
+-- `built_passes`: the buffer's first visits are the list as it is laid out, and the callee checks them.
+use borrow.Author.Rules.{rules}
+use mathlib.Core.Path.{ap, ◌∙◌}
+use Rattle.evaluation.specs.Route.{feasible}
+use Rattle.layouts.proofs.Layouts.{laid_visits, front-laid}
+use Rattle.layouts.proofs.built_passes.Goals as goal
+
+pub route_feasible-requires-clause-formed : goal.route_feasible-requires-clause-formed
+route_feasible-requires-clause-formed c =
+    c.requires.formed
+
+pub route_feasible-requires-clause-depot_lt_l : goal.route_feasible-requires-clause-depot_lt_l
+route_feasible-requires-clause-depot_lt_l c =
+    (c.requires.depot_lt_l.0, rw (front-laid _ _ _ c.lay_out.ensures) (laid_visits _ _ _ _ c.requires.depot_lt_l.2 c.requires.depot_lt_l.1))
+
+pub returns : goal.returns
+returns c =
+    c.route_feasible.ensures ∙ ap (feasible _ _ _) (front-laid _ _ _ c.lay_out.ensures)

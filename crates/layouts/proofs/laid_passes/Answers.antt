@@ -1,0 +1,49 @@
+-- `laid_passes`: with no break to take, the list laid out shares the head; else it is built and checked whole.
+use borrow.Author.Rules.{rules}
+use borrow.Author.Tests.{not-true, not-false}
+use mathlib.Core.Path.{◌∙◌}
+use Rattle.tests.specs.All.{off, on}
+use Rattle.engine.specs.Engine.{passing}
+use Rattle.layouts.proofs.Layouts.{head_kept}
+use Rattle.layouts.proofs.Onward.{from_head}
+use mathlib.Core.Path.{ap}
+use mathlib.Core.Bool.{not}
+use Rattle.layouts.proofs.laid_passes.Goals as goal
+
+pub returns-then-not-needed : goal.returns-then-not-needed
+unfolding passing
+returns-then-not-needed c =
+    off _ _ (not-true c.args.needed (ap not c.if-not-needed.true))
+
+pub passes_from-requires-clause-formed : goal.passes_from-requires-clause-formed
+passes_from-requires-clause-formed c =
+    c.requires.formed
+
+pub passes_from-requires-clause-depot_lt_l : goal.passes_from-requires-clause-depot_lt_l
+passes_from-requires-clause-depot_lt_l c =
+    (c.requires.depot_lt_l.0, c.requires.depot_lt_l.1)
+
+pub passes_from-requires-clause-cut_in : goal.passes_from-requires-clause-cut_in
+passes_from-requires-clause-cut_in c =
+    (c.requires.depot_lt_l.2, c.requires.driven.0.placed)
+
+pub built_passes-requires-clause-formed : goal.built_passes-requires-clause-formed
+built_passes-requires-clause-formed c =
+    c.requires.formed
+
+pub built_passes-requires-clause-depot_lt_l : goal.built_passes-requires-clause-depot_lt_l
+built_passes-requires-clause-depot_lt_l c =
+    c.requires.depot_lt_l
+
+pub returns-in-NoBreak : goal.returns-in-NoBreak
+unfolding passing
+returns-in-NoBreak c =
+    on _ _ _ (not-false c.args.needed (ap not c.if-not-needed.false))
+    (c.passes_from.ensures
+    ∙ from_head _ _ _ _ _ _ c.requires.driven.0 (head_kept _ c.args.list.now c.args.p c.requires.depot_lt_l.2 c.requires.driven.1)
+    c.in-NoBreak.is)
+
+pub returns-in-Break : goal.returns-in-Break
+unfolding passing
+returns-in-Break c =
+    on _ _ _ (not-false c.args.needed (ap not c.if-not-needed.false)) c.built_passes.ensures

@@ -1,0 +1,13 @@
+-- `next_to`: one case for each return.
+use mathlib.Core.Path.{refl}
+use mathlib.Core.Logic.{inl, inr}
+use borrow.Author.Rules.{rules}
+use Rattle.neighbours.proofs.next_to.Goals as goal
+
+pub returns-then-to-from : goal.returns-then-to-from
+returns-then-to-from c =
+    inl (c.if-to-from.true, refl)
+
+pub returns : goal.returns
+returns c =
+    inr (c.if-to-from.false, refl)

@@ -1,0 +1,20 @@
+-- `best_between`: before each visit, the scan over what is left comes to the pair's best, and the cache is right.
+use borrow.Author.Rules.{rules}
+use mathlib.Core.Path.{◌≡◌, refl, sym, ap, ◌∙◌}
+use Prim.Native.Nat.{◌-◌}
+use native.Mathlib.Omega.{arith}
+use lib.ListN.{length}
+use Rattle.lists.proofs.Tables.{length_list}
+use Rattle.labels.specs.Columns.{columns}
+use Rattle.loads.proofs.Tables.{list_visits, lent_visits, one_more}
+use Rattle.offers.proofs.Trying.{Pairing, pairing_start, pairing_turn, pairing_end, pair_empty, pair-none}
+use Rattle.offers.proofs.best_between.Given as goal
+
+abbrev pub invariant-loop-position : goal.invariant-loop-position
+invariant-loop-position l =
+    Pairing (columns l.setup.l l.flags l.service l.ready l.due l.penalty l.distances l.times) l.demand l.setup l.visits l.lengths l.from l.to l.giver l.initial.best l.position l.best l.figures l.places
+    × (length l.buffer ≡ length l.initial.buffer) × (length l.figures ≡ length l.initial.figures) × (length l.places ≡ length l.initial.places)
+
+abbrev pub decreases-loop-position : goal.decreases-loop-position
+decreases-loop-position l =
+    length l.giver - l.position

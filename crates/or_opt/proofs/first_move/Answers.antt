@@ -1,0 +1,47 @@
+-- `first_move`: the first move from here on is the first from `first` on; a length that has none is passed over.
+use mathlib.Core.Path.{◌≡◌, refl, sym, ap, ◌∙◌}
+use Prim.Native.Nat.{◌-◌}
+use native.Mathlib.Omega.{arith}
+use borrow.Author.Rules.{rules}
+use Rattle.labels.specs.Columns.{columns}
+use Rattle.descent.specs.Order.{range}
+use Rattle.descent.specs.Search.{first_move}
+use Rattle.segments.specs.Segments.{search_of, judge_of, piece_of}
+use Rattle.or_opt.specs.OrOpt.{Apt}
+use Rattle.or_opt.proofs.Sizes.{fits_taken, size-moves, size_passed, sizes_done}
+use Rattle.or_opt.proofs.first_move.Goals as goal
+
+pub loop-size-init : goal.loop-size-init
+loop-size-init c =
+    refl
+
+pub best_piece-best-requires : goal.best_piece-best-requires
+best_piece-best-requires c =
+    (c.requires, c.loop-size-test.true)
+
+pub returns-in-Move : goal.returns-in-Move
+unfolding Apt
+returns-in-Move c =
+    let turn = c.loop-size in
+    let loop-test = c.loop-size-test in
+    let taken = ap piece_of (sym c.in-Move.is) ∙ c.best_piece-best.ensures in
+    (size-moves _ c.args.terms _ _ _ loop-test.true taken ∙ turn.invariant, (fits_taken _ c.args.terms _ _ _ taken).1)
+
+pub overflow_add-size : goal.overflow_add-size
+overflow_add-size c =
+    omega (arith, c.loop-size-test.true)
+
+pub loop-size-smaller : goal.loop-size-smaller
+loop-size-smaller c =
+    omega (arith, c.loop-size-test.true)
+
+pub loop-size-preserved : goal.loop-size-preserved
+loop-size-preserved c =
+    let turn = c.loop-size in
+    let nothing = ap piece_of (sym c.in_default.is) ∙ c.best_piece-best.ensures in
+    size_passed _ c.args.terms _ _ c.loop-size-test.true nothing ∙ turn.invariant
+
+pub returns : goal.returns
+unfolding Apt
+returns c =
+    (sizes_done _ c.args.terms _ _ c.loop-size-test.false ∙ c.loop-size.invariant, tt)

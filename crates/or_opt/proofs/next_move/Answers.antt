@@ -1,0 +1,20 @@
+-- `next_move`: the first move ahead in this sweep or, where there is none, the first of a new one.
+use mathlib.Core.Path.{sym, ap, subst, ◌∙◌}
+use borrow.Author.Rules.{rules}
+use lib.ListN.{length}
+use Rattle.or_opt.specs.OrOpt.{Apt, leads}
+use Rattle.or_opt.proofs.Sizes.{is-ahead, is_anew}
+use Rattle.or_opt.proofs.next_move.Goals as goal
+
+pub returns-in-Move : goal.returns-in-Move
+returns-in-Move c =
+    let first-move = c.first_move-best in
+    let list = c.args.list.now in
+    let best = c.in-Move.is in
+    let found = ap (leads list) (sym best) ∙ first-move.ensures.0 in
+    (is-ahead _ c.args.terms _ c.args.ahead _ found, subst (Apt (length list)) best first-move.ensures.1)
+
+pub returns : goal.returns
+returns c =
+    let none_ahead = ap (leads c.args.list.now) (sym c.in_default.is) ∙ c.first_move-best.ensures.0 in
+    (is_anew _ c.args.terms _ c.args.ahead _ none_ahead c.first_move.ensures.0, c.first_move.ensures.1)

@@ -1,0 +1,109 @@
+-- `or_opt_improve`: after some moves the run from here on, with what is left of the limit, ends as the whole run does; the measure is what is left.
+use mathlib.Core.Path.{◌≡◌, refl, sym, ap, subst, ◌∙◌}
+use mathlib.Core.List.{List, []}
+use Prim.Native.Nat.{ℕ, ◌-◌}
+use native.Mathlib.Omega.{arith}
+use borrow.Author.Rules.{rules}
+use lib.ListN.{length}
+use Rattle.numbers.specs.Floor.{gain_floor}
+use Rattle.labels.specs.Columns.{columns}
+use Rattle.descent.specs.Order.{range}
+use Rattle.descent.specs.Search.{Sweep, next}
+use Rattle.descent.specs.Engines.{run_of}
+use Rattle.segments.specs.Segments.{search_of, judge_of, Asked}
+use Rattle.or_opt.specs.OrOpt.{Apt, leads}
+use Rattle.or_opt.proofs.Sizes.{moved_on}
+use Rattle.descent.proofs.Going.{Going, going_starts}
+use Rattle.engine.proofs.Running.{going_settles, going_stops}
+use Rattle.or_opt.proofs.or_opt_improve.Goals as goal
+
+pub loop-change-init : goal.loop-change-init
+loop-change-init c =
+    (
+      going_starts _ _ _,
+      record {
+        formed = c.requires.formed;
+        depot_there = c.requires.depot_lt_l.0;
+        visits = c.requires.depot_lt_l.1;
+        needed = c.route_checks_needed-needed.ensures;
+        floor = c.gain_floor-floor.ensures.answer ∙ ap gain_floor c.scale.ensures;
+      },
+      refl,
+    )
+
+pub next_move-best-requires : goal.next_move-best-requires
+next_move-best-requires c =
+    c.loop-change.invariant.1
+
+pub returns-in_default : goal.returns-in_default
+unfolding run_of leads
+returns-in_default c =
+    let turn = c.loop-change in
+    let none_left = ap (leads turn.list) (sym c.in_default.is) ∙ c.next_move-best.ensures.0 in
+    let answer = going_settles _ _ _ _ _ turn.invariant.0 (sym none_left) in
+    (ap (λ (s : Sweep (List ℕ) ℕ). s.now) answer.0, answer.1)
+
+pub returns-then-limit-moves : goal.returns-then-limit-moves
+unfolding run_of leads
+returns-then-limit-moves c =
+    let turn = c.loop-change in
+    let next-move = c.next_move-best in
+    let one_left = ap (leads turn.list) (sym c.in-Move.is) ∙ next-move.ensures.0 in
+    let answer = going_stops _ _ _ _ _ _ turn.invariant.0 c.if-limit-moves.true (sym one_left) in
+    (ap (λ (s : Sweep (List ℕ) ℕ). s.now) answer.0, answer.1)
+
+pub move_piece-requires-clause-size_in_bounds : goal.move_piece-requires-clause-size_in_bounds
+unfolding Apt
+move_piece-requires-clause-size_in_bounds c =
+    let turn = c.loop-change in
+    let next-move = c.next_move-best in
+    let fits = subst (Apt (length turn.list)) c.in-Move.is next-move.ensures.1 in
+    fits.inside
+
+pub move_piece-requires-clause-to_in_bounds : goal.move_piece-requires-clause-to_in_bounds
+unfolding Apt
+move_piece-requires-clause-to_in_bounds c =
+    let turn = c.loop-change in
+    let next-move = c.next_move-best in
+    let fits = subst (Apt (length turn.list)) c.in-Move.is next-move.ensures.1 in
+    fits.there
+
+pub move_piece-requires-clause-fact : goal.move_piece-requires-clause-fact
+unfolding Apt
+move_piece-requires-clause-fact c =
+    let turn = c.loop-change in
+    let next-move = c.next_move-best in
+    let fits = subst (Apt (length turn.list)) c.in-Move.is next-move.ensures.1 in
+    fits.apart
+
+pub overflow_add-ahead : goal.overflow_add-ahead
+unfolding Apt
+overflow_add-ahead c =
+    let turn = c.loop-change in
+    let next-move = c.next_move-best in
+    let best = c.best-1 in
+    let fits = subst (Apt (length turn.list)) best.given.1 next-move.ensures.1 in
+    omega (arith, fits.inside, turn.invariant.1.visits.few)
+
+pub overflow_add-moves : goal.overflow_add-moves
+overflow_add-moves c =
+    omega (arith, c.if-limit-moves.false, c.ranges.limit)
+
+pub loop-change-smaller : goal.loop-change-smaller
+loop-change-smaller c =
+    omega (arith, c.if-limit-moves.false)
+
+pub loop-change-preserved : goal.loop-change-preserved
+unfolding Apt
+loop-change-preserved c =
+    let turn = c.loop-change in
+    let next-move = c.next_move-best in
+    let best = c.best-1 in
+    let if1 = c.if-limit-moves in
+    let move-piece = c.move_piece in
+    let m = best.given.0.0 in
+    let list = turn.list in
+    let fits = subst (Apt (length list)) best.given.1 next-move.ensures.1 in
+    let one_left = ap (leads list) (sym best.given.1) ∙ next-move.ensures.0 in
+    let on = moved_on _ _ _ _ _ turn.ahead _ m _ turn.invariant.1 fits turn.invariant.0 if1.false one_left move-piece.ensures in
+    (on.0, on.1, move-piece.auto.0 ∙ turn.invariant.2)

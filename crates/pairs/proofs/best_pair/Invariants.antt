@@ -1,0 +1,15 @@
+-- `best_pair`: before each row the first of the best so far and the rows from here on is the first of all.
+use mathlib.Core.Path.{◌≡◌, refl, sym, ◌∙◌}
+use Prim.Native.Nat.{◌-◌}
+use native.Mathlib.Omega.{arith}
+use Rattle.pairs.specs.Pairs.{first_among, table, rows_from, least_entry}
+use Rattle.pairs.proofs.Rows.{rows_turn, rows_done}
+use Rattle.pairs.proofs.best_pair.Given as goal
+
+abbrev pub invariant-loop-from : goal.invariant-loop-from
+invariant-loop-from l =
+    first_among (rows_from l.n l.bound (table l.deltas l.positions l.places) l.from) l.best ≡ first_among (rows_from l.n l.bound (table l.deltas l.positions l.places) 0) l.initial.best
+
+abbrev pub decreases-loop-from : goal.decreases-loop-from
+decreases-loop-from l =
+    l.n - l.from

@@ -1,0 +1,35 @@
+-- `candidate_passes`: where no check is needed the definition doesn't ask; else the buffer's front is the candidate, and the callee answers.
+use borrow.Author.Rules.{rules}
+use mathlib.Core.Path.{ap, ◌∙◌}
+use borrow.Author.Tests.{not-true}
+use Rattle.tests.specs.All.{off}
+use Rattle.engine.specs.Engine.{passing}
+use Rattle.edits.proofs.Cuts.{front}
+use Rattle.reconnections.proofs.Reconnected.{visits_reconnected}
+use mathlib.Core.Bool.{not}
+use Rattle.patterns.proofs.candidate_passes.Goals as goal
+
+pub returns-then-not-setup : goal.returns-then-not-setup
+unfolding passing
+returns-then-not-setup c =
+    off _ _ (not-true c.args.setup.needed (ap not c.if-not-setup.true))
+
+pub passes-requires-clause-formed : goal.passes-requires-clause-formed
+passes-requires-clause-formed c =
+    c.requires.prepared.formed
+
+pub passes-requires-clause-depot_lt_l : goal.passes-requires-clause-depot_lt_l
+passes-requires-clause-depot_lt_l c =
+    (
+        c.requires.prepared.depot_there,
+        rw (front c.reconnected_into-end.result c.reconnected_into-end.new.buffer _
+            c.reconnected_into-end.ensures.buffer_after)
+            (visits_reconnected _ _ _ c.requires.inside.0 _ c.requires.visits.0),
+      )
+
+pub returns : goal.returns
+returns c =
+    c.passes.ensures
+    ∙ ap (passing _ _ _ _)
+    (front c.reconnected_into-end.result c.reconnected_into-end.new.buffer _
+    c.reconnected_into-end.ensures.buffer_after)

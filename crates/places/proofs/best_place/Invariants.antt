@@ -1,0 +1,26 @@
+-- `best_place`: before each place, the best among the places from here on is the best among all, and the least so far is the least of those passed.
+use borrow.Author.Rules.{rules}
+use mathlib.Core.Path.{◌≡◌, refl, sym, ◌∙◌}
+use Prim.Native.Nat.{ℕ, suc, ◌-◌, ◌≤◌}
+use native.Mathlib.Omega.{arith}
+use lib.ListN.{length}
+use Rattle.day.specs.Matrix.{leg}
+use Rattle.labels.specs.Columns.{columns}
+use Rattle.descent.specs.Order.{range}
+use Rattle.deltas.specs.Deltas.{insertion_delta}
+use Rattle.insertions.specs.Cache.{least_below}
+use Rattle.places.specs.Places.{best_among}
+use Rattle.insertions.proofs.Reached.{least_start, least_turn, least_end}
+use Rattle.places.proofs.Inserting.{among_turn, among_end}
+use Rattle.places.proofs.best_place.Given as goal
+
+abbrev pub invariant-loop-setup : goal.invariant-loop-setup
+invariant-loop-setup l =
+    let cost : ℕ → _ = insertion_delta (leg l.setup.l l.distances) l.setup.depot l.setup.fixed l.list l.offer.visit in
+    (best_among (columns l.setup.l l.flags l.service l.ready l.due l.penalty l.distances l.times) l.setup l.list l.offer (range l.place (suc (length l.list))) l.after
+    ≡ best_among (columns l.setup.l l.flags l.service l.ready l.due l.penalty l.distances l.times) l.setup l.list l.offer (range 0 (suc (length l.list))) l.initial.after)
+    × (l.least ≡ least_below cost l.place) × (l.place ≤ suc (length l.list)) × (length l.buffer ≡ length l.initial.buffer)
+
+abbrev pub decreases-loop-setup : goal.decreases-loop-setup
+decreases-loop-setup l =
+    suc (length l.list) - l.place

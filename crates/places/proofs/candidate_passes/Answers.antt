@@ -1,0 +1,42 @@
+-- `candidate_passes`: where no check is needed the definition doesn't ask; else the buffer's front is the candidate, and the callee answers.
+use borrow.Author.Rules.{rules}
+use mathlib.Core.Path.{ap, ◌∙◌}
+use native.Mathlib.Omega.{arith}
+use borrow.Author.Tests.{not-true}
+use Rattle.tests.specs.All.{off}
+use Rattle.engine.specs.Engine.{passing}
+use Rattle.edits.proofs.Cuts.{front}
+use Rattle.loads.proofs.Visits.{visits_inserted}
+use mathlib.Core.Bool.{not}
+use Rattle.places.proofs.candidate_passes.Goals as goal
+
+pub returns-then-not-setup : goal.returns-then-not-setup
+unfolding passing
+returns-then-not-setup c =
+    off _ _ (not-true c.args.setup.needed (ap not c.if-not-setup.true))
+
+pub inserted_into-end-requires : goal.inserted_into-end-requires
+inserted_into-end-requires c =
+    (c.requires.visits.3, omega (arith, c.requires.in_bounds, c.requires.visits.1))
+
+pub slice_bounds-passes-end : goal.slice_bounds-passes-end
+slice_bounds-passes-end c =
+    omega (arith, c.inserted_into-end.ensures.value, c.inserted_into-end.auto.buffer, c.requires.in_bounds, c.requires.visits.1)
+
+pub passes-requires-clause-formed : goal.passes-requires-clause-formed
+passes-requires-clause-formed c =
+    c.requires.prepared.formed
+
+pub passes-requires-clause-depot_lt_l : goal.passes-requires-clause-depot_lt_l
+passes-requires-clause-depot_lt_l c =
+    (
+        c.requires.prepared.depot_there,
+        rw (front c.inserted_into-end.result c.inserted_into-end.new.buffer _ c.inserted_into-end.ensures.buffer_after)
+            (visits_inserted _ c.args.list.now c.args.visit c.args.place c.requires.visits.0 c.requires.visits.1
+            c.requires.visits.2),
+      )
+
+pub returns : goal.returns
+returns c =
+    c.passes.ensures ∙ ap (passing _ _ _ _) (front c.inserted_into-end.result c.inserted_into-end.new.buffer _
+    c.inserted_into-end.ensures.buffer_after)

@@ -1,0 +1,9 @@
+-- `planner_table`: the entry's answer, written out.
+use borrow.Author.Rules.{rules}
+use Rattle.planner_c.proofs.planner_table.Goals as goal
+
+pub returns : goal.returns
+returns c =
+    let e = c.table_of-answer.ensures.answer in
+    let w = c.write_table.ensures in
+    rw (← e) (w.0, w.1, w.2, w.3, w.4, w.5)

@@ -1,0 +1,36 @@
+-- `make_moves`: the moves made and the run that is left are the whole run; the cache and the table of pairs are right of the lists as they stand.
+use mathlib.Core.Path.{◌≡◌, refl, sym, ◌∙◌}
+use Prim.Native.Nat.{◌-◌}
+use native.Mathlib.Omega.{arith}
+use lib.ListN.{length}
+use Rattle.lists.specs.Table.{lists}
+use Rattle.list_changes.specs.Edits.{Edited}
+use Rattle.lists.proofs.Tables.{length-lists}
+use Rattle.labels.specs.Columns.{columns}
+use Rattle.pairs.specs.Pairs.{table}
+use Rattle.pairs.proofs.Least.{is_none, is_some}
+use Rattle.pairs.proofs.Taken.{relocates}
+use Rattle.loads.specs.Loads.{Held}
+use Rattle.offers.specs.Offers.{Cached}
+use Rattle.relocations.specs.Relocations.{PairsRight, Every}
+use Rattle.descent.proofs.Going.{going_starts}
+use Rattle.list_changes.proofs.Edited.{edited_none}
+use Rattle.pairs.proofs.Going.{edited_again}
+use Rattle.relocation_runs.proofs.Going.{Running, table-choice, choice-there, answers_settled, answers_stopped, goes_on}
+use Rattle.loads.proofs.Tables.{still_held}
+use Rattle.relocation_runs.proofs.make_moves.Given as goal
+
+abbrev pub invariant-loop-setup : goal.invariant-loop-setup
+invariant-loop-setup l =
+    Running (columns l.setup.l l.flags l.service l.ready l.due l.penalty l.distances l.times) l.demand l.setup l.limit (lists l.initial.visits l.initial.lengths) l.moves (lists l.visits l.lengths)
+    × Edited l.initial.visits l.initial.lengths l.visits l.lengths (lists l.visits l.lengths) × Held l.setup.l l.visits l.lengths
+    × Cached (columns l.setup.l l.flags l.service l.ready l.due l.penalty l.distances l.times) l.setup (lists l.visits l.lengths) l.figures l.places
+    × PairsRight (columns l.setup.l l.flags l.service l.ready l.due l.penalty l.distances l.times) l.demand l.setup (lists l.visits l.lengths) (length l.lengths) Every
+    (table l.deltas l.positions l.to_places)
+    × (length l.visits ≡ length l.initial.visits) × (length l.lengths ≡ length l.initial.lengths) × (length l.buffer ≡ length l.initial.buffer)
+    × (length l.figures ≡ length l.initial.figures) × (length l.places ≡ length l.initial.places)
+    × (length l.deltas ≡ length l.initial.deltas) × (length l.positions ≡ length l.initial.positions) × (length l.to_places ≡ length l.initial.to_places)
+
+abbrev pub decreases-loop-setup : goal.decreases-loop-setup
+decreases-loop-setup l =
+    l.limit - l.moves

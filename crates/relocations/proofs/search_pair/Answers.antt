@@ -1,0 +1,28 @@
+-- `search_pair`: the search answers the pair's best, and it is put in.
+use native.Mathlib.Omega.{arith}
+use Rattle.relocations.proofs.search_pair.Goals as goal
+
+pub best_between-best-requires : goal.best_between-best-requires
+best_between-best-requires c =
+    (
+      c.requires.prepared,
+      (
+        (c.requires.loaded.0, c.requires.loaded.1),
+        ((c.requires.loaded.2, c.requires.sized.1, c.requires.sized.2), c.requires.cached),
+      ),
+    )
+
+pub put_pair-requires-clause-sized : goal.put_pair-requires-clause-sized
+put_pair-requires-clause-sized c =
+    c.requires.sized.0
+
+pub put_pair-requires-clause-from_bound : goal.put_pair-requires-clause-from_bound
+put_pair-requires-clause-from_bound c =
+    (omega (arith, c.requires.sized.1, c.requires.loaded.1.laid.few), omega (arith, c.requires.sized.2, c.requires.loaded.1.laid.few))
+
+pub returns : goal.returns
+returns c =
+    (
+      record { choice = _; is_best = c.best_between-best.ensures.0; is_put = c.put_pair.ensures },
+      c.best_between-best.ensures.1,
+    )

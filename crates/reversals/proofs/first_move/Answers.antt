@@ -1,0 +1,59 @@
+-- `first_move`: the first move from the place at hand on is the first from the start on, the list is as it was, and the head reaches no further than the
+-- place. The measure is how many places are left.
+use borrow.Author.Rules.{rules}
+use native.Mathlib.Omega.{arith}
+use mathlib.Core.Path.{◌≡◌, refl, ap, ◌∙◌}
+use lib.ListN.{length}
+use Rattle.labels.specs.Columns.{columns}
+use Rattle.reversal_places.specs.Places.{Shared}
+use Rattle.reversals.specs.Reversals.{InSweep, from, first_turn, leaves, Inside}
+use Rattle.reversals.proofs.Places.{left_less, still_in, none_shared, still_behind}
+use Rattle.reversals.proofs.Turns.{found_here, not_here, none_left}
+use Rattle.reversals.proofs.first_move.Goals as goal
+
+pub loop-place-init : goal.loop-place-init
+loop-place-init c =
+    (refl, refl, c.requires.in_sweep, (rw c.at_depot-head.ensures (none_shared c.args.list.now _ c.requires.worked.0), refl))
+
+pub head_up_to-head-requires : goal.head_up_to-head-requires
+head_up_to-head-requires c =
+    let inv = c.loop-place.invariant in
+    let there = c.loop-place-test.true in
+    let first = inv.2.ordered in
+    rw inv.0 (c.requires.worked.0.formed, ((c.requires.worked.0.depot_there, c.requires.worked.1, omega (arith, inv.1, there, first)), inv.3.0))
+
+pub try_reversal-requires : goal.try_reversal-requires
+try_reversal-requires c =
+    let inv = c.loop-place.invariant in
+    rw inv.0 (c.requires.worked, ((inv.2.ordered, c.loop-place-test.true), rw inv.0 at c.head_up_to-head.ensures.TAIL:driven_2|visits_le_to))
+
+pub returns-then-try_reversal : goal.returns-then-try_reversal
+returns-then-try_reversal c =
+    let inv = c.loop-place.invariant in
+    found_here _ _ _ _ _ _ inv.0 inv.2.ordered c.loop-place-test.true inv.3.1 _ c.try_reversal.ensures.value
+    c.try_reversal.ensures.list_after
+    c.if-try_reversal.true
+
+pub place_after-place-requires : goal.place_after-place-requires
+place_after-place-requires c =
+    (c.loop-place.invariant.2.ordered, c.loop-place-test.true)
+
+pub loop-place-smaller : goal.loop-place-smaller
+loop-place-smaller c =
+    rw c.place_after-place.ensures (left_less _ _ c.loop-place.invariant.2.ordered c.loop-place-test.true)
+
+pub loop-place-preserved : goal.loop-place-preserved
+loop-place-preserved c =
+    let inv = c.loop-place.invariant in
+    let there = c.loop-place-test.true in
+    let rest =
+    not_here _ _ _ _ _ _ inv.0 inv.2.ordered there inv.3.1 _ c.try_reversal.ensures.value
+    c.try_reversal.ensures.list_after c.if-try_reversal.false in
+    let near = rw inv.0 at c.head_up_to-head.ensures.TAIL:driven_2|visits_le_to in
+    rw c.place_after-place.ensures (rest.0, refl, still_in _ _ inv.2.ordered there, ((near.0, still_behind _ _ _ near.1), rest.1))
+
+pub returns : goal.returns
+unfolding leaves Inside
+returns c =
+    let inv = c.loop-place.invariant in
+    record { leads = none_left _ _ _ _ inv.2 c.loop-place-test.false ∙ inv.3.1; left = inv.0; inside = tt }

@@ -1,0 +1,23 @@
+-- `first_move`: the first move from the place at hand on is the first from the start on, the list is as it was, and the head reaches no further than the
+-- place. The measure is how many places are left.
+use borrow.Author.Rules.{rules}
+use native.Mathlib.Omega.{arith}
+use mathlib.Core.Path.{◌≡◌, refl, ap, ◌∙◌}
+use lib.ListN.{length}
+use Rattle.labels.specs.Columns.{columns}
+use Rattle.reversal_places.specs.Places.{Shared}
+use Rattle.reversals.specs.Reversals.{InSweep, from, first_turn, leaves, Inside}
+use Rattle.reversals.proofs.Places.{left_less, still_in, none_shared, still_behind}
+use Rattle.reversals.proofs.Turns.{found_here, not_here, none_left}
+use Rattle.reversals.proofs.first_move.Given as goal
+
+abbrev pub invariant-loop-place : goal.invariant-loop-place
+invariant-loop-place l =
+    (l.list ≡ l.initial.list) × (l.n ≡ length l.initial.list) × InSweep (length l.initial.list) l.place
+    × (let c = columns l.terms.l l.flags l.service l.ready l.due l.penalty l.distances l.times in
+    Shared c l.terms l.initial.list l.head l.place.first
+    × (first_turn c l.terms l.initial.list (from (length l.initial.list) l.place) ≡ first_turn c l.terms l.initial.list (from (length l.initial.list) l.initial.place)))
+
+abbrev pub decreases-loop-place : goal.decreases-loop-place
+decreases-loop-place l =
+    length (from l.n l.place)

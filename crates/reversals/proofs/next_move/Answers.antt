@@ -1,0 +1,27 @@
+-- `next_move`: the first search covers the places ahead; where it finds nothing the list is as it was, and the second covers all places.
+use borrow.Author.Rules.{rules}
+use Rattle.reversals.proofs.Places.{start_in}
+use Rattle.reversals.proofs.Turns.{left_as_it_was, found_ahead, found_anew}
+use Rattle.reversals.proofs.next_move.Goals as goal
+
+pub first_move-found-requires : goal.first_move-found-requires
+first_move-found-requires c =
+    let pre = c.requires.TAIL:worked|in_sweep in
+    (pre.0, search (pre.1, start_in))
+
+pub returns-in-At : goal.returns-in-At
+returns-in-At c =
+    found_ahead _ _ _ _ _ _ _ c.in-At.is c.first_move-found.ensures
+
+pub first_move-requires-clause-worked : goal.first_move-requires-clause-worked
+first_move-requires-clause-worked c =
+    let pre = c.requires.TAIL:worked|in_sweep in
+    rw (left_as_it_was c.first_move-found.ensures c.in_default.is) pre.0
+
+pub first_move-requires-clause-in_sweep : goal.first_move-requires-clause-in_sweep
+first_move-requires-clause-in_sweep c =
+    start_in _
+
+pub returns : goal.returns
+returns c =
+    found_anew _ _ _ _ _ _ _ _ c.in_default.is c.first_move-found.ensures c.first_move.ensures

@@ -1,0 +1,14 @@
+-- `sample::columns::demands` meets its contract: a store keeps the length, and the count of entries left falls.
+use mathlib.Core.Path.{◌≡◌, sym, subst}
+use Prim.Native.Nat.{◌-◌}
+use lib.ListN.{length, length-set}
+use borrow.Author.Rules.{rules}
+use Rattle.sample.proofs.columns.demands.Given as goal
+
+abbrev pub invariant-loop-i : goal.invariant-loop-i
+invariant-loop-i l =
+    64 ≡ length l.column
+
+abbrev pub decreases-loop-i : goal.decreases-loop-i
+decreases-loop-i l =
+    64 - l.i

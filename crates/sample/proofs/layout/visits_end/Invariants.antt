@@ -1,0 +1,12 @@
+-- `sample::layout::visits_end` is safe and ends: the lists left fall.
+use Prim.Native.Nat.{◌-◌}
+use borrow.Author.Rules.{rules}
+use Rattle.sample.proofs.layout.visits_end.Given as goal
+
+abbrev pub invariant-loop-i : goal.invariant-loop-i
+invariant-loop-i l =
+    Unit
+
+abbrev pub decreases-loop-i : goal.decreases-loop-i
+decreases-loop-i l =
+    l.lists - l.i

@@ -1,0 +1,23 @@
+-- `best_between`: the best so far and the positions still ahead choose what the best at the start and all positions do.
+use mathlib.Core.Path.{◌≡◌, refl, sym, ◌∙◌}
+use mathlib.Core.Logic.{⊎_elim, inl, inr}
+use Prim.Native.Nat.{◌-◌, ◌≤◌}
+use native.Mathlib.Omega.{arith}
+use borrow.Author.Rules.{rules}
+use Rattle.labels.specs.Columns.{columns}
+use Rattle.descent.specs.Order.{range}
+use Rattle.segments.specs.Segments.{choice, to_each, piece_of, Known}
+use Rattle.segments.proofs.Choosing.{turn_one, end_one}
+use Rattle.segment_moves.proofs.best_between.Given as goal
+
+abbrev pub invariant-loop-to : goal.invariant-loop-to
+invariant-loop-to l =
+    let c = columns l.terms.l l.flags l.service l.ready l.due l.penalty l.distances l.times in
+    (l.start ≤ l.to)
+    × (choice c l.terms l.list (piece_of l.found) (to_each l.piece.size l.piece.from (range l.to l.end))
+    ≡ choice c l.terms l.list (piece_of l.initial.found) (to_each l.piece.size l.piece.from (range l.start l.end)))
+    × Known c l.terms l.list l.found
+
+abbrev pub decreases-loop-to : goal.decreases-loop-to
+decreases-loop-to l =
+    l.end - l.to

@@ -1,0 +1,61 @@
+-- `best_from`: the positions before the piece and those behind it, one part after the other.
+use mathlib.Core.Logic.{inl, inr}
+use native.Mathlib.Omega.{arith}
+use Rattle.segment_moves.proofs.Rows.{row-chosen}
+use Rattle.segment_moves.proofs.best_from.Goals as goal
+
+pub removal_gain-gain-requires : goal.removal_gain-gain-requires
+removal_gain-gain-requires c =
+    let asked = c.requires.asked in
+    ((asked.formed.tables.of_distances, record { depot_there = asked.depot_there; visits = asked.visits.below }), c.requires.size_in_bounds)
+
+pub best_between-before-requires : goal.best_between-before-requires
+best_between-before-requires c =
+    let inside = c.requires.size_in_bounds in
+    (c.requires.asked, ((inside, omega arith), (inl (omega arith), (c.removal_gain-gain.ensures, c.requires.known))))
+
+pub overflow_add-start : goal.overflow_add-start
+overflow_add-start c =
+    omega (arith, c.requires.size_in_bounds, c.requires.asked.visits.few)
+
+pub overflow_add-start-2 : goal.overflow_add-start-2
+overflow_add-start-2 c =
+    omega (arith, c.requires.size_in_bounds, c.requires.asked.visits.few)
+
+pub last_position-end-requires : goal.last_position-end-requires
+last_position-end-requires c =
+    omega (arith, c.requires.size_in_bounds)
+
+pub overflow_add-end : goal.overflow_add-end
+overflow_add-end c =
+    omega (arith, c.last_position-end.ensures, c.requires.asked.visits.few)
+
+pub best_between-requires-clause-asked : goal.best_between-requires-clause-asked
+best_between-requires-clause-asked c =
+    c.requires.asked
+
+pub best_between-requires-clause-size_in_bounds : goal.best_between-requires-clause-size_in_bounds
+best_between-requires-clause-size_in_bounds c =
+    let inside = c.requires.size_in_bounds in
+    let last = c.last_position-end.ensures in
+    (inside, omega arith)
+
+pub best_between-requires-clause-fact : goal.best_between-requires-clause-fact
+best_between-requires-clause-fact c =
+    let inside = c.requires.size_in_bounds in
+    let last = c.last_position-end.ensures in
+    inr (omega arith)
+
+pub best_between-requires-clause-gain_value : goal.best_between-requires-clause-gain_value
+best_between-requires-clause-gain_value c =
+    c.removal_gain-gain.ensures
+
+pub best_between-requires-clause-known : goal.best_between-requires-clause-known
+best_between-requires-clause-known c =
+    c.best_between-before.ensures.1
+
+pub returns : goal.returns
+returns c =
+    let first = c.best_between-before.ensures.0 in
+    let rest = c.best_between.ensures in
+    (row-chosen _ c.args.terms _ _ _ _ _ _ _ _ c.last_position-end.ensures first rest.0, rest.1)

@@ -1,0 +1,60 @@
+-- `best_piece`: the best so far and the pieces still ahead choose what all pieces do from nothing on. A piece as long as the list has no position.
+use mathlib.Core.Path.{◌≡◌, refl, sym, ◌∙◌}
+use Prim.Native.Nat.{suc, ◌-◌, ◌≤◌, ◌<◌}
+use native.Mathlib.Omega.{arith}
+use lib.ListN.{length}
+use Rattle.labels.specs.Columns.{columns}
+use Rattle.descent.specs.Order.{range, each}
+use Rattle.segments.specs.Segments.{choice, piece_of, Known}
+use Rattle.segment_moves.specs.Row.{row}
+use Rattle.segments.proofs.Choosing.{turn_each, end_each}
+use Rattle.segment_moves.proofs.Rows.{all_chosen, none_chosen}
+use Rattle.segment_moves.proofs.best_piece.Goals as goal
+
+pub overflow_add-size : goal.overflow_add-size
+overflow_add-size c =
+    omega (arith, c.requires.size_bound)
+
+pub returns-then-n-size : goal.returns-then-n-size
+returns-then-n-size c =
+    none_chosen _ c.args.terms _ _ (omega (arith, c.if-n-size.true))
+
+pub loop-from-init : goal.loop-from-init
+unfolding Known
+loop-from-init c =
+    (omega arith, refl, tt)
+
+pub overflow_add-from : goal.overflow_add-from
+overflow_add-from c =
+    omega (arith, c.requires.size_bound, c.loop-from.invariant.0, c.requires.asked.visits.few)
+
+pub best_from-best-requires : goal.best_from-best-requires
+best_from-best-requires c =
+    (c.requires.asked, (c.loop-from-test.true, c.loop-from.invariant.2))
+
+pub overflow_add-from-in-loop-from : goal.overflow_add-from-in-loop-from
+overflow_add-from-in-loop-from c =
+    let turn = c.loop-from in
+    omega (arith, turn.invariant.0, c.requires.asked.visits.few)
+
+pub loop-from-smaller : goal.loop-from-smaller
+loop-from-smaller c =
+    omega (arith, c.loop-from-test.true)
+
+pub loop-from-preserved : goal.loop-from-preserved
+loop-from-preserved c =
+    let turn = c.loop-from in
+    let inside = c.loop-from-test.true in
+    let ahead : turn.from < suc (length c.args.list.now - c.args.size) = omega arith in
+    (
+      omega arith,
+      turn_each _ _ _ _ _ _ _ ahead c.best_from-best.ensures.0 ∙ turn.invariant.1,
+      c.best_from-best.ensures.1,
+    )
+
+pub returns : goal.returns
+returns c =
+    let outside = c.loop-from-test.false in
+    let long = c.if-n-size.false in
+    let none_ahead : suc (length c.args.list.now - c.args.size) ≤ c.loop-from.from = omega arith in
+    sym (end_each _ _ _ _ _ _ none_ahead) ∙ c.loop-from.invariant.1 ∙ all_chosen _ c.args.terms _ _

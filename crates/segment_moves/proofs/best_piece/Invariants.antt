@@ -1,0 +1,24 @@
+-- `best_piece`: the best so far and the pieces still ahead choose what all pieces do from nothing on. A piece as long as the list has no position.
+use mathlib.Core.Path.{◌≡◌, refl, sym, ◌∙◌}
+use Prim.Native.Nat.{suc, ◌-◌, ◌≤◌, ◌<◌}
+use native.Mathlib.Omega.{arith}
+use lib.ListN.{length}
+use Rattle.labels.specs.Columns.{columns}
+use Rattle.descent.specs.Order.{range, each}
+use Rattle.segments.specs.Segments.{choice, piece_of, Known}
+use Rattle.segment_moves.specs.Row.{row}
+use Rattle.segments.proofs.Choosing.{turn_each, end_each}
+use Rattle.segment_moves.proofs.Rows.{all_chosen, none_chosen}
+use Rattle.segment_moves.proofs.best_piece.Given as goal
+
+abbrev pub invariant-loop-from : goal.invariant-loop-from
+invariant-loop-from l =
+    let c = columns l.terms.l l.flags l.service l.ready l.due l.penalty l.distances l.times in
+    (l.from ≤ suc (length l.list))
+    × (choice c l.terms l.list (piece_of l.best) (each (range l.from (suc (length l.list - l.size))) (row (length l.list) l.size))
+    ≡ choice c l.terms l.list (piece_of l.initial.best) (each (range 0 (suc (length l.list - l.size))) (row (length l.list) l.size)))
+    × Known c l.terms l.list l.best
+
+abbrev pub decreases-loop-from : goal.decreases-loop-from
+decreases-loop-from l =
+    suc (length l.list) - l.from

@@ -1,0 +1,119 @@
+-- `run_moves`: the moves made and the run from here on, with what is left of the limit, are the whole run, and the tables of figures are right for
+-- the lists as they stand. The measure is what is left.
+use mathlib.Core.Path.{◌≡◌, refl, sym, ap, subst, ◌∙◌}
+use mathlib.Core.List.{List, []}
+use Prim.Native.Nat.{ℕ, ◌-◌}
+use native.Mathlib.Omega.{arith}
+use lib.ListN.{length}
+use Rattle.labels.specs.Columns.{columns}
+use Rattle.lists.specs.Table.{lists}
+use Rattle.list_changes.specs.Edits.{Edited}
+use Rattle.list_changes.proofs.Edited.{edited_on}
+use Rattle.descent.specs.Search.{Sweep}
+use Rattle.descent.specs.Across.{Pair}
+use Rattle.loads.specs.Loads.{Held}
+use Rattle.exchange_sweeps.specs.Exchange.{from, InSweep}
+use Rattle.soft_tails.specs.Parts.{next_of}
+use Rattle.exchange_sweeps.proofs.Places.{still_in, none_ahead, nothing_ahead}
+use Rattle.loads.proofs.Tables.{still_held}
+use Rattle.list_changes.proofs.Edited.{edited_none}
+use Rattle.exchange_sweeps.proofs.Tables.{edited_length}
+use Rattle.exchange_sweeps.proofs.Moves.{moved_on, leads-none, leads-some}
+use Rattle.lists.proofs.Tables.{length-lists}
+use Rattle.descent.proofs.Going.{Going, going_starts}
+use Rattle.engine.proofs.Running.{going_settles, going_stops}
+use Rattle.list_figures.specs.Kept.{KeptFigures}
+use Rattle.list_figures.proofs.Keeping.{kept_moved}
+use Rattle.soft_exchange.proofs.run_moves.Goals as goal
+
+pub figure_lists-requires-clause-asked : goal.figure_lists-requires-clause-asked
+figure_lists-requires-clause-asked c =
+    c.requires.asked
+
+pub figure_lists-requires-clause-held : goal.figure_lists-requires-clause-held
+figure_lists-requires-clause-held c =
+    c.requires.held
+
+pub figure_lists-requires-clause-costs_len : goal.figure_lists-requires-clause-costs_len
+figure_lists-requires-clause-costs_len c =
+    c.requires.costs_len
+
+pub overflow_add-ahead : goal.overflow_add-ahead
+overflow_add-ahead c =
+    omega (arith, c.requires.held.laid.few)
+
+pub loop-terms-init : goal.loop-terms-init
+loop-terms-init c =
+    (
+      rw (nothing_ahead _) (going_starts _ _ _),
+      edited_none _ _ c.requires.held.laid,
+      c.requires.held,
+      none_ahead _,
+      refl,
+      c.figure_lists.ensures,
+    )
+
+pub next_move-found-requires : goal.next_move-found-requires
+next_move-found-requires c =
+    (c.requires.asked, ((c.loop-terms.invariant.2, c.loop-terms.invariant.3), c.loop-terms.invariant.5))
+
+pub returns-then-found-eq0 : goal.returns-then-found-eq0
+returns-then-found-eq0 c =
+    let none_left = sym c.next_move-found.ensures.0 ∙ leads-none _ _ _ _ c.if-found-eq0.true in
+    let answer = going_settles _ _ _ _ _ c.loop-terms.invariant.0 none_left in
+    (subst (Edited _ _ _ _) (ap (λ (s : Sweep (List (List ℕ)) Pair). s.now) answer.0) c.loop-terms.invariant.1, answer.1)
+
+pub returns-then-limit-moves : goal.returns-then-limit-moves
+returns-then-limit-moves c =
+    let one_left = sym c.next_move-found.ensures.0 ∙ leads-some _ _ _ _ _ (length-lists _ _) c.if-found-eq0.false in
+    let answer = going_stops _ _ _ _ _ _ c.loop-terms.invariant.0 c.if-limit-moves.true one_left in
+    (subst (Edited _ _ _ _) (ap (λ (s : Sweep (List (List ℕ)) Pair). s.now) answer.0) c.loop-terms.invariant.1, answer.1)
+
+pub exchange_tails-requires : goal.exchange_tails-requires
+exchange_tails-requires c =
+    c.next_move-found.ensures.1 c.if-found-eq0.false
+
+pub figure_two-requires-clause-asked : goal.figure_two-requires-clause-asked
+figure_two-requires-clause-asked c =
+    c.requires.asked
+
+pub figure_two-requires-clause-held : goal.figure_two-requires-clause-held
+figure_two-requires-clause-held c =
+    let cuts = c.next_move-found.ensures.1 c.if-found-eq0.false in
+    let edited = c.exchange_tails.ensures in
+    (
+          still_held _ _ _ _ _ _ edited c.loop-terms.invariant.2,
+          omega (arith, cuts.before, cuts.there, edited.number),
+          omega (arith, cuts.there, edited.number),
+        )
+
+pub figure_two-requires-clause-costs_len : goal.figure_two-requires-clause-costs_len
+figure_two-requires-clause-costs_len c =
+    (c.loop-terms.invariant.5.costs_long, c.loop-terms.invariant.5.loads_long)
+
+pub place_after-ahead-requires : goal.place_after-ahead-requires
+place_after-ahead-requires c =
+    let cuts = c.next_move-found.ensures.1 c.if-found-eq0.false in
+    (cuts.before, rw c.loop-terms.invariant.4 cuts.there)
+
+pub overflow_add-moves : goal.overflow_add-moves
+overflow_add-moves c =
+    omega (arith, c.ranges.limit, c.if-limit-moves.false)
+
+pub loop-terms-smaller : goal.loop-terms-smaller
+loop-terms-smaller c =
+    omega (arith, c.if-limit-moves.false)
+
+pub loop-terms-preserved : goal.loop-terms-preserved
+loop-terms-preserved c =
+    let cuts = c.next_move-found.ensures.1 c.if-found-eq0.false in
+    let edited = c.exchange_tails.ensures in
+    (
+      rw (c.place_after-ahead.ensures, c.loop-terms.invariant.4)
+          (moved_on _ _ _ _ _ _ _ _ _ _ _ c.loop-terms.invariant.0 c.if-limit-moves.false c.next_move-found.ensures.0 c.if-found-eq0.false edited),
+      subst (Edited _ _ _ _) (sym edited.holds) (edited_on _ _ _ _ _ _ _ _ c.loop-terms.invariant.1 edited),
+      still_held _ _ _ _ _ _ edited c.loop-terms.invariant.2,
+      rw (c.place_after-ahead.ensures, c.loop-terms.invariant.4, edited.number) (still_in _ _ cuts.before cuts.there),
+      c.loop-terms.invariant.4 ∙ sym edited.number,
+      kept_moved _ _ c.args.terms _ _ _ _ _ _ _ _ _ _ _ _ c.loop-terms.invariant.5 cuts edited c.figure_two.ensures,
+    )

@@ -1,0 +1,22 @@
+-- `best_neighbour`. The invariant: what is chosen from here on is what the whole scan chooses, and the head is driven. The measure: the neighbours left.
+use mathlib.Core.Path.{◌≡◌, refl, ◌∙◌}
+use lib.ListN.{length}
+use Rattle.labels.specs.Columns.{columns}
+use Rattle.evaluation.specs.Route.{effective_cost}
+use Rattle.heads.specs.Head.{Driven}
+use Rattle.heads.proofs.Heads.{depot_driven}
+use Rattle.neighbours.specs.Neighbours.{made}
+use Rattle.neighbours.specs.Places.{rest}
+use Rattle.soft_neighbours.proofs.Passes.{Scanning, scan_starts, scan_turns, scan_ends, inside_at, fewer}
+use borrow.Author.Rules.{rules}
+use Rattle.soft_neighbours.proofs.best_neighbour.Given as goal
+
+abbrev pub invariant-loop-here : goal.invariant-loop-here
+invariant-loop-here l =
+    let day = columns l.l l.flags l.service l.ready l.due l.penalty l.distances l.times in
+    let price = effective_cost day l.limits l.depot in
+    Scanning (λ m. price (made l.list m)) l.n l.initial.best l.initial.here l.best l.here × (length l.buffer ≡ length l.initial.buffer) × Driven day l.limits.rest l.depot l.list l.head
+
+abbrev pub decreases-loop-here : goal.decreases-loop-here
+decreases-loop-here l =
+    length (rest l.n l.here)

@@ -1,0 +1,57 @@
+-- `best_of_pair`: before each visit, the best after the offers of the visits from here on is the best after those of all; the giver's head is driven on.
+use borrow.Author.Rules.{rules}
+use mathlib.Core.Path.{◌≡◌, refl, sym, ◌∙◌}
+use Prim.Native.Nat.{◌-◌, ◌≤◌}
+use native.Mathlib.Omega.{arith}
+use lib.ListN.{length}
+use Rattle.labels.specs.Columns.{columns}
+use Rattle.heads.proofs.Heads.{depot_driven}
+use Rattle.descent.specs.Order.{range}
+use Rattle.pairs.specs.Pairs.{nothing}
+use Rattle.soft_places.specs.Places.{DrivenBy}
+use Rattle.soft_offers.specs.Offers.{bound, best_offers}
+use Rattle.soft_offers.proofs.Offering.{offers_turn, offers_end}
+use Rattle.soft_offers.proofs.best_of_pair.Goals as goal
+
+pub loop-position-init : goal.loop-position-init
+loop-position-init c =
+    (rw c.nothing_below-best.ensures, omega arith, refl, rw c.at_depot-head.ensures (depot_driven _ _ _ _ c.requires.prepared.depot_there))
+
+pub reach-head-requires : goal.reach-head-requires
+reach-head-requires c =
+    (c.requires.prepared.formed, ((c.requires.prepared.depot_there, c.requires.two_of.gives, c.loop-position.invariant.1), c.loop-position.invariant.3))
+
+pub offer_visit-best-requires : goal.offer_visit-best-requires
+offer_visit-best-requires c =
+    (
+      c.requires.prepared,
+      (
+        (c.requires.loaded.0, omega (arith, c.loop-position.invariant.2, c.requires.loaded.1)),
+        ((c.requires.two_of, c.loop-position-test.true), (c.requires.known, c.reach-head.ensures.driven_2)),
+      ),
+    )
+
+pub overflow_add-position : goal.overflow_add-position
+overflow_add-position c =
+    omega (arith, c.loop-position-test.true, c.requires.two_of.gives.few)
+
+pub loop-position-smaller : goal.loop-position-smaller
+loop-position-smaller c =
+    omega (arith, c.loop-position-test.true)
+
+pub loop-position-preserved : goal.loop-position-preserved
+loop-position-preserved c =
+    (
+      rw c.offer_visit-best.ensures
+          (offers_turn _ _ c.args.setup c.args.giver.now c.args.receiver.now c.args.pair c.loop-position.best
+          c.loop-position.position c.loop-position-test.true)
+          ∙ c.loop-position.invariant.0,
+      omega (arith, c.loop-position-test.true),
+      c.offer_visit-best.auto.buffer ∙ c.loop-position.invariant.2,
+      c.reach-head.ensures.driven_2,
+    )
+
+pub returns : goal.returns
+returns c =
+    sym (offers_end _ _ c.args.setup c.args.giver.now c.args.receiver.now c.args.pair c.loop-position.best
+    c.loop-position.position c.loop-position-test.false) ∙ c.loop-position.invariant.0

@@ -1,0 +1,25 @@
+-- `best_of_pair`: before each visit, the best after the offers of the visits from here on is the best after those of all; the giver's head is driven on.
+use borrow.Author.Rules.{rules}
+use mathlib.Core.Path.{◌≡◌, refl, sym, ◌∙◌}
+use Prim.Native.Nat.{◌-◌, ◌≤◌}
+use native.Mathlib.Omega.{arith}
+use lib.ListN.{length}
+use Rattle.labels.specs.Columns.{columns}
+use Rattle.heads.proofs.Heads.{depot_driven}
+use Rattle.descent.specs.Order.{range}
+use Rattle.pairs.specs.Pairs.{nothing}
+use Rattle.soft_places.specs.Places.{DrivenBy}
+use Rattle.soft_offers.specs.Offers.{bound, best_offers}
+use Rattle.soft_offers.proofs.Offering.{offers_turn, offers_end}
+use Rattle.soft_offers.proofs.best_of_pair.Given as goal
+
+abbrev pub invariant-loop-position : goal.invariant-loop-position
+invariant-loop-position l =
+    let day = columns l.setup.l l.flags l.service l.ready l.due l.penalty l.distances l.times in
+    (best_offers day l.demand l.setup l.giver l.receiver l.pair (range l.position (length l.giver)) l.best
+    ≡ best_offers day l.demand l.setup l.giver l.receiver l.pair (range 0 (length l.giver)) (nothing (bound l.setup)))
+    × (l.position ≤ length l.giver) × (length l.buffer ≡ length l.initial.buffer) × DrivenBy day l.setup l.giver l.head
+
+abbrev pub decreases-loop-position : goal.decreases-loop-position
+decreases-loop-position l =
+    length l.giver - l.position

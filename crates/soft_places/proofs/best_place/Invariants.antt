@@ -1,0 +1,27 @@
+-- `best_place`: before each place, the best among the places from here on is the best among all; the front of the buffer is the list with the visit at this
+-- place, and behind the list's head it is what is priced.
+use borrow.Author.Rules.{rules}
+use mathlib.Core.Path.{◌≡◌, refl, sym, ap, ◌∙◌}
+use Prim.Native.Nat.{suc, ◌+◌, ◌-◌, ◌≤◌}
+use native.Mathlib.Omega.{arith}
+use lib.ListN.{length, take}
+use Rattle.labels.specs.Columns.{columns}
+use Rattle.heads.proofs.Heads.{depot_driven}
+use Rattle.descent.specs.Order.{range}
+use Rattle.edits.specs.Edits.{inserted}
+use Rattle.soft_places.specs.Places.{DrivenBy, price_of, best_among}
+use Rattle.loads.proofs.Visits.{visits_inserted}
+use Rattle.soft_places.proofs.Laid.{stepped, part_visits, price_inserted}
+use Rattle.soft_places.proofs.Placing.{among_turn, among_end}
+use Rattle.soft_places.proofs.best_place.Given as goal
+
+abbrev pub invariant-loop-place : goal.invariant-loop-place
+invariant-loop-place l =
+    let day = columns l.setup.l l.flags l.service l.ready l.due l.penalty l.distances l.times in
+    (best_among (price_of day l.setup) l.list l.offer (range l.place (suc (length l.list))) l.after
+    ≡ best_among (price_of day l.setup) l.list l.offer (range 0 (suc (length l.list))) l.initial.after)
+    × (take l.end l.buffer ≡ inserted l.list l.offer.visit l.place) × (l.place ≤ length l.list) × (length l.buffer ≡ length l.initial.buffer) × DrivenBy day l.setup l.list l.head
+
+abbrev pub decreases-loop-place : goal.decreases-loop-place
+decreases-loop-place l =
+    length l.list - l.place

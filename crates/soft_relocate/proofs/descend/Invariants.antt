@@ -1,0 +1,30 @@
+-- `descend`: the moves made and the run that is left are the whole run, and the table is right for the lists as they stand.
+use mathlib.Core.Path.{◌≡◌, refl, ◌∙◌}
+use Prim.Native.Nat.{◌-◌}
+use native.Mathlib.Omega.{arith}
+use lib.ListN.{length}
+use Rattle.lists.specs.Table.{lists}
+use Rattle.list_changes.specs.Edits.{Edited}
+use Rattle.labels.specs.Columns.{columns}
+use Rattle.pairs.specs.Pairs.{table}
+use Rattle.pairs.proofs.Least.{is_none, is_some}
+use Rattle.descent.proofs.Going.{going_starts}
+use Rattle.list_changes.proofs.Edited.{edited_none}
+use Rattle.pairs.proofs.Going.{edited_again}
+use Rattle.loads.specs.Loads.{Held}
+use Rattle.soft_relocations.specs.Relocations.{AllRight}
+use Rattle.loads.proofs.Tables.{still_held}
+use Rattle.soft_relocate.proofs.Running.{Running, least-taken, least-there, after_move, answers_settled, answers_stopped, goes_on}
+use Rattle.soft_relocate.proofs.descend.Given as goal
+
+abbrev pub invariant-loop-setup : goal.invariant-loop-setup
+invariant-loop-setup l =
+    Running (columns l.setup.l l.flags l.service l.ready l.due l.penalty l.distances l.times) l.demand l.setup l.limit (lists l.initial.visits l.initial.lengths) l.moves (lists l.visits l.lengths)
+    × Edited l.initial.visits l.initial.lengths l.visits l.lengths (lists l.visits l.lengths) × Held l.setup.l l.visits l.lengths
+    × AllRight (columns l.setup.l l.flags l.service l.ready l.due l.penalty l.distances l.times) l.demand l.setup l.visits l.lengths (table l.deltas l.positions l.places)
+    × (length l.visits ≡ length l.initial.visits) × (length l.lengths ≡ length l.initial.lengths) × (length l.buffer ≡ length l.initial.buffer) × (length l.deltas ≡ length l.initial.deltas)
+    × (length l.positions ≡ length l.initial.positions) × (length l.places ≡ length l.initial.places)
+
+abbrev pub decreases-loop-setup : goal.decreases-loop-setup
+decreases-loop-setup l =
+    l.limit - l.moves

@@ -1,0 +1,20 @@
+-- `search_again`: before each list, the pairs of the lists before it with a and b are right again, and so are those without a and b.
+use mathlib.Core.Path.{◌≡◌, refl, ◌∙◌}
+use Prim.Native.Nat.{◌-◌}
+use native.Mathlib.Omega.{arith}
+use lib.ListN.{length}
+use Rattle.labels.specs.Columns.{columns}
+use Rattle.pairs.specs.Pairs.{table, Renewed}
+use Rattle.pairs.proofs.Kept.{both_sized, renew_both, renew_end}
+use Rattle.pairs.proofs.Taken.{short-lists}
+use Rattle.soft_relocations.specs.Relocations.{RightOf}
+use Rattle.soft_relocations.proofs.search_again.Given as goal
+
+abbrev pub invariant-loop-other : goal.invariant-loop-other
+invariant-loop-other l =
+    RightOf (columns l.setup.l l.flags l.service l.ready l.due l.penalty l.distances l.times) l.demand l.setup l.visits l.lengths (Renewed l.a l.b l.other) (table l.deltas l.positions l.places)
+    × (length l.buffer ≡ length l.initial.buffer) × (length l.deltas ≡ length l.initial.deltas) × (length l.positions ≡ length l.initial.positions) × (length l.places ≡ length l.initial.places)
+
+abbrev pub decreases-loop-other : goal.decreases-loop-other
+decreases-loop-other l =
+    length l.lengths - l.other

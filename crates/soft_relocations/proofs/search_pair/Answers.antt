@@ -1,0 +1,17 @@
+-- `search_pair`: what the search finds is put in.
+use borrow.Author.Rules.{rules}
+use native.Mathlib.Omega.{arith}
+use Rattle.soft_relocations.proofs.search_pair.Goals as goal
+
+pub best_between-best-requires : goal.best_between-best-requires
+best_between-best-requires c =
+    (c.requires.prepared, (c.requires.loaded, (c.requires.in_bounds, (c.requires.sized.1, c.requires.sized.2))))
+
+pub put_pair-requires-clause-sized : goal.put_pair-requires-clause-sized
+put_pair-requires-clause-sized c =
+    c.requires.sized.0
+
+pub put_pair-requires-clause-from_bound : goal.put_pair-requires-clause-from_bound
+put_pair-requires-clause-from_bound c =
+    let few = c.requires.loaded.1.laid.few in
+    (omega (arith, few, c.requires.sized.1), omega (arith, few, c.requires.sized.2))

@@ -1,0 +1,20 @@
+-- `search_row`: before each list, the rows before this one and the lists before that one are right.
+use mathlib.Core.Path.{◌≡◌, refl, ◌∙◌}
+use Prim.Native.Nat.{◌-◌}
+use native.Mathlib.Omega.{arith}
+use lib.ListN.{length}
+use Rattle.labels.specs.Columns.{columns}
+use Rattle.pairs.specs.Pairs.{table, Before}
+use Rattle.pairs.proofs.Kept.{right_turn, right_row}
+use Rattle.pairs.proofs.Taken.{short-lists}
+use Rattle.soft_relocations.specs.Relocations.{RightOf}
+use Rattle.soft_relocations.proofs.search_row.Given as goal
+
+abbrev pub invariant-loop-to : goal.invariant-loop-to
+invariant-loop-to l =
+    RightOf (columns l.setup.l l.flags l.service l.ready l.due l.penalty l.distances l.times) l.demand l.setup l.visits l.lengths (Before l.from l.to) (table l.deltas l.positions l.places)
+    × (length l.buffer ≡ length l.initial.buffer) × (length l.deltas ≡ length l.initial.deltas) × (length l.positions ≡ length l.initial.positions) × (length l.places ≡ length l.initial.places)
+
+abbrev pub decreases-loop-to : goal.decreases-loop-to
+decreases-loop-to l =
+    length l.lengths - l.to

@@ -1,0 +1,86 @@
+-- `best_priced`: the best so far and the cuts of the first list still ahead choose what all cuts do from nothing on; its head is driven on.
+use borrow.Author.Rules.{rules}
+use mathlib.Core.Path.{◌≡◌, refl, sym, ◌∙◌}
+use Prim.Native.Nat.{suc, ◌-◌, ◌≤◌}
+use native.Mathlib.Omega.{arith}
+use lib.ListN.{length, take}
+use Rattle.edits.specs.Total.{total}
+use Rattle.labels.specs.Columns.{columns}
+use Rattle.heads.proofs.Heads.{depot_driven}
+use Rattle.descent.specs.Order.{range, scan}
+use Rattle.loads.specs.Loads.{boxes_of}
+use Rattle.tails.specs.Best.{best_by}
+use Rattle.descent.proofs.Loops.{scan_done}
+use Rattle.tails.proofs.Turns.{cut_turn}
+use Rattle.loads.proofs.Boxes.{load_more, sum_small}
+use Rattle.tail_prices.specs.Changes.{DrivenBy}
+use Rattle.soft_tails.specs.Parts.{best_row, best_of}
+use Rattle.tail_prices.proofs.Behind.{first_visits}
+use Rattle.soft_tails.proofs.best_priced.Goals as goal
+
+pub loop-last-init : goal.loop-last-init
+unfolding best_by
+loop-last-init c =
+    (omega arith, refl, refl, rw c.at_depot-driven1.ensures (depot_driven _ _ _ _ c.requires.asked.depot_there))
+
+pub boxes_at-head1-requires : goal.boxes_at-head1-requires
+boxes_at-head1-requires c =
+    (c.requires.asked.loaded, c.loop-last-test.true, c.requires.two.one_below _ c.loop-last-test.true)
+
+pub overflow_add-head1 : goal.overflow_add-head1
+overflow_add-head1 c =
+    let two = c.requires.two in
+    let small = sum_small _ _ _ c.requires.asked.loaded two.one_below (omega (arith, two.few)) _ _ _ c.loop-last-test.true
+    c.loop-last.invariant.1 c.boxes_at-head1.ensures in
+    omega (arith, small.0, small.1)
+
+pub overflow_add-last : goal.overflow_add-last
+overflow_add-last c =
+    omega (arith, c.loop-last-test.true, c.requires.two.few)
+
+pub reach-driven1-requires : goal.reach-driven1-requires
+reach-driven1-requires c =
+    let known = c.requires.TAIL:asked|two|figured|other_value in
+    (known.0.formed, ((known.0.depot_there, first_visits _ _ _ known.1.0, omega (arith, c.loop-last-test.true)), c.loop-last.invariant.3))
+
+pub overflow_add-last-in-loop-last : goal.overflow_add-last-in-loop-last
+overflow_add-last-in-loop-last c =
+    omega (arith, c.loop-last-test.true, c.requires.two.few)
+
+pub best_row-best-requires : goal.best_row-best-requires
+best_row-best-requires c =
+    let known = c.requires.TAIL:asked|two|figured|other_value in
+    (
+      known.0,
+      (
+        (known.1.0, omega (arith, c.loop-last-test.true)),
+        (
+          known.1.1.0,
+          (
+            known.1.1.1,
+            (load_more _ _ _ _ _ c.loop-last-test.true c.loop-last.invariant.1 c.boxes_at-head1.ensures, c.reach-driven1.ensures.driven_2),
+          ),
+        ),
+      ),
+    )
+
+pub overflow_add-last-in-loop-last-2 : goal.overflow_add-last-in-loop-last-2
+overflow_add-last-in-loop-last-2 c =
+    omega (arith, c.loop-last-test.true, c.requires.two.few)
+
+pub loop-last-smaller : goal.loop-last-smaller
+loop-last-smaller c =
+    omega (arith, c.loop-last-test.true)
+
+pub loop-last-preserved : goal.loop-last-preserved
+loop-last-preserved c =
+    (
+      omega (arith, c.loop-last-test.true),
+      load_more _ _ _ _ _ c.loop-last-test.true c.loop-last.invariant.1 c.boxes_at-head1.ensures,
+      cut_turn _ _ _ _ _ (omega (arith, c.loop-last-test.true)) c.best_row-best.ensures ∙ c.loop-last.invariant.2,
+      c.reach-driven1.ensures.driven_2,
+    )
+
+pub returns : goal.returns
+returns c =
+    sym (scan_done _ (suc c.loop-last.last) (suc (length c.args.one.now)) _ (omega (arith, c.loop-last-test.false))) ∙ c.loop-last.invariant.2

@@ -1,0 +1,137 @@
+-- `best_row`: the best so far and the cuts still ahead choose what all cuts do; the load of the second head is kept running, and the head is driven on.
+-- the function's entry
+-- the second head is part of the list
+-- and so is the first
+use borrow.Author.Rules.{rules}
+use mathlib.Core.Path.{◌≡◌, refl, sym, ◌∙◌}
+use Prim.Native.Nat.{suc, ◌+◌, ◌-◌, ◌≤◌}
+use native.Mathlib.Omega.{arith}
+use lib.ListN.{length, take}
+use Rattle.edits.specs.Total.{total}
+use Rattle.labels.specs.Columns.{columns}
+use Rattle.heads.proofs.Heads.{depot_driven}
+use Rattle.descent.specs.Order.{range, scan}
+use Rattle.loads.specs.Loads.{boxes_of}
+use Rattle.tails.specs.Best.{row_by}
+use Rattle.descent.proofs.Loops.{scan_done}
+use Rattle.tails.proofs.Turns.{cut_turn}
+use Rattle.loads.proofs.Boxes.{load_small, load_more, load_joined, sum_small, head_small}
+use Rattle.tail_prices.specs.Changes.{DrivenBy}
+use Rattle.soft_tail_candidates.specs.Candidate.{better}
+use Rattle.soft_tails.specs.Parts.{best_row}
+use Rattle.tail_prices.proofs.Behind.{second_visits}
+use Rattle.soft_tails.proofs.best_row.Goals as goal
+
+head2-small : (c : tie.After-boxes-at invariant-loop decreases-loop) →
+    let load = total (boxes_of (start c).args.demand.now) (start c).args.other.now in
+    (c.before.before.loop.head2 + c.boxes-at.result ≤ load) × (load ≤ 63000000)
+head2-small c =
+    let two = (start c).requires.1.0.0 in
+    sum_small _ _ _ (start c).requires.0.loaded two.other_below (omega (arith, two.few)) _ _ _ c.before.loop-test.true
+    c.before.before.loop.invariant.1
+    c.boxes-at.ensures
+
+head1-small : (c : tie.After-boxes-at invariant-loop decreases-loop) → (start c).args.head1 ≤ total (boxes_of (start c).args.demand.now) (start c).args.one.now
+head1-small c =
+    head_small (boxes_of (start c).args.demand.now) (start c).args.cut1 (start c).args.one.now (start c).args.head1 (start c).requires.1.1.1.1.0
+
+one-small : (c : tie.After-boxes-at invariant-loop decreases-loop) → total (boxes_of (start c).args.demand.now) (start c).args.one.now ≤ 63000000
+one-small c =
+    let two = (start c).requires.1.0.0 in
+    load_small (start c).args.terms.l (start c).args.demand.now (start c).args.one.now (start c).requires.0.loaded two.one_below
+    (omega (arith, two.few))
+
+pub loop-last-init : goal.loop-last-init
+unfolding row_by
+loop-last-init c =
+    (omega arith, refl, refl, rw c.at_depot-driven2.ensures (depot_driven _ _ _ _ c.requires.asked.depot_there))
+
+pub boxes_at-head2-requires : goal.boxes_at-head2-requires
+boxes_at-head2-requires c =
+    (c.requires.asked.loaded, c.loop-last-test.true, c.requires.two.0.other_below _ c.loop-last-test.true)
+
+pub overflow_add-head2 : goal.overflow_add-head2
+overflow_add-head2 c =
+    let small = head2-small c in
+    omega (arith, small.0, small.1)
+
+pub overflow_add-cut2 : goal.overflow_add-cut2
+overflow_add-cut2 c =
+    omega (arith, c.loop-last-test.true, c.requires.two.0.few)
+
+pub reach-driven2-requires : goal.reach-driven2-requires
+reach-driven2-requires c =
+    let known = c.requires.TAIL:asked|two|figured|other_value|head1_value|driven_by in
+    (known.0.formed, ((known.0.depot_there, second_visits _ _ _ known.1.0.0, omega (arith, c.loop-last-test.true)), c.loop-last.invariant.3))
+
+pub overflow_sub-new1 : goal.overflow_sub-new1
+overflow_sub-new1 c =
+    let small = head2-small c in
+    omega (arith, small.0, c.requires.figured.second_load)
+
+pub overflow_add-new1 : goal.overflow_add-new1
+overflow_add-new1 c =
+    let small = head2-small c in
+    let head = head1-small c in
+    let most = one-small c in
+    omega (arith, small.1, head, most, c.requires.figured.second_load)
+
+pub overflow_sub-new2 : goal.overflow_sub-new2
+overflow_sub-new2 c =
+    let head = head1-small c in
+    omega (arith, head, c.requires.figured.first_load)
+
+pub overflow_add-new2 : goal.overflow_add-new2
+overflow_add-new2 c =
+    let small = head2-small c in
+    let most = one-small c in
+    omega (arith, small.0, small.1, most, c.requires.figured.first_load)
+
+pub consider-found-requires : goal.consider-found-requires
+consider-found-requires c =
+    let known = c.requires.TAIL:asked|two|figured|other_value|head1_value|driven_by in
+    let a = c.args in
+    let boxes = boxes_of a.demand.now in
+    let figured = known.1.1.0 in
+    let cut2 = c.loop-last.last + 1 in
+    let head2 = load_more _ _ _ _ _ c.loop-last-test.true c.loop-last.invariant.1 c.boxes_at-head2.ensures in
+    (
+      known.0,
+      (
+        (known.1.0.0, known.1.0.1, omega (arith, c.loop-last-test.true)),
+        (
+          figured,
+          (
+            known.1.1.1.0,
+            (
+              (
+                load_joined boxes a.one.now a.other.now a.cut1 cut2 _ _ _ known.1.1.1.1.0 head2 figured.second_load,
+                load_joined boxes a.other.now a.one.now cut2 a.cut1 _ _ _ head2 known.1.1.1.1.0 figured.first_load,
+              ),
+              (known.1.1.1.1.1, c.reach-driven2.ensures.driven_2),
+            ),
+          ),
+        ),
+      ),
+    )
+
+pub overflow_add-last : goal.overflow_add-last
+overflow_add-last c =
+    omega (arith, c.loop-last-test.true, c.requires.two.0.few)
+
+pub loop-last-smaller : goal.loop-last-smaller
+loop-last-smaller c =
+    omega (arith, c.loop-last-test.true)
+
+pub loop-last-preserved : goal.loop-last-preserved
+loop-last-preserved c =
+    (
+      omega (arith, c.loop-last-test.true),
+      load_more _ _ _ _ _ c.loop-last-test.true c.loop-last.invariant.1 c.boxes_at-head2.ensures,
+      cut_turn _ _ _ _ _ (omega (arith, c.loop-last-test.true)) c.consider-found.ensures ∙ c.loop-last.invariant.2,
+      c.reach-driven2.ensures.driven_2,
+    )
+
+pub returns : goal.returns
+returns c =
+    sym (scan_done _ (suc c.loop-last.last) (suc (length c.args.other.now)) _ (omega (arith, c.loop-last-test.false))) ∙ c.loop-last.invariant.2

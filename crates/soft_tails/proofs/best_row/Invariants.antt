@@ -1,0 +1,35 @@
+-- `best_row`: the best so far and the cuts still ahead choose what all cuts do; the load of the second head is kept running, and the head is driven on.
+-- the function's entry
+-- the second head is part of the list
+-- and so is the first
+use borrow.Author.Rules.{rules}
+use mathlib.Core.Path.{◌≡◌, refl, sym, ◌∙◌}
+use Prim.Native.Nat.{suc, ◌+◌, ◌-◌, ◌≤◌}
+use native.Mathlib.Omega.{arith}
+use lib.ListN.{length, take}
+use Rattle.edits.specs.Total.{total}
+use Rattle.labels.specs.Columns.{columns}
+use Rattle.heads.proofs.Heads.{depot_driven}
+use Rattle.descent.specs.Order.{range, scan}
+use Rattle.loads.specs.Loads.{boxes_of}
+use Rattle.tails.specs.Best.{row_by}
+use Rattle.descent.proofs.Loops.{scan_done}
+use Rattle.tails.proofs.Turns.{cut_turn}
+use Rattle.loads.proofs.Boxes.{load_small, load_more, load_joined, sum_small, head_small}
+use Rattle.tail_prices.specs.Changes.{DrivenBy}
+use Rattle.soft_tail_candidates.specs.Candidate.{better}
+use Rattle.soft_tails.specs.Parts.{best_row}
+use Rattle.tail_prices.proofs.Behind.{second_visits}
+use Rattle.soft_tails.proofs.best_row.Given as goal
+
+abbrev pub invariant-loop-last : goal.invariant-loop-last
+invariant-loop-last l =
+    let c = columns l.terms.l l.flags l.service l.ready l.due l.penalty l.distances l.times in
+    (l.last ≤ length l.other)
+    × (l.head2 ≡ total (boxes_of l.demand) (take l.last l.other))
+    × (scan (better c l.demand l.terms l.one l.other l.cut1) (range (suc l.last) (suc (length l.other))) l.found ≡ best_row c l.demand l.terms l.one l.other l.cut1 l.initial.found)
+    × DrivenBy c l.terms l.other l.driven2
+
+abbrev pub decreases-loop-last : goal.decreases-loop-last
+decreases-loop-last l =
+    length l.other - l.last

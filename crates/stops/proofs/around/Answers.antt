@@ -1,0 +1,9 @@
+-- `around`: the two stops read.
+use Rattle.deltas.specs.Deltas.{around}
+use borrow.Author.Rules.{rules}
+use Rattle.stops.proofs.around.Goals as goal
+
+pub returns : goal.returns
+unfolding around
+returns c =
+    rw (c.stop_at-to.ensures, c.stop_before-from.ensures)

@@ -1,0 +1,29 @@
+-- `change_behind`: behind its head each new list is the other list's tail, which is what is driven.
+use borrow.Author.Rules.{rules}
+use mathlib.Core.Path.{◌∙◌}
+use Rattle.loads.proofs.Visits.{two_turned}
+use Rattle.tail_prices.proofs.Behind.{tail_visits, price_behind, same-change}
+use Rattle.tail_prices.proofs.change_behind.Goals as goal
+
+pub price_from-new1-requires : goal.price_from-new1-requires
+price_from-new1-requires c =
+    (c.requires.formed.0, (c.requires.formed.1, c.requires.driven_by.0.placed, tail_visits _ _ _ c.requires.two.0 _ c.requires.two.2))
+
+pub price_from-new2-requires : goal.price_from-new2-requires
+price_from-new2-requires c =
+    (
+      c.requires.formed.0,
+      (c.requires.formed.1, c.requires.driven_by.1.placed, tail_visits _ _ _ (two_turned _ _ _ c.requires.two.0) _ c.requires.two.1),
+    )
+
+pub returns : goal.returns
+returns c =
+    let a = c.args in
+    let known = c.requires.TAIL:formed|two|priced|driven_by|visits_value in
+    let new1 = c.price_from-new1.ensures
+    ∙ price_behind _ _ _ a.one.now a.other.now a.cut1 a.cut2 a.driven1 known.1.1.1.0.0 known.1.1.1.1.0
+    (known.1.0.1, known.1.0.2) in
+    let new2 = c.price_from-new2.ensures
+    ∙ price_behind _ _ _ a.other.now a.one.now a.cut2 a.cut1 a.driven2 known.1.1.1.0.1 known.1.1.1.1.1
+    (known.1.0.2, known.1.0.1) in
+    same-change _ a.terms _ _ _ _ a.figures known.1.1.0 _ _ _ new1 new2 c.change_by.ensures

@@ -1,0 +1,25 @@
+-- `best_exchange`: the best so far and the cuts of the first list still ahead choose what all cuts do from nothing on.
+use mathlib.Core.Path.{◌≡◌, refl, sym, ◌∙◌}
+use Prim.Native.Nat.{suc, ◌-◌, ◌≤◌}
+use native.Mathlib.Omega.{arith}
+use lib.ListN.{length, take}
+use Rattle.edits.specs.Total.{total}
+use Rattle.labels.specs.Columns.{columns}
+use Rattle.descent.specs.Order.{range, scan}
+use Rattle.loads.specs.Loads.{boxes_of}
+use Rattle.tails.specs.Best.{best_row, best_of, best_by}
+use Rattle.descent.proofs.Loops.{scan_done}
+use Rattle.tails.proofs.Turns.{cut_turn}
+use Rattle.loads.proofs.Boxes.{load_more, sum_small}
+use Rattle.tails.proofs.best_exchange.Given as goal
+
+abbrev pub invariant-loop-last : goal.invariant-loop-last
+invariant-loop-last l =
+    let c = columns l.terms.l l.flags l.service l.ready l.due l.penalty l.distances l.times in
+    (l.last ≤ length l.one)
+    × (l.head1 ≡ total (boxes_of l.demand) (take l.last l.one))
+    × (scan (best_row c l.demand l.terms l.one l.other) (range (suc l.last) (suc (length l.one))) l.best ≡ best_of c l.demand l.terms l.one l.other)
+
+abbrev pub decreases-loop-last : goal.decreases-loop-last
+decreases-loop-last l =
+    length l.one - l.last

@@ -1,0 +1,19 @@
+-- `descend`: the moves made and the run left are the whole run; from the place on this sweep finds the next move. The limit's rest falls, or the places do.
+use mathlib.Core.Path.{◌≡◌, refl, ◌∙◌}
+use Prim.Native.Nat.{◌+◌, ◌-◌, ◌*◌}
+use native.Mathlib.Omega.{arith}
+use lib.ListN.{length}
+use Rattle.labels.specs.Columns.{columns, Visits}
+use Rattle.three_opt.proofs.Places.{cuts_from, standing_inside, cuts_fewer, few_cuts}
+use Rattle.reconnections.proofs.Reconnected.{visits_reconnected}
+use Rattle.three_opt.proofs.Going.{Sweeping, sweep_start, sweep_settled, sweep_passed, sweep_stopped, sweep_moved}
+use Rattle.three_opt.proofs.descend.Given as goal
+
+abbrev pub invariant-loop-place : goal.invariant-loop-place
+invariant-loop-place l =
+    Sweeping (columns l.setup.l l.flags l.service l.ready l.due l.penalty l.distances l.times) l.setup.limits l.setup.depot l.limit l.initial.list l.moves l.list l.place
+    × Visits l.setup.l l.list × (length l.list ≡ length l.initial.list) × (length l.buffer ≡ length l.initial.buffer)
+
+abbrev pub decreases-loop-place : goal.decreases-loop-place
+decreases-loop-place l =
+    (l.limit - l.moves) * 262145 + length (cuts_from (length l.list) l.place)

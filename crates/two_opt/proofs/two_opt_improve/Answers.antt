@@ -1,0 +1,29 @@
+-- `two_opt_improve`: the constants are those of the day and the van, so that the run is the definition's.
+use borrow.Author.Rules.{rules}
+use Rattle.descent.specs.Engines.{run_of}
+use Rattle.reversals.specs.Reversals.{next_turn}
+use Rattle.two_opt.proofs.two_opt_improve.Goals as goal
+
+pub is_symmetric-symmetric-requires : goal.is_symmetric-symmetric-requires
+is_symmetric-symmetric-requires c =
+    c.requires.formed.tables.of_distances
+
+pub run_moves-requires : goal.run_moves-requires
+run_moves-requires c =
+    let pre = c.requires.TAIL:formed|depot_lt_l|distances_value in
+    (
+      record {
+        formed = pre.0;
+        depot_there = pre.1.0.0;
+        plain = pre.1.1;
+        floor = rw (c.gain_floor-floor.ensures.answer, c.scale.ensures);
+        symmetric = c.is_symmetric-symmetric.ensures;
+        needed = c.route_checks_needed-needed.ensures;
+      },
+      pre.1.0.1,
+    )
+
+pub returns : goal.returns
+unfolding run_of next_turn
+returns c =
+    c.run_moves.ensures

@@ -1,0 +1,34 @@
+-- `improve`: with a soft window the run is `soft::improve`'s, and without one the engine's.
+use borrow.Author.Rules.{rules}
+use Rattle.within.specs.Within.{ran_by}
+use Rattle.within.proofs.improve.Goals as goal
+
+pub improve-requires-clause-formed : goal.improve-requires-clause-formed
+improve-requires-clause-formed c =
+    c.requires.formed
+
+pub improve-requires-clause-depot_lt_l : goal.improve-requires-clause-depot_lt_l
+improve-requires-clause-depot_lt_l c =
+    c.requires.depot_lt_l
+
+pub returns-then-has_soft_windows : goal.returns-then-has_soft_windows
+unfolding ran_by
+returns-then-has_soft_windows c =
+    rw (← c.has_soft_windows.ensures, c.if-has_soft_windows.true) c.improve.ensures
+
+pub improve_hard-requires-clause-formed : goal.improve_hard-requires-clause-formed
+improve_hard-requires-clause-formed c =
+    c.requires.formed
+
+pub improve_hard-requires-clause-depot_lt_l : goal.improve_hard-requires-clause-depot_lt_l
+improve_hard-requires-clause-depot_lt_l c =
+    c.requires.depot_lt_l
+
+pub improve_hard-requires-clause-distances_value : goal.improve_hard-requires-clause-distances_value
+improve_hard-requires-clause-distances_value c =
+    c.requires.distances_value
+
+pub returns : goal.returns
+unfolding ran_by
+returns c =
+    rw (← c.has_soft_windows.ensures, c.if-has_soft_windows.false) c.improve_hard.ensures
