@@ -24,6 +24,7 @@ use Rattle.descent.proofs.Sums.{tails_keep, moved_keeps}
 room-load : (ms : List Measure) (m : Measure) (X : List ℕ) → room ms X ≡ true → m ∈ ms → load m X ≤ m.capacity
 room-load (n ∷ ms) m X e here = leb-true (load m X) m.capacity (and_parts (leb (load m X) m.capacity) (room ms X) e).0
 room-load (n ∷ ms) m X e (there h) = room-load ms m X (and_parts (leb (load n X) n.capacity) (room ms X) e).1 h
+room-load [] m X e x'' = elim x'' [ ]
 
 pub fits-load : (checks : Checks) (m : Measure) (X : List ℕ) → T (fits checks X) → m ∈ checks.measures → load m X ≤ m.capacity
 fits-load checks m X t h =

@@ -80,6 +80,7 @@ in_from_on a (suc n) k h l = go (in_from_on (suc a) n k) (ℕ_discrete k a)
 pub from_on_in : (a n k : ℕ) → k ∈ from_on a n → (a ≤ k) × (k < a + n)
 from_on_in a (suc n) k here = (omega arith, omega arith)
 from_on_in a (suc n) k (there h) = let b = from_on_in (suc a) n k h in (omega arith, omega arith)
+from_on_in a zero k x' = elim x' [ ]
 
 pub in_range : (a b k : ℕ) → a ≤ k → k < b → k ∈ range a b
 in_range a b k h l = in_from_on a (b - a) k h (omega arith)
@@ -90,6 +91,7 @@ range_in a b k h = let l = from_on_in a (b - a) k h in (omega arith, omega arith
 pub in_each : {A B : Type 0} (f : A → List B) (xs : List A) (a : A) (b : B) → a ∈ xs → b ∈ f a → b ∈ each xs f
 in_each f (x ∷ xs) a b here k = in_left (each xs f) k
 in_each f (x ∷ xs) a b (there h) k = in_right (f x) (in_each f xs a b h k)
+in_each {A = A} {B = B} f [] a b x'' k = elim x'' [ ]
 
 pub each_in : {A B : Type 0} (f : A → List B) (xs : List A) (b : B) → b ∈ each xs f → (a : A) × (a ∈ xs) × (b ∈ f a)
 each_in {A} f (x ∷ xs) b h = go (each_in f xs b) (in_either (f x) (each xs f) b h)
@@ -97,11 +99,14 @@ each_in {A} f (x ∷ xs) b h = go (each_in f xs b) (in_either (f x) (each xs f) 
     go : (b ∈ each xs f → (a : A) × (a ∈ xs) × (b ∈ f a)) → (b ∈ f x) ⊎ (b ∈ each xs f) → (a : A) × (a ∈ x ∷ xs) × (b ∈ f a)
     go rest (inl k) = (x, here, k)
     go rest (inr k) = let r = rest k in (r.0, there r.1, r.2)
+each_in {A = A} {B = B} f [] b h = elim h [ ]
 
 pub in_map : {A B : Type 0} (f : A → B) (xs : List A) (a : A) → a ∈ xs → f a ∈ map f xs
 in_map f (x ∷ xs) a here = here
 in_map f (x ∷ xs) a (there h) = there (in_map f xs a h)
+in_map {A = A} {B = B} f [] a x' = elim x' [ ]
 
 pub map_in : {A B : Type 0} (f : A → B) (xs : List A) (b : B) → b ∈ map f xs → (a : A) × (a ∈ xs) × (f a ≡ b)
 map_in f (x ∷ xs) b here = (x, here, refl)
 map_in f (x ∷ xs) b (there h) = let r = map_in f xs b h in (r.0, there r.1, r.2)
+map_in {A = A} {B = B} f [] b x' = elim x' [ ]

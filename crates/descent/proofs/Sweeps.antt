@@ -47,6 +47,7 @@ module _ {C : Type 0} (ok : C → Bool) (less : C → C → Bool) where
       go true q e rest k = absurd (clash (sym e))
       go false q e rest (inl s) = ap ok s ∙ q
       go false q e rest (inr k) = rest e m k
+  first_least-none [] e m h = elim h [ ]
 
 -- ---- sweeps
 
@@ -68,6 +69,7 @@ module _ {State Place Move Value : Type 0} (search : Search State Place Move) (j
     where
       on : (a : After) (q : Place) → q ∈ elim a [ goes_on ↦ ps | begins_again ↦ [] ] → q ∈ p ∷ ps
       on goes_on q h = there h
+      on begins_again q h = elim h [ ]
 
       go : (o : Option Move) → taken search judge x p ≡ o
           → elim o [
@@ -110,6 +112,7 @@ module _ {State Place Move Value : Type 0} (search : Search State Place Move) (j
           (search.candidates x q) a m (rw s at k)
       go none a e rest (inr h) = rest e p m h k
       go (some n) a e rest h = absurd (clash (sym e))
+  first_move-none x [] e p m h k = elim h [ ]
 
   -- a step is a move at one of the places, where those ahead are among them; where there is no step no candidate at any place is ok
   pub next-some : (s t : Sweep State Place) → ((p : Place) → p ∈ s.ahead → p ∈ search.places s.now) → next search judge s ≡ some t

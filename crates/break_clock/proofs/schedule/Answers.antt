@@ -15,8 +15,7 @@ use Rattle.break_clock.proofs.schedule.Goals as goal
 pub loop-i-init : goal.loop-i-init
 unfolding begun of_bits
 loop-i-init c =
-    let pre = c.requires.TAIL:formed|depot_lt_l in
-    (search rules, pre.1.0, rw c.new-clock.ensures pre.1.0, rw c.new-clock.ensures, refl)
+    (search rules, c.requires.depot_lt_l.0, rw c.new-clock.ensures c.requires.depot_lt_l.0, rw c.new-clock.ensures, refl)
 
 pub overflow_cast-visit : goal.overflow_cast-visit
 overflow_cast-visit c =
@@ -24,71 +23,48 @@ overflow_cast-visit c =
 
 pub get-distance-requires : goal.get-distance-requires
 get-distance-requires c =
-    let pre = c.requires.TAIL:formed|depot_lt_l in
-    let loop = c.loop-i in
-    (pre.0.tables.of_distances, loop.invariant.1, pre.1.1.below loop.i c.loop-i-test.true)
+    (c.requires.formed.tables.of_distances, c.loop-i.invariant.1, c.requires.depot_lt_l.1.below c.loop-i.i c.loop-i-test.true)
 
 pub push-clock-requires : goal.push-clock-requires
 push-clock-requires c =
-    let pre = c.requires.TAIL:formed|depot_lt_l in
-    let loop = c.loop-i in
-    let loop-test = c.loop-i-test in
-    (pre.0, (loop.invariant.2, pre.1.1.below loop.i loop-test.true, omega (arith, loop.invariant.3, pre.1.1.few, loop-test.true)))
+    (c.requires.formed, (c.loop-i.invariant.2, c.requires.depot_lt_l.1.below c.loop-i.i c.loop-i-test.true, omega (arith, c.loop-i.invariant.3, c.requires.depot_lt_l.1.few, c.loop-i-test.true)))
 
 pub returns-then-not-any_left : goal.returns-then-not-any_left
 unfolding of_bits
 returns-then-not-any_left c =
-    let loop-test = c.loop-i-test in
-    let push = c.push-clock in
-    let new = c.new-clock in
-    let loop = c.loop-i in
-    schedule_stops _ _ _ _ _ _ _ _ _ loop-test.true push.ensures c.any_left.ensures (c.if-not-any_left.true)
-    ∙ schedule_is _ _ _ _ _ _ new.ensures loop.invariant.4
+    schedule_stops _ _ _ _ _ _ _ _ _ c.loop-i-test.true c.push-clock.ensures c.any_left.ensures (c.if-not-any_left.true)
+    ∙ schedule_is _ _ _ _ _ _ c.new-clock.ensures c.loop-i.invariant.4
 
 pub overflow_add-i : goal.overflow_add-i
 overflow_add-i c =
-    let loop-test = c.loop-i-test in
-    let pre = c.requires.TAIL:formed|depot_lt_l in
-    omega (arith, loop-test.true, pre.1.1.few)
+    omega (arith, c.loop-i-test.true, c.requires.depot_lt_l.1.few)
 
 pub loop-i-preserved : goal.loop-i-preserved
 unfolding pushed
 loop-i-preserved c =
-    let pre = c.requires.TAIL:formed|depot_lt_l in
-    let loop = c.loop-i in
-    let loop-test = c.loop-i-test in
-    let push = c.push-clock in
-    let get = c.get-distance in
     (
       search rules,
-      pre.1.1.below loop.i loop-test.true,
-      rw push.ensures (pre.1.1.below loop.i loop-test.true),
-      rw push.ensures (ap (λ (n : ℕ). n + 1) loop.invariant.3),
-      schedule_turns _ _ _ _ _ _ _ _ loop-test.true get.ensures push.ensures ∙ loop.invariant.4,
+      c.requires.depot_lt_l.1.below c.loop-i.i c.loop-i-test.true,
+      rw c.push-clock.ensures (c.requires.depot_lt_l.1.below c.loop-i.i c.loop-i-test.true),
+      rw c.push-clock.ensures (ap (λ (n : ℕ). n + 1) c.loop-i.invariant.3),
+      schedule_turns _ _ _ _ _ _ _ _ c.loop-i-test.true c.get-distance.ensures c.push-clock.ensures ∙ c.loop-i.invariant.4,
     )
 
 pub get-distance-requires-2 : goal.get-distance-requires-2
 get-distance-requires-2 c =
-    let pre = c.requires.TAIL:formed|depot_lt_l in
-    (pre.0.tables.of_distances, c.loop-i.invariant.1, pre.1.0)
+    (c.requires.formed.tables.of_distances, c.loop-i.invariant.1, c.requires.depot_lt_l.0)
 
 pub finish-requires-clause-tables : goal.finish-requires-clause-tables
 finish-requires-clause-tables c =
-    let pre = c.requires.TAIL:formed|depot_lt_l in
-    pre.0.tables
+    c.requires.formed.tables
 
 pub finish-requires-clause-prev_lt_l : goal.finish-requires-clause-prev_lt_l
 finish-requires-clause-prev_lt_l c =
-    let pre = c.requires.TAIL:formed|depot_lt_l in
-    let loop = c.loop-i in
-    (loop.invariant.2, pre.1.0)
+    (c.loop-i.invariant.2, c.requires.depot_lt_l.0)
 
 pub returns : goal.returns
 unfolding of_bits
 returns c =
-    let loop-test = c.loop-i-test in
-    let new = c.new-clock in
-    let loop = c.loop-i in
     c.finish.ensures
-    ∙ schedule_ends _ _ _ _ _ _ _ _ loop-test.false c.get-distance-2.ensures
-    ∙ schedule_is _ _ _ _ _ _ new.ensures loop.invariant.4
+    ∙ schedule_ends _ _ _ _ _ _ _ _ c.loop-i-test.false c.get-distance-2.ensures
+    ∙ schedule_is _ _ _ _ _ _ c.new-clock.ensures c.loop-i.invariant.4

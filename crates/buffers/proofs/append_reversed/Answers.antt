@@ -13,9 +13,7 @@ loop-i-init c =
 
 pub loop-i-preserved : goal.loop-i-preserved
 loop-i-preserved c =
-    let part = c.args.part.now in
-    let below = c.loop-i-test.true in
-    storing_more _ _ _ _ _ _ (rw length-reverse c.requires) (rw length-reverse below) (get_or-reverse part c.loop-i.i below) c.loop-i.invariant
+    storing_more _ _ _ _ _ _ (rw length-reverse c.requires) (rw length-reverse c.loop-i-test.true) (get_or-reverse c.args.part.now c.loop-i.i c.loop-i-test.true) c.loop-i.invariant
 
 pub overflow_add-result : goal.overflow_add-result
 overflow_add-result c =

@@ -58,15 +58,13 @@ cost_one-requires-clause-formed c =
 
 pub cost_one-requires-clause-kept : goal.cost_one-requires-clause-kept
 cost_one-requires-clause-kept c =
-    let block = c.requires.block.0 in
-    (c.requires.kept, row_there block _ c.loop-i-test.true)
+    (c.requires.kept, row_there c.requires.block.0 _ c.loop-i-test.true)
 
 pub cost_one-requires-clause-other_in_bounds : goal.cost_one-requires-clause-other_in_bounds
 cost_one-requires-clause-other_in_bounds c =
-    let block = c.requires.block.0 in
     (
-          lent_wide block _ c.loop-i-test.true _ c.requires.block.1,
-          lent_wide block _ c.loop-i-test.true _
+          lent_wide c.requires.block.0 _ c.loop-i-test.true _ c.requires.block.1,
+          lent_wide c.requires.block.0 _ c.loop-i-test.true _
               c.loop-i.invariant.0,
         )
 
@@ -81,22 +79,17 @@ loop-i-smaller c =
 
 pub loop-i-preserved : goal.loop-i-preserved
 loop-i-preserved c =
-    let block = c.requires.block.0 in
     let n = length c.args.list.now in
     let m = length c.args.other.now in
-    let i = c.loop-i.i in
-    let from = i * c.args.width in
+    let from = c.loop-i.i * c.args.width in
     let to = from + c.args.width in
-    let costs = c.loop-i.costs in
-    let last = c.cost_one.new.costs in
-    let kept = c.cost_one.auto.costs in
-    let few = entries_few block i c.loop-i-test.true in
-    let wide = counts_wide c.args.turned n m block in
+    let few = entries_few c.requires.block.0 c.loop-i.i c.loop-i-test.true in
+    let wide = counts_wide c.args.turned n m c.requires.block.0 in
     (
-      same_len_mid from (to - from) costs last kept ∙ c.loop-i.invariant.0,
-      rows_turn _ _ _ wide i from to costs last refl refl (omega (arith, few, c.loop-i.invariant.0))
-          (kept ∙ lent_long block i c.loop-i-test.true costs c.loop-i.invariant.0) c.loop-i.invariant.1
-          (costed_part _ _ _ _ _ from to c.args.skip.now last c.args.width refl (wide i) c.cost_one.ensures),
+      same_len_mid from (to - from) c.loop-i.costs c.cost_one.new.costs c.cost_one.auto.costs ∙ c.loop-i.invariant.0,
+      rows_turn _ _ _ wide c.loop-i.i from to c.loop-i.costs c.cost_one.new.costs refl refl (omega (arith, few, c.loop-i.invariant.0))
+          (c.cost_one.auto.costs ∙ lent_long c.requires.block.0 c.loop-i.i c.loop-i-test.true c.loop-i.costs c.loop-i.invariant.0) c.loop-i.invariant.1
+          (costed_part _ _ _ _ _ from to c.args.skip.now c.cost_one.new.costs c.args.width refl (wide c.loop-i.i) c.cost_one.ensures),
     )
 
 pub returns : goal.returns

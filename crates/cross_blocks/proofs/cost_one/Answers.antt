@@ -8,10 +8,9 @@ use Rattle.cross_blocks.proofs.cost_one.Goals as goal
 
 pub side_of-side-requires : goal.side_of-side-requires
 side_of-side-requires c =
-    let few = c.requires.formed.2.few in
     let n = length c.args.list.now in
     let m = length c.args.other.now in
-    (omega (arith, few), omega (arith, few), side_few c.args.kind c.args.turned n m c.args.k few c.requires.kept.1)
+    (omega (arith, c.requires.formed.2.few), omega (arith, c.requires.formed.2.few), side_few c.args.kind c.args.turned n m c.args.k c.requires.formed.2.few c.requires.kept.1)
 
 pub row_costs-requires-clause-formed : goal.row_costs-requires-clause-formed
 row_costs-requires-clause-formed c =
@@ -39,8 +38,7 @@ extend-requires c =
     let m = length c.args.other.now in
     let lying = rw (← c.side_of-side.ensures) at (side_lies c.args.kind c.args.turned n m c.args.k c.requires.formed.2.few
     c.requires.kept.1) in
-    let kept = c.row_costs.auto.costs in
-    (omega (arith, lying.wide, c.requires.other_in_bounds.1, kept), lying.lies.few)
+    (omega (arith, lying.wide, c.requires.other_in_bounds.1, c.row_costs.auto.costs), lying.lies.few)
 
 pub returns : goal.returns
 returns c =

@@ -67,18 +67,13 @@ loop-i-smaller c =
 
 pub loop-i-preserved : goal.loop-i-preserved
 loop-i-preserved c =
-    let block = c.requires.block.0 in
-    let i = c.loop-i.i in
-    let from = i * c.args.width in
+    let from = c.loop-i.i * c.args.width in
     let to = from + c.args.width in
-    let marks = c.loop-i.marks in
-    let last = c.mark_one.new.marks in
-    let kept = c.mark_one.auto.marks in
-    let few = entries_few block i c.loop-i-test.true in
+    let few = entries_few c.requires.block.0 c.loop-i.i c.loop-i-test.true in
     (
-      same_len_mid from (to - from) marks last kept ∙ c.loop-i.invariant.0,
-      rows_turn _ _ _ (distinct_wide block) i from to marks last refl refl (omega (arith, few, c.loop-i.invariant.0))
-          (kept ∙ lent_long block i c.loop-i-test.true marks c.loop-i.invariant.0) c.loop-i.invariant.1
+      same_len_mid from (to - from) c.loop-i.marks c.mark_one.new.marks c.mark_one.auto.marks ∙ c.loop-i.invariant.0,
+      rows_turn _ _ _ (distinct_wide c.requires.block.0) c.loop-i.i from to c.loop-i.marks c.mark_one.new.marks refl refl (omega (arith, few, c.loop-i.invariant.0))
+          (c.mark_one.auto.marks ∙ lent_long c.requires.block.0 c.loop-i.i c.loop-i-test.true c.loop-i.marks c.loop-i.invariant.0) c.loop-i.invariant.1
           c.mark_one.ensures.mark_at,
     )
 

@@ -8,8 +8,7 @@ use Rattle.cross_blocks.proofs.mark_one.Goals as goal
 
 pub row_of-row-requires : goal.row_of-row-requires
 row_of-row-requires c =
-    let few = c.requires.loaded.2.few in
-    (omega (arith, few), omega (arith, rows_few c.args.kind (length c.args.one.now), c.requires.k_bound.0, few))
+    (omega (arith, c.requires.loaded.2.few), omega (arith, rows_few c.args.kind (length c.args.one.now), c.requires.k_bound.0, c.requires.loaded.2.few))
 
 pub mark_row-requires-clause-loaded : goal.mark_row-requires-clause-loaded
 mark_row-requires-clause-loaded c =

@@ -17,92 +17,65 @@ use Rattle.cross_broken_drives.proofs.drive_candidate.Goals as goal
 
 pub loop-i-init : goal.loop-i-init
 loop-i-init c =
-    let args = c.args in
-    let pre = c.requires.TAIL:formed|place_lt_l|from_le_to in
-    let long = length-changed args.list.now args.other.now _ _ args.other_from _ pre.1.1.0 pre.1.1.1 pre.1.1.3 in
-    driving_starts _ _ _ _ _ (omega (arith, long, pre.1.0.2)) pre.1.0.2 pre.1.0.0
+    let long = length-changed c.args.list.now c.args.other.now _ _ c.args.other_from _ c.requires.from_le_to.0 c.requires.from_le_to.1 c.requires.from_le_to.3 in
+    driving_starts _ _ _ _ _ (omega (arith, long, c.requires.place_lt_l.2)) c.requires.place_lt_l.2 c.requires.place_lt_l.0
 
 pub returns-then-both : goal.returns-then-both
 returns-then-both c =
-    let args = c.args in
-    let loop = c.loop-i in
-    let any_left = c.any_left in
-    let begun = leb args.from loop.i in
-    let gone = not any_left.result in
+    let begun = leb c.args.from c.loop-i.i in
+    let gone = not c.any_left.result in
     let stops = sym c.both.ensures ∙ c.if-both.true in
-    driving_stops _ _ _ _ _ _ _ _ loop.invariant _ (leb-true _ _ (and_first begun gone stops)) any_left.ensures
+    driving_stops _ _ _ _ _ _ _ _ c.loop-i.invariant _ (leb-true _ _ (and_first begun gone stops)) c.any_left.ensures
     ((and_second begun gone stops))
 
 pub visit_at-visit-requires : goal.visit_at-visit-requires
 visit_at-visit-requires c =
-    let pre = c.requires.TAIL:formed|place_lt_l|from_le_to in
-    (pre.1.1, (pre.0.1.few, c.loop-i-test.true))
+    (c.requires.from_le_to, (c.requires.formed.1.few, c.loop-i-test.true))
 
 pub next_head-head-requires : goal.next_head-head-requires
 next_head-head-requires c =
-    let args = c.args in
-    let pre = c.requires.TAIL:formed|place_lt_l|from_le_to in
-    let loop = c.loop-i in
-    let loop-test = c.loop-i-test in
-    let long = length-changed args.list.now args.other.now _ _ args.other_from _ pre.1.1.0 pre.1.1.1 pre.1.1.3 in
-    let visits = visits_changed args.list.now args.other.now _ _ _ _ pre.1.1.0 pre.1.1.1 pre.1.1.2 pre.1.1.3 pre.0.1 in
+    let long = length-changed c.args.list.now c.args.other.now _ _ c.args.other_from _ c.requires.from_le_to.0 c.requires.from_le_to.1 c.requires.from_le_to.3 in
+    let visits = visits_changed c.args.list.now c.args.other.now _ _ _ _ c.requires.from_le_to.0 c.requires.from_le_to.1 c.requires.from_le_to.2 c.requires.from_le_to.3 c.requires.formed.1 in
     (
-      pre.0.0,
+      c.requires.formed.0,
       (
-        loop.invariant.placed,
-        rw c.visit_at-visit.ensures (visits.below _ (omega (arith, long, loop-test.true))),
-        omega (arith, loop.invariant.counted, pre.1.0.1, long, visits.few, loop-test.true),
+        c.loop-i.invariant.placed,
+        rw c.visit_at-visit.ensures (visits.below _ (omega (arith, long, c.loop-i-test.true))),
+        omega (arith, c.loop-i.invariant.counted, c.requires.place_lt_l.1, long, visits.few, c.loop-i-test.true),
       ),
     )
 
 pub overflow_add-i : goal.overflow_add-i
 overflow_add-i c =
-    let args = c.args in
-    let pre = c.requires.TAIL:formed|place_lt_l|from_le_to in
-    let loop-test = c.loop-i-test in
-    let long = length-changed args.list.now args.other.now _ _ args.other_from _ pre.1.1.0 pre.1.1.1 pre.1.1.3 in
-    let visits = visits_changed args.list.now args.other.now _ _ _ _ pre.1.1.0 pre.1.1.1 pre.1.1.2 pre.1.1.3 pre.0.1 in
-    omega (arith, long, visits.few, loop-test.true)
+    let long = length-changed c.args.list.now c.args.other.now _ _ c.args.other_from _ c.requires.from_le_to.0 c.requires.from_le_to.1 c.requires.from_le_to.3 in
+    let visits = visits_changed c.args.list.now c.args.other.now _ _ _ _ c.requires.from_le_to.0 c.requires.from_le_to.1 c.requires.from_le_to.2 c.requires.from_le_to.3 c.requires.formed.1 in
+    omega (arith, long, visits.few, c.loop-i-test.true)
 
 pub loop-i-smaller-then-i-from : goal.loop-i-smaller-then-i-from
 loop-i-smaller-then-i-from c =
-    let loop-test = c.loop-i-test in
-    omega (arith, loop-test.true)
+    omega (arith, c.loop-i-test.true)
 
 pub loop-i-preserved-then-i-from : goal.loop-i-preserved-then-i-from
 loop-i-preserved-then-i-from c =
-    let args = c.args in
-    let pre = c.requires.TAIL:formed|place_lt_l|from_le_to in
-    let loop = c.loop-i in
-    let loop-test = c.loop-i-test in
-    let visit-at = c.visit_at-visit in
-    let long = length-changed args.list.now args.other.now _ _ args.other_from _ pre.1.1.0 pre.1.1.1 pre.1.1.3 in
-    let visits = visits_changed args.list.now args.other.now _ _ _ _ pre.1.1.0 pre.1.1.1 pre.1.1.2 pre.1.1.3 pre.0.1 in
-    driving_turns _ _ _ _ _ _ _ _ loop.invariant _ _ (omega (arith, long, loop-test.true))
-    (rw visit-at.ensures (visits.below _ (omega (arith, long, loop-test.true)))) visit-at.ensures c.next_head-head.ensures.0
+    let long = length-changed c.args.list.now c.args.other.now _ _ c.args.other_from _ c.requires.from_le_to.0 c.requires.from_le_to.1 c.requires.from_le_to.3 in
+    let visits = visits_changed c.args.list.now c.args.other.now _ _ _ _ c.requires.from_le_to.0 c.requires.from_le_to.1 c.requires.from_le_to.2 c.requires.from_le_to.3 c.requires.formed.1 in
+    driving_turns _ _ _ _ _ _ _ _ c.loop-i.invariant _ _ (omega (arith, long, c.loop-i-test.true))
+    (rw c.visit_at-visit.ensures (visits.below _ (omega (arith, long, c.loop-i-test.true)))) c.visit_at-visit.ensures c.next_head-head.ensures.0
     c.next_head-head.ensures.1 c.next_head-head.ensures.2 c.if-i-from.true
 
 pub loop-i-smaller : goal.loop-i-smaller
 loop-i-smaller c =
-    let loop-test = c.loop-i-test in
-    omega (arith, loop-test.true)
+    omega (arith, c.loop-i-test.true)
 
 pub loop-i-preserved : goal.loop-i-preserved
 loop-i-preserved c =
-    let args = c.args in
-    let pre = c.requires.TAIL:formed|place_lt_l|from_le_to in
-    let loop = c.loop-i in
-    let loop-test = c.loop-i-test in
-    let visit-at = c.visit_at-visit in
-    let long = length-changed args.list.now args.other.now _ _ args.other_from _ pre.1.1.0 pre.1.1.1 pre.1.1.3 in
-    let visits = visits_changed args.list.now args.other.now _ _ _ _ pre.1.1.0 pre.1.1.1 pre.1.1.2 pre.1.1.3 pre.0.1 in
-    driving_begins _ _ _ _ _ _ _ _ loop.invariant _ _ (omega (arith, long, loop-test.true))
-    (rw visit-at.ensures (visits.below _ (omega (arith, long, loop-test.true)))) visit-at.ensures c.next_head-head.ensures.0
+    let long = length-changed c.args.list.now c.args.other.now _ _ c.args.other_from _ c.requires.from_le_to.0 c.requires.from_le_to.1 c.requires.from_le_to.3 in
+    let visits = visits_changed c.args.list.now c.args.other.now _ _ _ _ c.requires.from_le_to.0 c.requires.from_le_to.1 c.requires.from_le_to.2 c.requires.from_le_to.3 c.requires.formed.1 in
+    driving_begins _ _ _ _ _ _ _ _ c.loop-i.invariant _ _ (omega (arith, long, c.loop-i-test.true))
+    (rw c.visit_at-visit.ensures (visits.below _ (omega (arith, long, c.loop-i-test.true)))) c.visit_at-visit.ensures c.next_head-head.ensures.0
     c.next_head-head.ensures.1 c.next_head-head.ensures.2 c.if-i-from.false
 
 pub returns : goal.returns
 returns c =
-    let args = c.args in
-    let pre = c.requires.TAIL:formed|place_lt_l|from_le_to in
-    let long = length-changed args.list.now args.other.now _ _ args.other_from _ pre.1.1.0 pre.1.1.1 pre.1.1.3 in
+    let long = length-changed c.args.list.now c.args.other.now _ _ c.args.other_from _ c.requires.from_le_to.0 c.requires.from_le_to.1 c.requires.from_le_to.3 in
     driving_ends _ _ _ _ _ _ _ _ c.loop-i.invariant (omega (arith, long)) (omega (arith, long, c.loop-i-test.false))

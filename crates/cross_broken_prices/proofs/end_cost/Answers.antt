@@ -13,11 +13,9 @@ returns-in_default c =
 pub returns-then-allow : goal.returns-then-allow
 unfolding amount price_of evaluated priced_distance
 returns-then-allow c =
-    let outcome = c.outcome-1 in
-    rw (outcome.given.1, sym c.allow.ensures ∙ c.if-allow.true) c.route_cost.ensures
+    rw (c.in-Possible.is, sym c.allow.ensures ∙ c.if-allow.true) c.route_cost.ensures
 
 pub returns : goal.returns
 unfolding amount price_of evaluated
 returns c =
-    let outcome = c.outcome-1 in
-    rw (outcome.given.1, sym c.allow.ensures ∙ c.if-allow.false) c.infinite-2.ensures.answer
+    rw (c.in-Possible.is, sym c.allow.ensures ∙ c.if-allow.false) c.infinite-2.ensures.answer

@@ -12,49 +12,33 @@ use Rattle.cross_candidates.proofs.candidate_cost.Goals as goal
 
 pub returns-then-reached-from : goal.returns-then-reached-from
 returns-then-reached-from c =
-    let pre = c.requires.TAIL:formed|unbroken|from_le_to in
-    let args = c.args in
     c.infinite.ensures.answer
-    ∙ cost_lost _ _ _ pre.1.0.0 _ args.other.now _ _ args.other_from _ pre.1.1.0 pre.1.1.1 pre.1.1.3 _ _
-    pre.1.0.1 c.if-reached-from.true
+    ∙ cost_lost _ _ _ c.requires.unbroken.0 _ c.args.other.now _ _ c.args.other_from _ c.requires.from_le_to.0 c.requires.from_le_to.1 c.requires.from_le_to.3 _ _
+    c.requires.unbroken.1 c.if-reached-from.true
 
 pub returns-then-from-other_to-eq0 : goal.returns-then-from-other_to-eq0
 unfolding of_bits
 returns-then-from-other_to-eq0 c =
-    let pre = c.requires.TAIL:formed|unbroken|from_le_to in
-    cost_none _ _ _ _ _ _ pre.1.1.0 pre.1.1.1 pre.1.1.3 _ _ c.if-from-other_to-eq0.true
+    cost_none _ _ _ _ _ _ c.requires.from_le_to.0 c.requires.from_le_to.1 c.requires.from_le_to.3 _ _ c.if-from-other_to-eq0.true
 
 pub head_at-head-requires : goal.head_at-head-requires
 head_at-head-requires c =
-    let pre = c.requires.TAIL:formed|unbroken|from_le_to in
-    (omega (arith, pre.1.1.0, pre.1.1.1), omega (arith, pre.1.1.0, pre.1.1.1, pre.0.2.few), pre.1.0.1.long)
+    (omega (arith, c.requires.from_le_to.0, c.requires.from_le_to.1), omega (arith, c.requires.from_le_to.0, c.requires.from_le_to.1, c.requires.formed.2.few), c.requires.unbroken.1.long)
 
 pub price_from-price-requires : goal.price_from-price-requires
 price_from-price-requires c =
-    let args = c.args in
-    let pre = c.requires.TAIL:formed|unbroken|from_le_to in
-    let few : args.from ≤ length args.list.now = omega (arith, pre.1.1.0, pre.1.1.1) in
-    let there = place_there args.l args.van.depot args.list.now args.from pre.0.1.depot_there pre.0.2.one_below few in
-    (pre.0, (rw c.head_at-head.ensures there, pre.1.1.1, pre.1.1.2, pre.1.1.3))
+    let few : c.args.from ≤ length c.args.list.now = omega (arith, c.requires.from_le_to.0, c.requires.from_le_to.1) in
+    let there = place_there c.args.l c.args.van.depot c.args.list.now c.args.from c.requires.formed.1.depot_there c.requires.formed.2.one_below few in
+    (c.requires.formed, (rw c.head_at-head.ensures there, c.requires.from_le_to.1, c.requires.from_le_to.2, c.requires.from_le_to.3))
 
 pub returns-in_default : goal.returns-in_default
 returns-in_default c =
-    let pre = c.requires.TAIL:formed|unbroken|from_le_to in
-    let if1 = c.if-reached-from in
-    let if2 = c.if-from-other_to-eq0 in
-    let head_at = c.head_at-head in
-    let price-from = c.price_from-price in
     c.infinite-in_default.ensures.answer ∙ amount_none _ c.in_default.is
-    ∙ ap amount (price_on_lem _ _ _ pre.1.0.0 _ _ _ _ _ _ pre.1.1.0 pre.1.1.1 pre.1.1.3 _ _ pre.1.0.1 _ _ head_at.ensures
-    if1.false if2.false price-from.ensures)
+    ∙ ap amount (price_on_lem _ _ _ c.requires.unbroken.0 _ _ _ _ _ _ c.requires.from_le_to.0 c.requires.from_le_to.1 c.requires.from_le_to.3 _ _ c.requires.unbroken.1 _ _ c.head_at-head.ensures
+    c.if-reached-from.false c.if-from-other_to-eq0.false c.price_from-price.ensures)
 
 pub returns : goal.returns
 returns c =
-    let pre = c.requires.TAIL:formed|unbroken|from_le_to in
-    let if1 = c.if-reached-from in
-    let if2 = c.if-from-other_to-eq0 in
-    let head_at = c.head_at-head in
-    let price-from = c.price_from-price in
     amount-costs _ _ c.in-Costs.is
-    ∙ ap amount (price_on_lem _ _ _ pre.1.0.0 _ _ _ _ _ _ pre.1.1.0 pre.1.1.1 pre.1.1.3 _ _ pre.1.0.1 _ _ head_at.ensures
-    if1.false if2.false price-from.ensures)
+    ∙ ap amount (price_on_lem _ _ _ c.requires.unbroken.0 _ _ _ _ _ _ c.requires.from_le_to.0 c.requires.from_le_to.1 c.requires.from_le_to.3 _ _ c.requires.unbroken.1 _ _ c.head_at-head.ensures
+    c.if-reached-from.false c.if-from-other_to-eq0.false c.price_from-price.ensures)

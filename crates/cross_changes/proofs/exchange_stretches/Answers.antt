@@ -5,8 +5,8 @@ use Rattle.cross_changes.proofs.exchange_stretches.Goals as goal
 
 pub exchange_later-requires-2 : goal.exchange_later-requires-2
 exchange_later-requires-2 c =
-    rw c.Turned-Move.ensures (makes_turned _ _ c.args.m c.requires, later_turned _ _ c.args.m c.requires c.if-m.false)
+    rw c.turned_move.ensures (makes_turned _ _ c.args.m c.requires, later_turned _ _ c.args.m c.requires c.if-m.false)
 
 pub returns : goal.returns
 returns c =
-    rw (c.Turned-Move.ensures, turned_same _ _ c.args.m c.requires) at c.exchange_later-2.ensures
+    rw (c.turned_move.ensures, turned_same _ _ c.args.m c.requires) at c.exchange_later-2.ensures

@@ -15,15 +15,13 @@ returns-then-at-count c =
 
 pub overflow_add-k : goal.overflow_add-k
 overflow_add-k c =
-    let least = c.args.least in
-    omega (arith, c.requires.k_bound.0, c.requires.k_bound.1, c.requires.k_bound.2, div-le_self least.at c.args.width)
+    omega (arith, c.requires.k_bound.0, c.requires.k_bound.1, c.requires.k_bound.2, div-le_self c.args.least.at c.args.width)
 
 pub move_of-chosen-requires : goal.move_of-chosen-requires
 move_of-chosen-requires c =
-    let least = c.args.least in
     (
-      omega (arith, c.requires.k_bound.0, c.requires.k_bound.1, c.requires.k_bound.2, div-le_self least.at c.args.width),
-      omega (arith, c.requires.k_bound.1, c.requires.k_bound.2, c.if-at-count.false, mod-le least.at c.args.width),
+      omega (arith, c.requires.k_bound.0, c.requires.k_bound.1, c.requires.k_bound.2, div-le_self c.args.least.at c.args.width),
+      omega (arith, c.requires.k_bound.1, c.requires.k_bound.2, c.if-at-count.false, mod-le c.args.least.at c.args.width),
     )
 
 pub returns : goal.returns

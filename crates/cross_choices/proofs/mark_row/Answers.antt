@@ -39,21 +39,17 @@ end_at-to2-requires c =
 
 pub fits-first-requires : goal.fits-first-requires
 fits-first-requires c =
-    let a = c.start_at-from1.ensures in
-    let b = c.end_at-to1.ensures in
-    let d = c.start_at-from2.ensures in
-    let e = c.end_at-to2.ensures in
     (
       (c.requires.loaded.0, c.requires.loaded.1.0, c.requires.loaded.2),
       (
         c.requires.prefixed,
         (
-          rw (a, b) (c.requires.rowed.0.ordered _ c.loop-j-test.true),
-          rw b
+          rw (c.start_at-from1.ensures, c.end_at-to1.ensures) (c.requires.rowed.0.ordered _ c.loop-j-test.true),
+          rw c.end_at-to1.ensures
               (c.requires.rowed.0.within _ c.loop-j-test.true),
-          rw (d, e)
+          rw (c.start_at-from2.ensures, c.end_at-to2.ensures)
               (c.requires.rowed.0.others_ordered _ c.loop-j-test.true),
-          rw e
+          rw c.end_at-to2.ensures
               (c.requires.rowed.0.others_within _ c.loop-j-test.true),
         ),
       ),
@@ -61,21 +57,17 @@ fits-first-requires c =
 
 pub fits-second-requires : goal.fits-second-requires
 fits-second-requires c =
-    let a = c.start_at-from1.ensures in
-    let b = c.end_at-to1.ensures in
-    let d = c.start_at-from2.ensures in
-    let e = c.end_at-to2.ensures in
     (
       (c.requires.loaded.0, c.requires.loaded.1.1, two_turned _ _ _ c.requires.loaded.2),
       (
         (c.requires.prefixed.1, c.requires.prefixed.0),
         (
-          rw (d, e) (c.requires.rowed.0.others_ordered _ c.loop-j-test.true),
-          rw e
+          rw (c.start_at-from2.ensures, c.end_at-to2.ensures) (c.requires.rowed.0.others_ordered _ c.loop-j-test.true),
+          rw c.end_at-to2.ensures
               (c.requires.rowed.0.others_within _ c.loop-j-test.true),
-          rw (a, b)
+          rw (c.start_at-from1.ensures, c.end_at-to1.ensures)
               (c.requires.rowed.0.ordered _ c.loop-j-test.true),
-          rw b (c.requires.rowed.0.within _ c.loop-j-test.true),
+          rw c.end_at-to1.ensures (c.requires.rowed.0.within _ c.loop-j-test.true),
         ),
       ),
     )

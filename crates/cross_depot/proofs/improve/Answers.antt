@@ -33,8 +33,7 @@ descend_from-requires-clause-held c =
 pub descend_from-requires-clause-costs_len : goal.descend_from-requires-clause-costs_len
 descend_from-requires-clause-costs_len c =
     let some = some_van (ltb (length c.args.lengths.now) 2) _ (sym c.either.ensures ∙ c.if-either.false) in
-    let few = c.requires.held.0.laid.few in
-    length_part _ _ (omega (arith, few))
+    length_part _ _ (omega (arith, c.requires.held.0.laid.few))
 
 pub returns : goal.returns
 returns c =

@@ -6,43 +6,29 @@ use Rattle.cross_head_prices.proofs.price_from.Goals as goal
 
 pub drive-part-requires : goal.drive-part-requires
 drive-part-requires c =
-    let pre = c.requires.TAIL:formed|place_lt_l in
-    (pre.0.0, (pre.1.0, record { few = omega (arith, pre.0.2.few); below = pre.0.2.other_below }, pre.1.2, pre.1.3))
+    (c.requires.formed.0, (c.requires.place_lt_l.0, record { few = omega (arith, c.requires.formed.2.few); below = c.requires.formed.2.other_below }, c.requires.place_lt_l.2, c.requires.place_lt_l.3))
 
 pub returns-then-part-other_to : goal.returns-then-part-other_to
 returns-then-part-other_to c =
-    let pre = c.requires.TAIL:formed|place_lt_l in
-    part_lost _ _ _ _ _ _ _ _ c.drive-part.ensures _ c.if-part-other_to.true pre.1.3
+    part_lost _ _ _ _ _ _ _ _ c.drive-part.ensures _ c.if-part-other_to.true c.requires.place_lt_l.3
 
 pub drive-whole-requires : goal.drive-whole-requires
 drive-whole-requires c =
-    let pre = c.requires.TAIL:formed|place_lt_l in
-    let driven = c.drive-part.ensures in
-    (pre.0.0, (driven.placed, record { few = omega (arith, pre.0.2.few); below = pre.0.2.one_below }, pre.1.1, omega arith))
+    (c.requires.formed.0, (c.drive-part.ensures.placed, record { few = omega (arith, c.requires.formed.2.few); below = c.requires.formed.2.one_below }, c.requires.place_lt_l.1, omega arith))
 
 pub returns-then-whole-list : goal.returns-then-whole-list
 returns-then-whole-list c =
-    let drive = c.drive-part in
-    let if1 = c.if-part-other_to in
-    tail_lost _ _ _ _ _ _ _ _ drive.ensures if1.false _ _ _ c.drive-whole.ensures c.if-whole-list.true
+    tail_lost _ _ _ _ _ _ _ _ c.drive-part.ensures c.if-part-other_to.false _ _ _ c.drive-whole.ensures c.if-whole-list.true
 
 pub get-requires : goal.get-requires
 get-requires c =
-    let pre = c.requires.TAIL:formed|place_lt_l in
-    (pre.0.0.tables.of_distances, c.drive-whole.ensures.placed, pre.0.1.depot_there)
+    (c.requires.formed.0.tables.of_distances, c.drive-whole.ensures.placed, c.requires.formed.1.depot_there)
 
 pub travel_time-back-requires : goal.travel_time-back-requires
 travel_time-back-requires c =
-    let pre = c.requires.TAIL:formed|place_lt_l in
-    let drive2 = c.drive-whole in
-    (pre.0.0.tables, drive2.ensures.placed, pre.0.1.depot_there)
+    (c.requires.formed.0.tables, c.drive-whole.ensures.placed, c.requires.formed.1.depot_there)
 
 pub returns : goal.returns
 returns c =
-    let drive = c.drive-part in
-    let if1 = c.if-part-other_to in
-    let drive2 = c.drive-whole in
-    let if2 = c.if-whole-list in
-    let get = c.get in
-    price_driven _ _ _ _ _ _ _ _ drive.ensures if1.false _ _ _ drive2.ensures if2.false _ _ get.ensures c.travel_time-back.ensures _
+    price_driven _ _ _ _ _ _ _ _ c.drive-part.ensures c.if-part-other_to.false _ _ _ c.drive-whole.ensures c.if-whole-list.false _ _ c.get.ensures c.travel_time-back.ensures _
     c.ended_price.ensures

@@ -11,13 +11,11 @@ use Rattle.cross_pairs.proofs.best_of_block.Goals as goal
 
 pub mark_block-requires-clause-loaded : goal.mark_block-requires-clause-loaded
 mark_block-requires-clause-loaded c =
-    let ready = c.requires.ready in
-    (ready.asked.loaded, (rw c.requires.roomy.2 ready.paired.driven1, rw c.requires.roomy.3 ready.paired.driven2), ready.two)
+    (c.requires.ready.asked.loaded, (rw c.requires.roomy.2 c.requires.ready.paired.driven1, rw c.requires.roomy.3 c.requires.ready.paired.driven2), c.requires.ready.two)
 
 pub mark_block-requires-clause-prefixed : goal.mark_block-requires-clause-prefixed
 mark_block-requires-clause-prefixed c =
-    let ready = c.requires.ready in
-    (ready.prefixed1, ready.prefixed2)
+    (c.requires.ready.prefixed1, c.requires.ready.prefixed2)
 
 pub mark_block-requires-clause-block : goal.mark_block-requires-clause-block
 mark_block-requires-clause-block c =
@@ -25,30 +23,23 @@ mark_block-requires-clause-block c =
 
 pub block_costs-requires-clause-formed : goal.block_costs-requires-clause-formed
 block_costs-requires-clause-formed c =
-    let ready = c.requires.ready in
-    let marks-kept = c.mark_block.auto.marks in
-    (ready.asked.formed, rw c.requires.roomy.2 ready.paired.driven1, ready.two)
+    (c.requires.ready.asked.formed, rw c.requires.roomy.2 c.requires.ready.paired.driven1, c.requires.ready.two)
 
 pub block_costs-requires-clause-kept : goal.block_costs-requires-clause-kept
 block_costs-requires-clause-kept c =
-    let ready = c.requires.ready in
-    let marks-kept = c.mark_block.auto.marks in
-    rw c.requires.roomy.2 ready.kept1
+    rw c.requires.roomy.2 c.requires.ready.kept1
 
 pub block_costs-requires-clause-block : goal.block_costs-requires-clause-block
 block_costs-requires-clause-block c =
-    let marks-kept = c.mark_block.auto.marks in
-    (c.requires.roomy.1, marks-kept ∙ c.requires.roomy.0.costs2_long, c.requires.roomy.0.costs1_long)
+    (c.requires.roomy.1, c.mark_block.auto.marks ∙ c.requires.roomy.0.costs2_long, c.requires.roomy.0.costs1_long)
 
 pub entries_of-count-requires : goal.entries_of-count-requires
 entries_of-count-requires c =
-    let few = c.requires.ready.two.few in
-    (c.requires.roomy.1, omega (arith, few), omega (arith, few))
+    (c.requires.roomy.1, omega (arith, c.requires.ready.two.few), omega (arith, c.requires.ready.two.few))
 
 pub is_shut-requires : goal.is_shut-requires
 is_shut-requires c =
-    let some-kept = c.block_costs.auto.costs in
-    (some-kept ∙ c.requires.roomy.0.costs1_long, rw c.entries_of-count.ensures (block_few c.requires.roomy.1))
+    (c.block_costs.auto.costs ∙ c.requires.roomy.0.costs1_long, rw c.entries_of-count.ensures (block_few c.requires.roomy.1))
 
 pub returns-then-is_shut : goal.returns-then-is_shut
 returns-then-is_shut c =
@@ -60,60 +51,41 @@ returns-then-is_shut c =
 
 pub block_costs-requires-2-clause-formed : goal.block_costs-requires-2-clause-formed
 block_costs-requires-2-clause-formed c =
-    let ready = c.requires.ready in
-    let marks-kept = c.mark_block.auto.marks in
-    let some-kept = c.block_costs.auto.costs in
-    (ready.asked.formed, rw c.requires.roomy.3 ready.paired.driven2, two_turned _ _ _ ready.two)
+    (c.requires.ready.asked.formed, rw c.requires.roomy.3 c.requires.ready.paired.driven2, two_turned _ _ _ c.requires.ready.two)
 
 pub block_costs-requires-2-clause-kept : goal.block_costs-requires-2-clause-kept
 block_costs-requires-2-clause-kept c =
-    let ready = c.requires.ready in
-    let marks-kept = c.mark_block.auto.marks in
-    let some-kept = c.block_costs.auto.costs in
-    rw c.requires.roomy.3 ready.kept2
+    rw c.requires.roomy.3 c.requires.ready.kept2
 
 pub block_costs-requires-2-clause-block : goal.block_costs-requires-2-clause-block
 block_costs-requires-2-clause-block c =
-    let marks-kept = c.mark_block.auto.marks in
-    let some-kept = c.block_costs.auto.costs in
-    (c.requires.roomy.1, some-kept ∙ c.requires.roomy.0.costs1_long, marks-kept ∙ c.requires.roomy.0.costs2_long)
+    (c.requires.roomy.1, c.block_costs.auto.costs ∙ c.requires.roomy.0.costs1_long, c.mark_block.auto.marks ∙ c.requires.roomy.0.costs2_long)
 
 pub least_of-least-requires : goal.least_of-least-requires
 least_of-least-requires c =
-    let marks-kept = c.mark_block.auto.marks in
-    let some-kept = c.block_costs.auto.costs in
-    let costs2-kept = c.block_costs-2.auto.costs in
     (
-      some-kept ∙ c.requires.roomy.0.costs1_long,
-      costs2-kept ∙ marks-kept ∙ c.requires.roomy.0.costs2_long,
+      c.block_costs.auto.costs ∙ c.requires.roomy.0.costs1_long,
+      c.block_costs-2.auto.costs ∙ c.mark_block.auto.marks ∙ c.requires.roomy.0.costs2_long,
       rw c.entries_of-count.ensures (block_few c.requires.roomy.1),
     )
 
 pub choose_of_block-requires-clause-k_bound : goal.choose_of_block-requires-clause-k_bound
 choose_of_block-requires-clause-k_bound c =
-    let marks-kept = c.mark_block.auto.marks in
-    let some-kept = c.block_costs.auto.costs in
-    let costs2-kept = c.block_costs-2.auto.costs in
-    let few = c.requires.ready.two.few in
-    let one = c.args.one.now in
     let is = rw c.entries_of-count.ensures at c.least_of-least.ensures in
     (
-        omega (arith, c.requires.roomy.1.within, c.requires.roomy.1.some, rows_few c.args.kind (length one), few),
+        omega (arith, c.requires.roomy.1.within, c.requires.roomy.1.some, rows_few c.args.kind (length c.args.one.now), c.requires.ready.two.few),
         rw c.entries_of-count.ensures
-            (least_few _ c.args.demand.now c.args.pair one c.args.other.now c.args.kind c.args.k
+            (least_few _ c.args.demand.now c.args.pair c.args.one.now c.args.other.now c.args.kind c.args.k
             c.args.width c.args.rows _ _ c.requires.roomy.1
             _ _ c.requires.roomy.2 c.requires.roomy.3 c.mark_block.ensures c.block_costs.ensures _
             c.block_costs-2.ensures c.args.best _ is),
         rw c.entries_of-count.ensures (block_few c.requires.roomy.1),
-        rw c.entries_of-count.ensures (block_wide c.requires.roomy.1 (omega (arith, few))),
+        rw c.entries_of-count.ensures (block_wide c.requires.roomy.1 (omega (arith, c.requires.ready.two.few))),
       )
 
 pub choose_of_block-requires-clause-costs1_len : goal.choose_of_block-requires-clause-costs1_len
 choose_of_block-requires-clause-costs1_len c =
-    let marks-kept = c.mark_block.auto.marks in
-    let some-kept = c.block_costs.auto.costs in
-    let costs2-kept = c.block_costs-2.auto.costs in
-    (some-kept ∙ c.requires.roomy.0.costs1_long, costs2-kept ∙ marks-kept ∙ c.requires.roomy.0.costs2_long)
+    (c.block_costs.auto.costs ∙ c.requires.roomy.0.costs1_long, c.block_costs-2.auto.costs ∙ c.mark_block.auto.marks ∙ c.requires.roomy.0.costs2_long)
 
 pub returns : goal.returns
 returns c =

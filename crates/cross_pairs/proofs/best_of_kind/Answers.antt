@@ -33,12 +33,11 @@ overflow_sub-rows c =
 
 pub rows_at_once-some-requires : goal.rows_at_once-some-requires
 rows_at_once-some-requires c =
-    let few = c.requires.ready.two.few in
     let rows = rows_few c.args.kind (length c.args.one.now) in
     (
-      omega (arith, c.width_of-width.ensures, width_few c.args.kind (length c.args.other.now), few),
+      omega (arith, c.width_of-width.ensures, width_few c.args.kind (length c.args.other.now), c.requires.ready.two.few),
       omega (arith, c.loop-k-test.true),
-      omega (arith, c.rows_of-rows.ensures, rows, few),
+      omega (arith, c.rows_of-rows.ensures, rows, c.requires.ready.two.few),
     )
 
 pub best_of_block-found-requires : goal.best_of_block-found-requires
@@ -69,10 +68,9 @@ loop-k-smaller c =
 
 pub loop-k-preserved : goal.loop-k-preserved
 loop-k-preserved c =
-    let kept = c.best_of_block-found.auto.1.1.1.1.1.1.1.1.1.1.1.1.1.1.1.1.1.1.1.1 in
     let all = rows_in c.args.kind (length c.args.one.now) in
     (
-      roomy_kept c.loop-k.invariant.0 kept.0 kept.1.0,
+      roomy_kept c.loop-k.invariant.0 c.best_of_block-found.auto.costs1 c.best_of_block-found.auto.costs2,
       scan_on _ _ _ all _ _ c.best_of_block-found.ensures
           (omega (arith, c.rows_of-rows.ensures, c.rows_at_once-some.ensures.1, c.loop-k-test.true)) ∙ c.loop-k.invariant.1,
     )

@@ -30,9 +30,8 @@ loop-n-smaller c =
 
 pub loop-n-preserved : goal.loop-n-preserved
 loop-n-preserved c =
-    let kept = c.best_of_kind-found.auto.1.1.1.1.1.1.1.1.1.1.1.1.1.1.1.1.1.1 in
     (
-      roomy_kept c.loop-n.invariant.0 kept.0 kept.1.0,
+      roomy_kept c.loop-n.invariant.0 c.best_of_kind-found.auto.costs1 c.best_of_kind-found.auto.costs2,
       scan_turn _ _ _ _ _ (rw (← c.kinds_of-kinds.ensures) c.loop-n-test.true)
           (rw c.kind_at.ensures at c.best_of_kind-found.ensures) ∙ c.loop-n.invariant.1,
     )

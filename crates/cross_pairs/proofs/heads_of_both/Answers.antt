@@ -10,7 +10,6 @@ use Rattle.cross_pairs.proofs.heads_of_both.Goals as goal
 
 pub fill_heads-reached1-requires : goal.fill_heads-reached1-requires
 fill_heads-reached1-requires c =
-    let heads = c.args.heads.now in
     let few : 256 + 256 ≤ length heads = omega (arith, c.requires.heads_len) in
     (
       c.requires.formed.0,
@@ -18,30 +17,25 @@ fill_heads-reached1-requires c =
         c.requires.formed.1.driven1.depot_there,
         visits_first _ _ _
             c.requires.formed.2,
-        lent_long 256 heads heads heads few,
+        lent_long 256 c.args.heads.now c.args.heads.now c.args.heads.now few,
       ),
     )
 
 pub fill_heads-reached2-requires : goal.fill_heads-reached2-requires
 fill_heads-reached2-requires c =
-    let first = c.fill_heads-reached1.new.heads in
-    let heads = c.args.heads.now in
     let few : 256 + 256 ≤ length heads = omega (arith, c.requires.heads_len) in
-    let long = c.fill_heads-reached1.auto.heads ∙ lent_long 256 heads first first few in
+    let long = c.fill_heads-reached1.auto.heads ∙ lent_long 256 c.args.heads.now c.fill_heads-reached1.new.heads c.fill_heads-reached1.new.heads few in
     (
       c.requires.formed.0,
-      (c.requires.formed.1.driven2.depot_there, visits_second _ _ _ c.requires.formed.2, lent_long2 256 heads first first few long),
+      (c.requires.formed.1.driven2.depot_there, visits_second _ _ _ c.requires.formed.2, lent_long2 256 c.args.heads.now c.fill_heads-reached1.new.heads c.fill_heads-reached1.new.heads few long),
     )
 
 pub returns : goal.returns
 returns c =
-    let first = c.fill_heads-reached1.new.heads in
-    let second = c.fill_heads-reached2.new.heads in
-    let heads = c.args.heads.now in
     let few : 256 + 256 ≤ length heads = omega (arith, c.requires.heads_len) in
-    let long = c.fill_heads-reached1.auto.heads ∙ lent_long 256 heads first second few in
-    let long2 = c.fill_heads-reached2.auto.heads ∙ lent_long2 256 heads first second few long in
+    let long = c.fill_heads-reached1.auto.heads ∙ lent_long 256 c.args.heads.now c.fill_heads-reached1.new.heads c.fill_heads-reached2.new.heads few in
+    let long2 = c.fill_heads-reached2.auto.heads ∙ lent_long2 256 c.args.heads.now c.fill_heads-reached1.new.heads c.fill_heads-reached2.new.heads few long in
     (
-      kept_part (first_part 256 heads first second few long long2) c.fill_heads-reached1.ensures,
-      kept_part (second_part 256 heads first second few long long2) c.fill_heads-reached2.ensures,
+      kept_part (first_part 256 c.args.heads.now c.fill_heads-reached1.new.heads c.fill_heads-reached2.new.heads few long long2) c.fill_heads-reached1.ensures,
+      kept_part (second_part 256 c.args.heads.now c.fill_heads-reached1.new.heads c.fill_heads-reached2.new.heads few long long2) c.fill_heads-reached2.ensures,
     )

@@ -10,13 +10,10 @@ use Rattle.cross_pairs.proofs.prefix_both.Goals as goal
 
 pub returns : goal.returns
 returns c =
-    let first = c.prefix_loads.new.loads in
-    let second = c.prefix_loads-2.new.loads in
-    let sums = c.args.sums.now in
     let few : 64 + 64 ≤ length sums = omega (arith, c.requires.2) in
-    let long = c.prefix_loads.auto.loads ∙ lent_long 64 sums first second few in
-    let long2 = c.prefix_loads-2.auto.loads ∙ lent_long2 64 sums first second few long in
+    let long = c.prefix_loads.auto.loads ∙ lent_long 64 c.args.sums.now c.prefix_loads.new.loads c.prefix_loads-2.new.loads few in
+    let long2 = c.prefix_loads-2.auto.loads ∙ lent_long2 64 c.args.sums.now c.prefix_loads.new.loads c.prefix_loads-2.new.loads few long in
     (
-      subst (Prefixed _ _) (sym (first_part 64 sums first second few long long2)) c.prefix_loads.ensures,
-      subst (Prefixed _ _) (sym (second_part 64 sums first second few long long2)) c.prefix_loads-2.ensures,
+      subst (Prefixed _ _) (sym (first_part 64 c.args.sums.now c.prefix_loads.new.loads c.prefix_loads-2.new.loads few long long2)) c.prefix_loads.ensures,
+      subst (Prefixed _ _) (sym (second_part 64 c.args.sums.now c.prefix_loads.new.loads c.prefix_loads-2.new.loads few long long2)) c.prefix_loads-2.ensures,
     )

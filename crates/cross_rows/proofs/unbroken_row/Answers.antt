@@ -15,74 +15,54 @@ loop-j-init c =
 
 pub offset_bounds-skip-j : goal.offset_bounds-skip-j
 offset_bounds-skip-j c =
-    let pre = c.requires.TAIL:formed|unbroken|rowed in
-    omega (arith, c.loop-j-test.true, pre.1.1.0.few)
+    omega (arith, c.loop-j-test.true, c.requires.rowed.0.few)
 
 pub bounds-skip-j : goal.bounds-skip-j
 bounds-skip-j c =
-    let pre = c.requires.TAIL:formed|unbroken|rowed in
-    omega (arith, c.loop-j-test.true, pre.1.1.0.few, pre.1.1.1)
+    omega (arith, c.loop-j-test.true, c.requires.rowed.0.few, c.requires.rowed.1)
 
 pub start_at-requires : goal.start_at-requires
 start_at-requires c =
-    let pre = c.requires.TAIL:formed|unbroken|rowed in
-    let loop-test = c.loop-j-test in
-    omega (arith, pre.0.2.few, pre.1.1.0.ordered _ loop-test.true, pre.1.1.0.within _ loop-test.true)
+    omega (arith, c.requires.formed.2.few, c.requires.rowed.0.ordered _ c.loop-j-test.true, c.requires.rowed.0.within _ c.loop-j-test.true)
 
 pub end_at-requires : goal.end_at-requires
 end_at-requires c =
-    let pre = c.requires.TAIL:formed|unbroken|rowed in
-    let loop-test = c.loop-j-test in
-    omega (arith, pre.0.2.few, pre.1.1.0.within _ loop-test.true)
+    omega (arith, c.requires.formed.2.few, c.requires.rowed.0.within _ c.loop-j-test.true)
 
 pub start_at-requires-then-skip-j : goal.start_at-requires-then-skip-j
 start_at-requires-then-skip-j c =
-    let pre = c.requires.TAIL:formed|unbroken|rowed in
-    let loop-test = c.loop-j-test in
-    omega (arith, pre.0.2.few, pre.1.1.0.others_ordered _ loop-test.true, pre.1.1.0.others_within _ loop-test.true)
+    omega (arith, c.requires.formed.2.few, c.requires.rowed.0.others_ordered _ c.loop-j-test.true, c.requires.rowed.0.others_within _ c.loop-j-test.true)
 
 pub end_at-requires-then-skip-j : goal.end_at-requires-then-skip-j
 end_at-requires-then-skip-j c =
-    let pre = c.requires.TAIL:formed|unbroken|rowed in
-    let loop-test = c.loop-j-test in
-    omega (arith, pre.0.2.few, pre.1.1.0.others_within _ loop-test.true)
+    omega (arith, c.requires.formed.2.few, c.requires.rowed.0.others_within _ c.loop-j-test.true)
 
 pub candidate_cost-cost-requires : goal.candidate_cost-cost-requires
 candidate_cost-cost-requires c =
-    let pre = c.requires.TAIL:formed|unbroken|rowed in
-    let loop-test = c.loop-j-test in
-    let start-at = c.start_at in
     (
-      pre.0,
+      c.requires.formed,
       (
-        pre.1.0,
+        c.requires.unbroken,
         (
-          rw (start-at.ensures, c.end_at.ensures) (pre.1.1.0.ordered _ loop-test.true),
-          rw c.end_at.ensures (pre.1.1.0.within _ loop-test.true),
-          rw (c.start_at-then-skip-j.ensures, c.end_at-then-skip-j.ensures) (pre.1.1.0.others_ordered _ loop-test.true),
-          rw c.end_at-then-skip-j.ensures (pre.1.1.0.others_within _ loop-test.true),
+          rw (c.start_at.ensures, c.end_at.ensures) (c.requires.rowed.0.ordered _ c.loop-j-test.true),
+          rw c.end_at.ensures (c.requires.rowed.0.within _ c.loop-j-test.true),
+          rw (c.start_at-then-skip-j.ensures, c.end_at-then-skip-j.ensures) (c.requires.rowed.0.others_ordered _ c.loop-j-test.true),
+          rw c.end_at-then-skip-j.ensures (c.requires.rowed.0.others_within _ c.loop-j-test.true),
         ),
       ),
     )
 
 pub offset_bounds-costs-j : goal.offset_bounds-costs-j
 offset_bounds-costs-j c =
-    let pre = c.requires.TAIL:formed|unbroken|rowed in
-    let loop-test = c.loop-j-test in
-    omega (arith, loop-test.true, pre.1.1.0.few)
+    omega (arith, c.loop-j-test.true, c.requires.rowed.0.few)
 
 pub bounds-costs-j : goal.bounds-costs-j
 bounds-costs-j c =
-    let pre = c.requires.TAIL:formed|unbroken|rowed in
-    let loop = c.loop-j in
-    let loop-test = c.loop-j-test in
-    omega (arith, loop-test.true, pre.1.1.2, loop.invariant.1.same_length)
+    omega (arith, c.loop-j-test.true, c.requires.rowed.2, c.loop-j.invariant.1.same_length)
 
 pub overflow_add-j : goal.overflow_add-j
 overflow_add-j c =
-    let pre = c.requires.TAIL:formed|unbroken|rowed in
-    let loop-test = c.loop-j-test in
-    omega (arith, loop-test.true, pre.1.1.0.few)
+    omega (arith, c.loop-j-test.true, c.requires.rowed.0.few)
 
 pub loop-j-smaller : goal.loop-j-smaller
 loop-j-smaller c =
@@ -90,17 +70,13 @@ loop-j-smaller c =
 
 pub loop-j-preserved : goal.loop-j-preserved
 loop-j-preserved c =
-    let pre = c.requires.TAIL:formed|unbroken|rowed in
-    let loop = c.loop-j in
-    let loop-test = c.loop-j-test in
-    let infinite = c.infinite-cost in
     (
-      omega (arith, loop-test.true),
-      costing_turns _ _ _ _ _ _ _ _ _ _ loop.invariant.1 (omega (arith, loop-test.true, pre.1.1.2)) c.if-skip-j.cost
+      omega (arith, c.loop-j-test.true),
+      costing_turns _ _ _ _ _ _ _ _ _ _ c.loop-j.invariant.1 (omega (arith, c.loop-j-test.true, c.requires.rowed.2)) c.if-skip-j.cost
           (⊎_elim
           (λ w. w.6 ∙ cost_asked _ _ _ _ _ _ _ _ _ c.infinite.ensures.answer w.0.taken w.1.ensures w.2.ensures w.3.ensures
           w.4.ensures w.5.ensures)
-          (λ w. w.1 ∙ infinite.ensures ∙ cost_skipped _ _ _ _ _ c.infinite.ensures.answer w.0.left) c.if-skip-j.branch),
+          (λ w. w.1 ∙ c.infinite-cost.ensures.answer ∙ cost_skipped _ _ _ _ _ c.infinite.ensures.answer w.0.left) c.if-skip-j.branch),
     )
 
 pub returns : goal.returns

@@ -54,19 +54,18 @@ loop-turn-smaller c =
 
 pub loop-turn-preserved : goal.loop-turn-preserved
 loop-turn-preserved c =
-    let kept = c.take_turn-turn.auto.1.1.1.1.1.1.1.1.1.1.1.1.1.1.1.1.1.1.1.1.1 in
     let on = goes_on _ _ _ _ _ _ _ _ _ _ c.args.visits.now _ _ _ _ c.loop-turn.invariant.1 c.loop-turn.invariant.2
     c.loop-turn.invariant.3 c.loop-turn.invariant.0 _ _ _ _ _ _ _ c.take_turn-turn.ensures refl (eq-eqb _ _ c.if-turn-ne1.false) in
     (
       on.0,
       on.1,
-      kept.1.0 ∙ c.loop-turn.invariant.2,
+      c.take_turn-turn.auto.lengths ∙ c.loop-turn.invariant.2,
       on.2,
       on.3,
-      kept.1.1.1.1.1.1.0 ∙ c.loop-turn.invariant.5,
+      c.take_turn-turn.auto.deltas ∙ c.loop-turn.invariant.5,
       (
-        kept.1.1.1.1.1.1.1.0 ∙ c.loop-turn.invariant.6.0,
-        kept.1.1.1.1.1.1.1.1.0 ∙ c.loop-turn.invariant.6.1,
-        kept.1.1.1.1.1.1.1.1.1.0 ∙ c.loop-turn.invariant.6.2,
+        c.take_turn-turn.auto.sums ∙ c.loop-turn.invariant.6.0,
+        c.take_turn-turn.auto.heads ∙ c.loop-turn.invariant.6.1,
+        c.take_turn-turn.auto.tried_costs ∙ c.loop-turn.invariant.6.2,
       ),
     )

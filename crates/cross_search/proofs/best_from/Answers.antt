@@ -53,16 +53,15 @@ loop-b-smaller c =
 
 pub loop-b-preserved : goal.loop-b-preserved
 loop-b-preserved c =
-    let kept = c.after_pair-found.auto.1.1.1.1.1.1.1.1.1.1.1.1.1.1.1.1.1.1.1.1.1.1.1.1.1.1.1.1.1.1.1 in
     (
       scan_turn _ _ _ _ _ c.loop-b-test.true c.after_pair-found.ensures.value ∙ c.loop-b.invariant.0,
       after_sunk _ _ _ _ _ _ _ _ c.loop-b.invariant.1 _ c.after_pair-found.ensures.value,
       table_turn _ _ _ _ _ _ _ _ _ _ _ c.requires.held.0.laid.few _ _ c.requires.a_in_bounds c.loop-b-test.true _
           c.loop-b.invariant.3 c.loop-b.invariant.2 _ c.after_pair-found.ensures.deltas_after,
-      kept.0 ∙ c.loop-b.invariant.3,
-      kept.1.0 ∙ c.loop-b.invariant.4,
-      kept.1.1.0 ∙ c.loop-b.invariant.5,
-      kept.1.1.1.0 ∙ c.loop-b.invariant.6,
+      c.after_pair-found.auto.deltas ∙ c.loop-b.invariant.3,
+      c.after_pair-found.auto.sums ∙ c.loop-b.invariant.4,
+      c.after_pair-found.auto.heads ∙ c.loop-b.invariant.5,
+      c.after_pair-found.auto.tried_costs ∙ c.loop-b.invariant.6,
     )
 
 pub returns-clause-value : goal.returns-clause-value

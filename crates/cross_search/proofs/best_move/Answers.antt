@@ -55,15 +55,14 @@ loop-a-smaller c =
 
 pub loop-a-preserved : goal.loop-a-preserved
 loop-a-preserved c =
-    let kept = c.best_from-found.auto.1.1.1.1.1.1.1.1.1.1.1.1.1.1.1.1.1.1.1.1.1.1.1.1.1.1.1.1.1.1 in
     (
       scan_turn _ _ _ _ _ c.loop-a-test.true c.best_from-found.ensures.value ∙ c.loop-a.invariant.0,
       from_sunk _ _ _ _ _ _ _ _ c.loop-a.invariant.1 c.best_from-found.ensures.value,
       c.best_from-found.ensures.kept_2,
-      kept.0 ∙ c.loop-a.invariant.3,
-      kept.1.0 ∙ c.loop-a.invariant.4,
-      kept.1.1.0 ∙ c.loop-a.invariant.5,
-      kept.1.1.1.0 ∙ c.loop-a.invariant.6,
+      c.best_from-found.auto.deltas ∙ c.loop-a.invariant.3,
+      c.best_from-found.auto.sums ∙ c.loop-a.invariant.4,
+      c.best_from-found.auto.heads ∙ c.loop-a.invariant.5,
+      c.best_from-found.auto.tried_costs ∙ c.loop-a.invariant.6,
     )
 
 pub returns-clause-value : goal.returns-clause-value

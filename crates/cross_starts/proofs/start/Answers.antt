@@ -19,13 +19,11 @@ starting_costs-requires-clause-fitted c =
 
 pub starting_costs-requires-clause-nonzero : goal.starting_costs-requires-clause-nonzero
 starting_costs-requires-clause-nonzero c =
-    let even = c.found_ids.auto.ids in
-    (c.requires.nonzero.0, omega (arith, even, c.requires.nonzero.1))
+    (c.requires.nonzero.0, omega (arith, c.found_ids.auto.ids, c.requires.nonzero.1))
 
 pub starting_costs-requires-clause-prices_len : goal.starting_costs-requires-clause-prices_len
 starting_costs-requires-clause-prices_len c =
-    let even = c.found_ids.auto.ids in
-    (c.requires.prices_len.0 ∙ sym even, c.requires.prices_len.1 ∙ sym even)
+    (c.requires.prices_len.0 ∙ sym c.found_ids.auto.ids, c.requires.prices_len.1 ∙ sym c.found_ids.auto.ids)
 
 pub returns : goal.returns
 returns c =

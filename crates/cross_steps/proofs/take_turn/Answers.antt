@@ -58,14 +58,12 @@ best_move-best-requires c =
 
 pub make_found-requires-clause-makes : goal.make_found-requires-clause-makes
 make_found-requires-clause-makes c =
-    let live = c.requires.live in
-    let chosen = chosen_in _ _ _ _ _ _ _ _ _ live _ c.requires.asked.1 _ c.best_move-best.ensures.value in
-    (chosen.makes, live.few)
+    let chosen = chosen_in _ _ _ _ _ _ _ _ _ c.requires.live _ c.requires.asked.1 _ c.best_move-best.ensures.value in
+    (chosen.makes, c.requires.live.few)
 
 pub make_found-requires-clause-ids_len : goal.make_found-requires-clause-ids_len
 make_found-requires-clause-ids_len c =
-    let live = c.requires.live in
-    (live.even_ids, live.even_costs)
+    (c.requires.live.even_ids, c.requires.live.even_costs)
 
 pub returns : goal.returns
 returns c =

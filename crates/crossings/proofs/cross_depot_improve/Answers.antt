@@ -18,7 +18,4 @@ improve-crossed-requires c =
 
 pub returns : goal.returns
 returns c =
-    let ran = c.improve-crossed.ensures in
-    let refused = c.refusal_of_fleet-refused in
-    let left = c.if-refused-ne0.false in
-    record { answer = ended_cross _ _ _ _ _ _ _ refused.result left refused.ensures _ _ _ _ _ ran c.rearranged_of.ensures }
+    record { answer = ended_cross _ _ _ _ _ _ _ c.refusal_of_fleet-refused.result c.if-refused-ne0.false c.refusal_of_fleet-refused.ensures.answer _ _ _ _ _ c.improve-crossed.ensures c.rearranged_of.ensures }

@@ -9,9 +9,7 @@ use Rattle.deltas_within.proofs.reversal_delta.Goals as goal
 pub returns-then-symmetric : goal.returns-then-symmetric
 unfolding of_bits
 returns-then-symmetric c =
-    let g = c.args in
-    let asked = c.requires.square in
-    sym (marked_nothing g.l g.distances.now g.symmetric asked.0 asked.1 c.if-symmetric.true g.list.now asked.2 g.first (g.last + 1))
+    sym (marked_nothing c.args.l c.args.distances.now c.args.symmetric c.requires.square.0 c.requires.square.1 c.if-symmetric.true c.args.list.now c.requires.square.2 c.args.first (c.args.last + 1))
 
 pub returns : goal.returns
 returns c =

@@ -18,13 +18,10 @@ loop-k-init c =
 
 pub turned_leg-sum-requires : goal.turned_leg-sum-requires
 turned_leg-sum-requires c =
-    let k = c.loop-k.k in
-    let below = c.loop-k-test.true in
-    let there = c.requires.first_le_last.1 in
     (
       c.requires.square.0,
-      rw c.visit_at-x.ensures (c.requires.square.1 k (omega arith)),
-      rw c.visit_at-y.ensures (c.requires.square.1 (k + 1) (omega arith)),
+      rw c.visit_at-x.ensures (c.requires.square.1 c.loop-k.k (omega arith)),
+      rw c.visit_at-y.ensures (c.requires.square.1 (c.loop-k.k + 1) (omega arith)),
     )
 
 pub loop-k-preserved : goal.loop-k-preserved

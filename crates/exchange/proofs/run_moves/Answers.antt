@@ -66,13 +66,12 @@ loop-terms-smaller c =
 pub loop-terms-preserved : goal.loop-terms-preserved
 loop-terms-preserved c =
     let cuts = c.next_move-found.ensures.1 c.if-found-eq0.false in
-    let edited = c.exchange_tails.ensures in
     (
       rw (c.place_after-ahead.ensures, c.loop-terms.invariant.4)
           (moved_on _ _ _ _ _ _ _ _ _ _ _ c.loop-terms.invariant.0 c.if-limit-moves.false c.next_move-found.ensures.0
-          c.if-found-eq0.false edited),
-      subst (Edited _ _ _ _) (sym edited.holds) (edited_on _ _ _ _ _ _ _ _ c.loop-terms.invariant.1 edited),
-      still_held _ _ _ _ _ _ edited c.loop-terms.invariant.2,
-      rw (c.place_after-ahead.ensures, c.loop-terms.invariant.4, edited.number) (still_in _ _ cuts.before cuts.there),
-      c.loop-terms.invariant.4 ∙ sym edited.number,
+          c.if-found-eq0.false c.exchange_tails.ensures),
+      subst (Edited _ _ _ _) (sym c.exchange_tails.ensures.holds) (edited_on _ _ _ _ _ _ _ _ c.loop-terms.invariant.1 c.exchange_tails.ensures),
+      still_held _ _ _ _ _ _ c.exchange_tails.ensures c.loop-terms.invariant.2,
+      rw (c.place_after-ahead.ensures, c.loop-terms.invariant.4, c.exchange_tails.ensures.number) (still_in _ _ cuts.before cuts.there),
+      c.loop-terms.invariant.4 ∙ sym c.exchange_tails.ensures.number,
     )

@@ -22,19 +22,17 @@ least_left-left-requires c =
 pub loop-visit-preserved : goal.loop-visit-preserved
 unfolding left_at
 loop-visit-preserved c =
-    let inv = c.loop-visit.invariant in
-    let f = column_read _ _ _ _ _ nan inv.1 in
-    let p = column_read _ _ _ _ _ 0 inv.2 in
+    let f = column_read _ _ _ _ _ nan c.loop-visit.invariant.1 in
+    let p = column_read _ _ _ _ _ 0 c.loop-visit.invariant.2 in
     (
       omega (arith, c.loop-visit-test.true),
-      column_turn _ _ _ _ _ _ inv.1 (rw (c.least_left-left.ensures, f, p)),
-      column_turn _ _ _ _ _ _ inv.2 (rw (c.least_left-left.ensures, f, p)),
-      simp length-set inv.3,
-      simp length-set inv.4,
+      column_turn _ _ _ _ _ _ c.loop-visit.invariant.1 (rw (c.least_left-left.ensures, f, p)),
+      column_turn _ _ _ _ _ _ c.loop-visit.invariant.2 (rw (c.least_left-left.ensures, f, p)),
+      simp length-set c.loop-visit.invariant.3,
+      simp length-set c.loop-visit.invariant.4,
     )
 
 pub returns : goal.returns
 returns c =
-    let inv = c.loop-visit.invariant in
-    let e : c.loop-visit.visit ≡ c.args.l = omega (arith, c.loop-visit-test.false, inv.0) in
-    (column_end _ _ _ _ _ _ inv.1 e, column_end _ _ _ _ _ _ inv.2 e)
+    let e : c.loop-visit.visit ≡ c.args.l = omega (arith, c.loop-visit-test.false, c.loop-visit.invariant.0) in
+    (column_end _ _ _ _ _ _ c.loop-visit.invariant.1 e, column_end _ _ _ _ _ _ c.loop-visit.invariant.2 e)

@@ -14,39 +14,27 @@ store_head-requires c =
 
 pub loop-k-init : goal.loop-k-init
 loop-k-init c =
-    let args = c.args in
-    let pre = c.requires.TAIL:formed|depot_lt_l in
-    let at-depot = c.at_depot-head in
-    keeping_starts _ _ _ args.heads.now _ _ pre.1.0 pre.1.2 at-depot.ensures c.store_head.ensures
+    keeping_starts _ _ _ c.args.heads.now _ _ c.requires.depot_lt_l.0 c.requires.depot_lt_l.2 c.at_depot-head.ensures c.store_head.ensures
 
 pub overflow_add-k : goal.overflow_add-k
 overflow_add-k c =
-    let pre = c.requires.TAIL:formed|depot_lt_l in
-    omega (arith, c.loop-k-test.true, pre.1.1.few)
+    omega (arith, c.loop-k-test.true, c.requires.depot_lt_l.1.few)
 
 pub drive-head-requires : goal.drive-head-requires
 drive-head-requires c =
-    let pre = c.requires.TAIL:formed|depot_lt_l in
-    (pre.0, (c.loop-k.invariant.placed, pre.1.1, omega arith, omega (arith, c.loop-k-test.true)))
+    (c.requires.formed, (c.loop-k.invariant.placed, c.requires.depot_lt_l.1, omega arith, omega (arith, c.loop-k-test.true)))
 
 pub returns-then-head-k : goal.returns-then-head-k
 returns-then-head-k c =
-    let loop = c.loop-k in
-    let loop-test = c.loop-k-test in
-    keeping_stops _ _ _ _ _ _ loop.invariant _ loop-test.true c.drive-head.ensures c.if-head-k.true
+    keeping_stops _ _ _ _ _ _ c.loop-k.invariant _ c.loop-k-test.true c.drive-head.ensures c.if-head-k.true
 
 pub overflow_add-k-in-loop-k : goal.overflow_add-k-in-loop-k
 overflow_add-k-in-loop-k c =
-    let pre = c.requires.TAIL:formed|depot_lt_l in
-    let loop-test = c.loop-k-test in
-    omega (arith, loop-test.true, pre.1.1.few)
+    omega (arith, c.loop-k-test.true, c.requires.depot_lt_l.1.few)
 
 pub store_head-requires-in-loop-k : goal.store_head-requires-in-loop-k
 store_head-requires-in-loop-k c =
-    let pre = c.requires.TAIL:formed|depot_lt_l in
-    let loop = c.loop-k in
-    let loop-test = c.loop-k-test in
-    (omega (arith, loop-test.true, pre.1.1.few), loop.invariant.same_length)
+    (omega (arith, c.loop-k-test.true, c.requires.depot_lt_l.1.few), c.loop-k.invariant.same_length)
 
 pub loop-k-smaller : goal.loop-k-smaller
 loop-k-smaller c =
@@ -54,14 +42,8 @@ loop-k-smaller c =
 
 pub loop-k-preserved : goal.loop-k-preserved
 loop-k-preserved c =
-    let pre = c.requires.TAIL:formed|depot_lt_l in
-    let loop = c.loop-k in
-    let loop-test = c.loop-k-test in
-    let drive = c.drive-head in
-    let if1 = c.if-head-k in
-    keeping_turns _ _ _ _ _ _ loop.invariant _ loop-test.true drive.ensures _ pre.1.1.few if1.false c.store_head-in-loop-k.ensures
+    keeping_turns _ _ _ _ _ _ c.loop-k.invariant _ c.loop-k-test.true c.drive-head.ensures _ c.requires.depot_lt_l.1.few c.if-head-k.false c.store_head-in-loop-k.ensures
 
 pub returns : goal.returns
 returns c =
-    let pre = c.requires.TAIL:formed|depot_lt_l in
-    keeping_ends _ _ _ _ _ _ c.loop-k.invariant c.loop-k-test.false pre.1.1.few
+    keeping_ends _ _ _ _ _ _ c.loop-k.invariant c.loop-k-test.false c.requires.depot_lt_l.1.few

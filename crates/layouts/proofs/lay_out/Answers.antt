@@ -9,24 +9,12 @@ use Rattle.layouts.proofs.lay_out.Goals as goal
 
 pub returns-then-p : goal.returns-then-p
 returns-then-p c =
-    let cut = c.requires.cut_in.0 in
-    let near = c.requires.cut_in.1 in
-    let one = c.append_stretch-a_end.ensures.TAIL:value|appended in
-    let two = c.append_piece-c_end.ensures.TAIL:value|appended in
-    let three = c.append_piece-b_end.ensures.TAIL:value|appended in
-    let four = c.append_stretch.ensures.TAIL:value|appended in
     let whole : c.append_stretch.result ≡ length c.args.list.now - c.args.from =
-    omega (arith, near, cut.b_c, cut.c_d, cut.d_n, one.0, two.0, three.0, four.0) in
-    laid-exchanged c.args.from c.args.list.now c.args.p cut near one.1 whole c.if-p.true two.1 three.1 four.1
+    omega (arith, c.requires.cut_in.1, c.requires.cut_in.0.b_c, c.requires.cut_in.0.c_d, c.requires.cut_in.0.d_n, c.append_stretch-a_end.ensures.value, c.append_piece-c_end.ensures.value, c.append_piece-b_end.ensures.value, c.append_stretch.ensures.value) in
+    laid-exchanged c.args.from c.args.list.now c.args.p c.requires.cut_in.0 c.requires.cut_in.1 c.append_stretch-a_end.ensures.appended whole c.if-p.true c.append_piece-c_end.ensures.appended c.append_piece-b_end.ensures.appended c.append_stretch.ensures.appended
 
 pub returns : goal.returns
 returns c =
-    let cut = c.requires.cut_in.0 in
-    let near = c.requires.cut_in.1 in
-    let one = c.append_stretch-a_end.ensures.TAIL:value|appended in
-    let two = c.append_piece-b_end-2.ensures.TAIL:value|appended in
-    let three = c.append_piece-c_end-2.ensures.TAIL:value|appended in
-    let four = c.append_stretch-2.ensures.TAIL:value|appended in
     let whole : c.append_stretch-2.result ≡ length c.args.list.now - c.args.from =
-    omega (arith, near, cut.b_c, cut.c_d, cut.d_n, one.0, two.0, three.0, four.0) in
-    laid_straight c.args.from c.args.list.now c.args.p cut near one.1 whole c.if-p.false two.1 three.1 four.1
+    omega (arith, c.requires.cut_in.1, c.requires.cut_in.0.b_c, c.requires.cut_in.0.c_d, c.requires.cut_in.0.d_n, c.append_stretch-a_end.ensures.value, c.append_piece-b_end-2.ensures.value, c.append_piece-c_end-2.ensures.value, c.append_stretch-2.ensures.value) in
+    laid_straight c.args.from c.args.list.now c.args.p c.requires.cut_in.0 c.requires.cut_in.1 c.append_stretch-a_end.ensures.appended whole c.if-p.false c.append_piece-b_end-2.ensures.appended c.append_piece-c_end-2.ensures.appended c.append_stretch-2.ensures.appended

@@ -6,4 +6,4 @@ use Rattle.layouts.proofs.reconnection.Goals as goal
 
 pub returns : goal.returns
 returns c =
-    ap (layout _ _ _) c.Way-of.ensures
+    ap (layout _ _ _) c.way_of-way.ensures

@@ -49,9 +49,8 @@ pub returns-in_default : goal.returns-in_default
 unfolding way_of
 returns-in_default c =
     let p : ℕ = c.args.pattern in
-    let no = c.in-0.rest in
     let from-seven : 7 ≤ p =
     past 6 p (past 5 p (past 4 p (past 3 p (past 2 p (past 1 p (past 0 p (omega arith)
-    no.0.0.0.0.0.0.1) no.0.0.0.0.0.1) no.0.0.0.0.1) no.0.0.0.1) no.0.0.1) no.0.1) no.1 in
+    c.in-0.rest.0.0.0.0.0.0.1) c.in-0.rest.0.0.0.0.0.1) c.in-0.rest.0.0.0.0.1) c.in-0.rest.0.0.0.1) c.in-0.rest.0.0.1) c.in-0.rest.0.1) c.in-0.rest.1 in
     let seventh : p ≡ 7 = le_antisymm (le_of_suc-le-suc c.requires) from-seven in
     rw seventh

@@ -7,13 +7,11 @@ use Rattle.neighbours.proofs.first_relocation.Goals as goal
 
 pub returns-then-size-eq4 : goal.returns-then-size-eq4
 returns-then-size-eq4 c =
-    let a = c.args in
-    moved_none a.n a.size (inl (omega arith))
+    moved_none c.args.n c.args.size (inl (omega arith))
 
 pub returns-then-size-n : goal.returns-then-size-n
 returns-then-size-n c =
-    let a = c.args in
-    moved_first a.n a.size (omega arith) (omega arith) c.if-size-n.true
+    moved_first c.args.n c.args.size (omega arith) (omega arith) c.if-size-n.true
 
 pub returns : goal.returns
 returns c =

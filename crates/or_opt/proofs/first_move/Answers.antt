@@ -22,10 +22,8 @@ best_piece-best-requires c =
 pub returns-in-Move : goal.returns-in-Move
 unfolding Apt
 returns-in-Move c =
-    let turn = c.loop-size in
-    let loop-test = c.loop-size-test in
     let taken = ap piece_of (sym c.in-Move.is) ∙ c.best_piece-best.ensures in
-    (size-moves _ c.args.terms _ _ _ loop-test.true taken ∙ turn.invariant, (fits_taken _ c.args.terms _ _ _ taken).1)
+    (size-moves _ c.args.terms _ _ _ c.loop-size-test.true taken ∙ c.loop-size.invariant, (fits_taken _ c.args.terms _ _ _ taken).1)
 
 pub overflow_add-size : goal.overflow_add-size
 overflow_add-size c =
@@ -37,9 +35,8 @@ loop-size-smaller c =
 
 pub loop-size-preserved : goal.loop-size-preserved
 loop-size-preserved c =
-    let turn = c.loop-size in
     let nothing = ap piece_of (sym c.in_default.is) ∙ c.best_piece-best.ensures in
-    size_passed _ c.args.terms _ _ c.loop-size-test.true nothing ∙ turn.invariant
+    size_passed _ c.args.terms _ _ c.loop-size-test.true nothing ∙ c.loop-size.invariant
 
 pub returns : goal.returns
 unfolding Apt

@@ -8,11 +8,8 @@ use Rattle.or_opt.proofs.next_move.Goals as goal
 
 pub returns-in-Move : goal.returns-in-Move
 returns-in-Move c =
-    let first-move = c.first_move-best in
-    let list = c.args.list.now in
-    let best = c.in-Move.is in
-    let found = ap (leads list) (sym best) ∙ first-move.ensures.0 in
-    (is-ahead _ c.args.terms _ c.args.ahead _ found, subst (Apt (length list)) best first-move.ensures.1)
+    let found = ap (leads c.args.list.now) (sym c.in-Move.is) ∙ c.first_move-best.ensures.0 in
+    (is-ahead _ c.args.terms _ c.args.ahead _ found, subst (Apt (length c.args.list.now)) c.in-Move.is c.first_move-best.ensures.1)
 
 pub returns : goal.returns
 returns c =

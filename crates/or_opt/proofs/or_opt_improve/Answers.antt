@@ -38,52 +38,40 @@ next_move-best-requires c =
 pub returns-in_default : goal.returns-in_default
 unfolding run_of leads
 returns-in_default c =
-    let turn = c.loop-change in
-    let none_left = ap (leads turn.list) (sym c.in_default.is) ∙ c.next_move-best.ensures.0 in
-    let answer = going_settles _ _ _ _ _ turn.invariant.0 (sym none_left) in
+    let none_left = ap (leads c.loop-change.list) (sym c.in_default.is) ∙ c.next_move-best.ensures.0 in
+    let answer = going_settles _ _ _ _ _ c.loop-change.invariant.0 (sym none_left) in
     (ap (λ (s : Sweep (List ℕ) ℕ). s.now) answer.0, answer.1)
 
 pub returns-then-limit-moves : goal.returns-then-limit-moves
 unfolding run_of leads
 returns-then-limit-moves c =
-    let turn = c.loop-change in
-    let next-move = c.next_move-best in
-    let one_left = ap (leads turn.list) (sym c.in-Move.is) ∙ next-move.ensures.0 in
-    let answer = going_stops _ _ _ _ _ _ turn.invariant.0 c.if-limit-moves.true (sym one_left) in
+    let one_left = ap (leads c.loop-change.list) (sym c.in-Move.is) ∙ c.next_move-best.ensures.0 in
+    let answer = going_stops _ _ _ _ _ _ c.loop-change.invariant.0 c.if-limit-moves.true (sym one_left) in
     (ap (λ (s : Sweep (List ℕ) ℕ). s.now) answer.0, answer.1)
 
 pub move_piece-requires-clause-size_in_bounds : goal.move_piece-requires-clause-size_in_bounds
 unfolding Apt
 move_piece-requires-clause-size_in_bounds c =
-    let turn = c.loop-change in
-    let next-move = c.next_move-best in
-    let fits = subst (Apt (length turn.list)) c.in-Move.is next-move.ensures.1 in
+    let fits = subst (Apt (length c.loop-change.list)) c.in-Move.is c.next_move-best.ensures.1 in
     fits.inside
 
 pub move_piece-requires-clause-to_in_bounds : goal.move_piece-requires-clause-to_in_bounds
 unfolding Apt
 move_piece-requires-clause-to_in_bounds c =
-    let turn = c.loop-change in
-    let next-move = c.next_move-best in
-    let fits = subst (Apt (length turn.list)) c.in-Move.is next-move.ensures.1 in
+    let fits = subst (Apt (length c.loop-change.list)) c.in-Move.is c.next_move-best.ensures.1 in
     fits.there
 
 pub move_piece-requires-clause-fact : goal.move_piece-requires-clause-fact
 unfolding Apt
 move_piece-requires-clause-fact c =
-    let turn = c.loop-change in
-    let next-move = c.next_move-best in
-    let fits = subst (Apt (length turn.list)) c.in-Move.is next-move.ensures.1 in
+    let fits = subst (Apt (length c.loop-change.list)) c.in-Move.is c.next_move-best.ensures.1 in
     fits.apart
 
 pub overflow_add-ahead : goal.overflow_add-ahead
 unfolding Apt
 overflow_add-ahead c =
-    let turn = c.loop-change in
-    let next-move = c.next_move-best in
-    let best = c.best-1 in
-    let fits = subst (Apt (length turn.list)) best.given.1 next-move.ensures.1 in
-    omega (arith, fits.inside, turn.invariant.1.visits.few)
+    let fits = subst (Apt (length c.loop-change.list)) c.in-Move.is c.next_move-best.ensures.1 in
+    omega (arith, fits.inside, c.loop-change.invariant.1.visits.few)
 
 pub overflow_add-moves : goal.overflow_add-moves
 overflow_add-moves c =
@@ -96,14 +84,7 @@ loop-change-smaller c =
 pub loop-change-preserved : goal.loop-change-preserved
 unfolding Apt
 loop-change-preserved c =
-    let turn = c.loop-change in
-    let next-move = c.next_move-best in
-    let best = c.best-1 in
-    let if1 = c.if-limit-moves in
-    let move-piece = c.move_piece in
-    let m = best.given.0.0 in
-    let list = turn.list in
-    let fits = subst (Apt (length list)) best.given.1 next-move.ensures.1 in
-    let one_left = ap (leads list) (sym best.given.1) ∙ next-move.ensures.0 in
-    let on = moved_on _ _ _ _ _ turn.ahead _ m _ turn.invariant.1 fits turn.invariant.0 if1.false one_left move-piece.ensures in
-    (on.0, on.1, move-piece.auto.0 ∙ turn.invariant.2)
+    let fits = subst (Apt (length c.loop-change.list)) c.in-Move.is c.next_move-best.ensures.1 in
+    let one_left = ap (leads c.loop-change.list) (sym c.in-Move.is) ∙ c.next_move-best.ensures.0 in
+    let on = moved_on _ _ _ _ _ c.loop-change.ahead _ c.in-Move.change _ c.loop-change.invariant.1 fits c.loop-change.invariant.0 c.if-limit-moves.false one_left c.move_piece.ensures in
+    (on.0, on.1, c.move_piece.auto.list ∙ c.loop-change.invariant.2)

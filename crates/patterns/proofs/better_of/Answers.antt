@@ -11,15 +11,15 @@ pattern_change-delta-requires c =
 
 pub returns-then-not-delta-best : goal.returns-then-not-delta-best
 returns-then-not-delta-best c =
-    better_far c.args.setup _ _ _ _ _ _ _ _ c.requires.cut_value c.Way-of.ensures c.pattern_change-delta.ensures
+    better_far c.args.setup _ _ _ _ _ _ _ _ c.requires.cut_value c.way_of-way.ensures c.pattern_change-delta.ensures
     (c.if-not-delta-best.true)
 
 pub returns-then-not-candidate_passes : goal.returns-then-not-candidate_passes
 returns-then-not-candidate_passes c =
-    better_refused c.args.setup _ _ _ _ _ _ _ _ c.requires.cut_value c.Way-of.ensures c.pattern_change-delta.ensures
+    better_refused c.args.setup _ _ _ _ _ _ _ _ c.requires.cut_value c.way_of-way.ensures c.pattern_change-delta.ensures
     c.requires.prepared _ c.candidate_passes.ensures (c.if-not-delta-best.false) (c.if-not-candidate_passes.true)
 
 pub returns : goal.returns
 returns c =
-    better_taken c.args.setup _ _ _ _ _ _ _ _ c.requires.cut_value c.Way-of.ensures c.pattern_change-delta.ensures
+    better_taken c.args.setup _ _ _ _ _ _ _ _ c.requires.cut_value c.way_of-way.ensures c.pattern_change-delta.ensures
     c.requires.prepared _ c.candidate_passes.ensures (c.if-not-delta-best.false) (c.if-not-candidate_passes.false)

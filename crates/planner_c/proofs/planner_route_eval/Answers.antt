@@ -4,6 +4,4 @@ use Rattle.planner_c.proofs.planner_route_eval.Goals as goal
 
 pub returns : goal.returns
 returns c =
-    let e = c.route_eval-answer.ensures.answer in
-    let w = c.write_evaluated.ensures in
-    rw (← e) (w.0, w.1, w.2, w.3, w.4, w.5)
+    rw (← c.route_eval-answer.ensures.answer) (c.write_evaluated.ensures.0, c.write_evaluated.ensures.1, c.write_evaluated.ensures.2, c.write_evaluated.ensures.3, c.write_evaluated.ensures.4, c.write_evaluated.ensures.5)

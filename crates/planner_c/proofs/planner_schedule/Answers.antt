@@ -4,6 +4,4 @@ use Rattle.planner_c.proofs.planner_schedule.Goals as goal
 
 pub returns : goal.returns
 returns c =
-    let e = c.schedule-answer.ensures.answer in
-    let w = c.write_scheduled.ensures in
-    rw (← e) (w.0, w.1, w.2, w.3, w.4, w.5, w.6, w.7, w.8)
+    rw (← c.schedule-answer.ensures.answer) (c.write_scheduled.ensures.0, c.write_scheduled.ensures.1, c.write_scheduled.ensures.2, c.write_scheduled.ensures.3, c.write_scheduled.ensures.4, c.write_scheduled.ensures.5, c.write_scheduled.ensures.6, c.write_scheduled.ensures.7, c.write_scheduled.ensures.8)

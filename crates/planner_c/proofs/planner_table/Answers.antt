@@ -4,6 +4,4 @@ use Rattle.planner_c.proofs.planner_table.Goals as goal
 
 pub returns : goal.returns
 returns c =
-    let e = c.table_of-answer.ensures.answer in
-    let w = c.write_table.ensures in
-    rw (← e) (w.0, w.1, w.2, w.3, w.4, w.5)
+    rw (← c.table_of-answer.ensures.answer) (c.write_table.ensures.0, c.write_table.ensures.1, c.write_table.ensures.2, c.write_table.ensures.3, c.write_table.ensures.4, c.write_table.ensures.5)

@@ -18,6 +18,6 @@ returns-clause-value c =
 
 pub returns-clause-buffer_after : goal.returns-clause-buffer_after
 returns-clause-buffer_after c =
-    built c.args.list.now c.args.place c.args.pattern _ c.Way-of.ensures
+    built c.args.list.now c.args.place c.args.pattern _ c.way_of-way.ensures
           c.append_stretch-head.ensures.appended.filled c.append_pieces-pieces.ensures.buffer_after
           c.append_stretch.ensures.appended.filled

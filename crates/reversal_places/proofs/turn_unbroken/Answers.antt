@@ -13,7 +13,6 @@ overflow_add-end c =
 
 pub laid_passes-laid-requires : goal.laid_passes-laid-requires
 laid_passes-laid-requires c =
-    let shared = c.requires.shared in
     (
       c.requires.worked.0.formed,
       (
@@ -22,7 +21,7 @@ laid_passes-laid-requires c =
           c.requires.worked.1,
           rw c.reversal-turned.ensures (reversal_cut _ _ _ (omega (arith, c.requires.first_lt_last.0)) (omega (arith, c.requires.first_lt_last.1))),
         ),
-        ((shared.0, rw c.reversal-turned.ensures shared.1), c.requires.rest_value),
+        ((c.requires.shared.0, rw c.reversal-turned.ensures c.requires.shared.1), c.requires.rest_value),
       ),
     )
 

@@ -17,20 +17,15 @@ loop-place-init c =
 
 pub head_up_to-head-requires : goal.head_up_to-head-requires
 head_up_to-head-requires c =
-    let inv = c.loop-place.invariant in
-    let there = c.loop-place-test.true in
-    let first = inv.2.ordered in
-    rw inv.0 (c.requires.worked.0.formed, ((c.requires.worked.0.depot_there, c.requires.worked.1, omega (arith, inv.1, there, first)), inv.3.0))
+    rw c.loop-place.invariant.0 (c.requires.worked.0.formed, ((c.requires.worked.0.depot_there, c.requires.worked.1, omega (arith, c.loop-place.invariant.1, c.loop-place-test.true, c.loop-place.invariant.2.ordered)), c.loop-place.invariant.3.0))
 
 pub try_reversal-requires : goal.try_reversal-requires
 try_reversal-requires c =
-    let inv = c.loop-place.invariant in
-    rw inv.0 (c.requires.worked, ((inv.2.ordered, c.loop-place-test.true), rw inv.0 at c.head_up_to-head.ensures.TAIL:driven_2|visits_le_to))
+    rw c.loop-place.invariant.0 (c.requires.worked, ((c.loop-place.invariant.2.ordered, c.loop-place-test.true), rw c.loop-place.invariant.0 at c.head_up_to-head.ensures.TAIL:driven_2|visits_le_to))
 
 pub returns-then-try_reversal : goal.returns-then-try_reversal
 returns-then-try_reversal c =
-    let inv = c.loop-place.invariant in
-    found_here _ _ _ _ _ _ inv.0 inv.2.ordered c.loop-place-test.true inv.3.1 _ c.try_reversal.ensures.value
+    found_here _ _ _ _ _ _ c.loop-place.invariant.0 c.loop-place.invariant.2.ordered c.loop-place-test.true c.loop-place.invariant.3.1 _ c.try_reversal.ensures.value
     c.try_reversal.ensures.list_after
     c.if-try_reversal.true
 
@@ -44,16 +39,13 @@ loop-place-smaller c =
 
 pub loop-place-preserved : goal.loop-place-preserved
 loop-place-preserved c =
-    let inv = c.loop-place.invariant in
-    let there = c.loop-place-test.true in
     let rest =
-    not_here _ _ _ _ _ _ inv.0 inv.2.ordered there inv.3.1 _ c.try_reversal.ensures.value
+    not_here _ _ _ _ _ _ c.loop-place.invariant.0 c.loop-place.invariant.2.ordered c.loop-place-test.true c.loop-place.invariant.3.1 _ c.try_reversal.ensures.value
     c.try_reversal.ensures.list_after c.if-try_reversal.false in
-    let near = rw inv.0 at c.head_up_to-head.ensures.TAIL:driven_2|visits_le_to in
-    rw c.place_after-place.ensures (rest.0, refl, still_in _ _ inv.2.ordered there, ((near.0, still_behind _ _ _ near.1), rest.1))
+    let near = rw c.loop-place.invariant.0 at c.head_up_to-head.ensures.TAIL:driven_2|visits_le_to in
+    rw c.place_after-place.ensures (rest.0, refl, still_in _ _ c.loop-place.invariant.2.ordered c.loop-place-test.true, ((near.0, still_behind _ _ _ near.1), rest.1))
 
 pub returns : goal.returns
 unfolding leaves Inside
 returns c =
-    let inv = c.loop-place.invariant in
-    record { leads = none_left _ _ _ _ inv.2 c.loop-place-test.false ∙ inv.3.1; left = inv.0; inside = tt }
+    record { leads = none_left _ _ _ _ c.loop-place.invariant.2 c.loop-place-test.false ∙ c.loop-place.invariant.3.1; left = c.loop-place.invariant.0; inside = tt }

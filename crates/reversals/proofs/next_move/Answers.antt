@@ -6,8 +6,7 @@ use Rattle.reversals.proofs.next_move.Goals as goal
 
 pub first_move-found-requires : goal.first_move-found-requires
 first_move-found-requires c =
-    let pre = c.requires.TAIL:worked|in_sweep in
-    (pre.0, search (pre.1, start_in))
+    (c.requires.worked, search (c.requires.in_sweep, start_in))
 
 pub returns-in-At : goal.returns-in-At
 returns-in-At c =
@@ -15,8 +14,7 @@ returns-in-At c =
 
 pub first_move-requires-clause-worked : goal.first_move-requires-clause-worked
 first_move-requires-clause-worked c =
-    let pre = c.requires.TAIL:worked|in_sweep in
-    rw (left_as_it_was c.first_move-found.ensures c.in_default.is) pre.0
+    rw (left_as_it_was c.first_move-found.ensures c.in_default.is) c.requires.worked
 
 pub first_move-requires-clause-in_sweep : goal.first_move-requires-clause-in_sweep
 first_move-requires-clause-in_sweep c =

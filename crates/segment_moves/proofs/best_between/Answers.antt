@@ -16,9 +16,6 @@ loop-to-init c =
 
 pub consider-found-requires : goal.consider-found-requires
 consider-found-requires c =
-    let below = c.loop-to-test.true in
-    let from_start = c.loop-to.invariant.0 in
-    let reach = c.requires.size_in_bounds.1 in
     (
       c.requires.asked,
       (
@@ -33,11 +30,9 @@ consider-found-requires c =
 
 pub loop-to-preserved : goal.loop-to-preserved
 loop-to-preserved c =
-    let turn = c.loop-to in
-    let from_start = turn.invariant.0 in
     (
       omega arith,
-      turn_one _ _ _ _ _ _ _ c.loop-to-test.true c.consider-found.ensures.0 ∙ turn.invariant.1,
+      turn_one _ _ _ _ _ _ _ c.loop-to-test.true c.consider-found.ensures.0 ∙ c.loop-to.invariant.1,
       c.consider-found.ensures.1,
     )
 

@@ -6,13 +6,11 @@ use Rattle.segment_moves.proofs.best_from.Goals as goal
 
 pub removal_gain-gain-requires : goal.removal_gain-gain-requires
 removal_gain-gain-requires c =
-    let asked = c.requires.asked in
-    ((asked.formed.tables.of_distances, record { depot_there = asked.depot_there; visits = asked.visits.below }), c.requires.size_in_bounds)
+    ((c.requires.asked.formed.tables.of_distances, record { depot_there = c.requires.asked.depot_there; visits = c.requires.asked.visits.below }), c.requires.size_in_bounds)
 
 pub best_between-before-requires : goal.best_between-before-requires
 best_between-before-requires c =
-    let inside = c.requires.size_in_bounds in
-    (c.requires.asked, ((inside, omega arith), (inl (omega arith), (c.removal_gain-gain.ensures, c.requires.known))))
+    (c.requires.asked, ((c.requires.size_in_bounds, omega arith), (inl (omega arith), (c.removal_gain-gain.ensures, c.requires.known))))
 
 pub overflow_add-start : goal.overflow_add-start
 overflow_add-start c =
@@ -36,14 +34,10 @@ best_between-requires-clause-asked c =
 
 pub best_between-requires-clause-size_in_bounds : goal.best_between-requires-clause-size_in_bounds
 best_between-requires-clause-size_in_bounds c =
-    let inside = c.requires.size_in_bounds in
-    let last = c.last_position-end.ensures in
-    (inside, omega arith)
+    (c.requires.size_in_bounds, omega arith)
 
 pub best_between-requires-clause-fact : goal.best_between-requires-clause-fact
 best_between-requires-clause-fact c =
-    let inside = c.requires.size_in_bounds in
-    let last = c.last_position-end.ensures in
     inr (omega arith)
 
 pub best_between-requires-clause-gain_value : goal.best_between-requires-clause-gain_value
@@ -56,6 +50,4 @@ best_between-requires-clause-known c =
 
 pub returns : goal.returns
 returns c =
-    let first = c.best_between-before.ensures.0 in
-    let rest = c.best_between.ensures in
-    (row-chosen _ c.args.terms _ _ _ _ _ _ _ _ c.last_position-end.ensures first rest.0, rest.1)
+    (row-chosen _ c.args.terms _ _ _ _ _ _ _ _ c.last_position-end.ensures c.best_between-before.ensures.0 c.best_between.ensures.0, c.best_between.ensures.1)

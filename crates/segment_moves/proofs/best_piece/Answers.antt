@@ -34,8 +34,7 @@ best_from-best-requires c =
 
 pub overflow_add-from-in-loop-from : goal.overflow_add-from-in-loop-from
 overflow_add-from-in-loop-from c =
-    let turn = c.loop-from in
-    omega (arith, turn.invariant.0, c.requires.asked.visits.few)
+    omega (arith, c.loop-from.invariant.0, c.requires.asked.visits.few)
 
 pub loop-from-smaller : goal.loop-from-smaller
 loop-from-smaller c =
@@ -43,18 +42,14 @@ loop-from-smaller c =
 
 pub loop-from-preserved : goal.loop-from-preserved
 loop-from-preserved c =
-    let turn = c.loop-from in
-    let inside = c.loop-from-test.true in
-    let ahead : turn.from < suc (length c.args.list.now - c.args.size) = omega arith in
+    let ahead : c.loop-from.from < suc (length c.args.list.now - c.args.size) = omega arith in
     (
       omega arith,
-      turn_each _ _ _ _ _ _ _ ahead c.best_from-best.ensures.0 ∙ turn.invariant.1,
+      turn_each _ _ _ _ _ _ _ ahead c.best_from-best.ensures.0 ∙ c.loop-from.invariant.1,
       c.best_from-best.ensures.1,
     )
 
 pub returns : goal.returns
 returns c =
-    let outside = c.loop-from-test.false in
-    let long = c.if-n-size.false in
     let none_ahead : suc (length c.args.list.now - c.args.size) ≤ c.loop-from.from = omega arith in
     sym (end_each _ _ _ _ _ _ none_ahead) ∙ c.loop-from.invariant.1 ∙ all_chosen _ c.args.terms _ _

@@ -27,15 +27,13 @@ route_feasible-requires-clause-formed c =
 
 pub route_feasible-requires-clause-depot_lt_l : goal.route_feasible-requires-clause-depot_lt_l
 route_feasible-requires-clause-depot_lt_l c =
-    let move-piece = c.move_piece in
     let p : Piece = record { size = c.args.size; from = c.args.from; to = c.args.to } in
     let whole = appended_whole c.append.ensures (sym c.requires.candidate_len) in
-    let made = made_is _ _ _ p whole move-piece.ensures in
+    let made = made_is _ _ _ p whole c.move_piece.ensures in
     (c.requires.asked.depot_there, rw made (visits_moved _ _ p c.requires.asked.visits c.requires.fits))
 
 pub returns : goal.returns
 returns c =
-    let move-piece = c.move_piece in
     let p : Piece = record { size = c.args.size; from = c.args.from; to = c.args.to } in
     let whole = appended_whole c.append.ensures (sym c.requires.candidate_len) in
-    c.route_feasible.ensures ∙ ap (feasible _ _ _) (made_is _ _ _ p whole move-piece.ensures)
+    c.route_feasible.ensures ∙ ap (feasible _ _ _) (made_is _ _ _ p whole c.move_piece.ensures)

@@ -8,16 +8,13 @@ use Rattle.segments.proofs.consider.Goals as goal
 
 pub piece_insertion-cost-requires : goal.piece_insertion-cost-requires
 piece_insertion-cost-requires c =
-    let asked = c.requires.asked in
-    let fits = c.requires.fits in
-    ((asked.formed.tables.of_distances, record { depot_there = asked.depot_there; visits = asked.visits.below }), (fits.inside, fits.there))
+    ((c.requires.asked.formed.tables.of_distances, record { depot_there = c.requires.asked.depot_there; visits = c.requires.asked.visits.below }), (c.requires.fits.inside, c.requires.fits.there))
 
 pub returns-then-not-delta-most : goal.returns-then-not-delta-most
 returns-then-not-delta-most c =
     let p : Piece = record { size = c.args.piece.size; from = c.args.piece.from; to = c.args.to } in
     let delta = delta_is _ _ _ c.requires.asked p _ _ c.piece_insertion-cost.ensures c.requires.gain_value in
-    let known = c.requires.known in
-    (not_below _ _ _ c.requires.asked c.args.best p _ _ known delta c.bar-most.ensures (ap not c.if-not-delta-most.true), known)
+    (not_below _ _ _ c.requires.asked c.args.best p _ _ c.requires.known delta c.bar-most.ensures (ap not c.if-not-delta-most.true), c.requires.known)
 
 pub moved_passes-requires-clause-asked : goal.moved_passes-requires-clause-asked
 moved_passes-requires-clause-asked c =
@@ -30,14 +27,11 @@ moved_passes-requires-clause-fits c =
 pub returns-then-not-moved_passes : goal.returns-then-not-moved_passes
 returns-then-not-moved_passes c =
     let p : Piece = record { size = c.args.piece.size; from = c.args.piece.from; to = c.args.to } in
-    let known = c.requires.known in
-    (not-passing _ _ _ c.requires.asked c.args.best p _ c.moved_Passes.ensures (ap not c.if-not-moved_passes.true), known)
+    (not-passing _ _ _ c.requires.asked c.args.best p _ c.moved_passes.ensures (ap not c.if-not-moved_passes.true), c.requires.known)
 
 pub returns : goal.returns
 returns c =
-    let piece-insertion = c.piece_insertion-cost in
     let p : Piece = record { size = c.args.piece.size; from = c.args.piece.from; to = c.args.to } in
-    let delta = delta_is _ _ _ c.requires.asked p _ _ piece-insertion.ensures c.requires.gain_value in
-    let below = (ap not c.if-not-delta-most.false) in
-    taken_up _ _ _ c.requires.asked c.args.best _ _ _ c.requires.known delta c.bar-most.ensures below
-    c.moved_Passes.ensures (ap not c.if-not-moved_passes.false)
+    let delta = delta_is _ _ _ c.requires.asked p _ _ c.piece_insertion-cost.ensures c.requires.gain_value in
+    taken_up _ _ _ c.requires.asked c.args.best _ _ _ c.requires.known delta c.bar-most.ensures (ap not c.if-not-delta-most.false)
+    c.moved_passes.ensures (ap not c.if-not-moved_passes.false)

@@ -26,34 +26,30 @@ loop-place-init c =
 
 pub best_neighbour-best-requires : goal.best_neighbour-best-requires
 best_neighbour-best-requires c =
-    let inv = c.loop-place.invariant in
-    (c.requires.formed, ((c.requires.depot_lt_l.0, inv.2), (omega (arith, inv.3, inv.4, c.requires.list_in_bounds), inv.1)))
+    (c.requires.formed, ((c.requires.depot_lt_l.0, c.loop-place.invariant.2), (omega (arith, c.loop-place.invariant.3, c.loop-place.invariant.4, c.requires.list_in_bounds), c.loop-place.invariant.1)))
 
 pub returns-in_default : goal.returns-in_default
 unfolding soft_run
 returns-in_default c =
-    let a = c.args in
-    let day = columns a.l a.flags.now a.service.now a.ready.now a.due.now a.penalty.now a.distances.now a.times.now in
-    let price = effective_cost day a.limits a.depot in
-    let none_left = no_step a.which price a.floor c.loop-place.list _ c.best_neighbour-best.ensures.0 c.in_default.is in
+    let day = columns c.args.l c.args.flags.now c.args.service.now c.args.ready.now c.args.due.now c.args.penalty.now c.args.distances.now c.args.times.now in
+    let price = effective_cost day c.args.limits c.args.depot in
+    let none_left = no_step c.args.which price c.args.floor c.loop-place.list _ c.best_neighbour-best.ensures.0 c.in_default.is in
     let end = going_settles _ _ _ _ _ c.loop-place.invariant.0 none_left in
     (ap (λ (s : Sweep (List _) Unit). s.now) end.0, end.1)
 
 pub returns-then-moves-limit : goal.returns-then-moves-limit
 unfolding soft_run
 returns-then-moves-limit c =
-    let a = c.args in
-    let day = columns a.l a.flags.now a.service.now a.ready.now a.due.now a.penalty.now a.distances.now a.times.now in
-    let price = effective_cost day a.limits a.depot in
-    let one_left = one_step a.which price a.floor c.loop-place.list _ _ c.best_neighbour-best.ensures.0 c.in-At.is in
+    let day = columns c.args.l c.args.flags.now c.args.service.now c.args.ready.now c.args.due.now c.args.penalty.now c.args.distances.now c.args.times.now in
+    let price = effective_cost day c.args.limits c.args.depot in
+    let one_left = one_step c.args.which price c.args.floor c.loop-place.list _ _ c.best_neighbour-best.ensures.0 c.in-At.is in
     let end = going_stops _ _ _ _ _ _ c.loop-place.invariant.0 (omega (arith, c.if-moves-limit.true)) one_left in
     (ap (λ (s : Sweep (List _) Unit). s.now) end.0, end.1)
 
 pub make-requires : goal.make-requires
 make-requires c =
     let known = known_at _ _ _ _ c.best_neighbour-best.ensures.1 c.in-At.is in
-    let same = c.best_neighbour-best.auto.buffer in
-    (c.loop-place.invariant.2.few, omega (arith, c.loop-place.invariant.3, c.loop-place.invariant.4, same, c.requires.list_in_bounds), known.0)
+    (c.loop-place.invariant.2.few, omega (arith, c.loop-place.invariant.3, c.loop-place.invariant.4, c.best_neighbour-best.auto.buffer, c.requires.list_in_bounds), known.0)
 
 pub overflow_add-moves : goal.overflow_add-moves
 overflow_add-moves c =
@@ -65,12 +61,11 @@ loop-place-smaller c =
 
 pub loop-place-preserved : goal.loop-place-preserved
 loop-place-preserved c =
-    let a = c.args in
-    let day = columns a.l a.flags.now a.service.now a.ready.now a.due.now a.penalty.now a.distances.now a.times.now in
-    let price = effective_cost day a.limits a.depot in
-    let room : c.loop-place.moves < a.limit = omega (arith, c.loop-place.invariant.0.whole, c.if-moves-limit.false) in
+    let day = columns c.args.l c.args.flags.now c.args.service.now c.args.ready.now c.args.due.now c.args.penalty.now c.args.distances.now c.args.times.now in
+    let price = effective_cost day c.args.limits c.args.depot in
+    let room : c.loop-place.moves < c.args.limit = omega (arith, c.loop-place.invariant.0.whole, c.if-moves-limit.false) in
     let known = known_at _ _ _ _ c.best_neighbour-best.ensures.1 c.in-At.is in
-    let move = one_step a.which price a.floor c.loop-place.list _ _ c.best_neighbour-best.ensures.0 c.in-At.is in
+    let move = one_step c.args.which price c.args.floor c.loop-place.list _ _ c.best_neighbour-best.ensures.0 c.in-At.is in
     (
       rw c.make.ensures (going_moves _ _ _ _ _ _ c.loop-place.invariant.0 room move),
       rw c.make.ensures known.1,

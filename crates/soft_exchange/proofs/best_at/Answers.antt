@@ -15,12 +15,11 @@ list_of-other-requires c =
 
 pub figures_at-figures-requires : goal.figures_at-figures-requires
 figures_at-figures-requires c =
-    let held = c.requires.held in
     (
       c.requires.kept_figures.costs_long,
       c.requires.kept_figures.loads_long,
-      omega (arith, held.1, held.2, held.0.laid.few),
-      omega (arith, held.2, held.0.laid.few),
+      omega (arith, c.requires.held.1, c.requires.held.2, c.requires.held.0.laid.few),
+      omega (arith, c.requires.held.2, c.requires.held.0.laid.few),
     )
 
 pub best_exchange_of-requires-clause-asked : goal.best_exchange_of-requires-clause-asked
@@ -29,14 +28,12 @@ best_exchange_of-requires-clause-asked c =
 
 pub best_exchange_of-requires-clause-two : goal.best_exchange_of-requires-clause-two
 best_exchange_of-requires-clause-two c =
-    let held = c.requires.held in
-    rw (c.list_of-one.ensures, c.list_of-other.ensures) (two_lists _ _ _ held.0 _ _ held.1)
+    rw (c.list_of-one.ensures, c.list_of-other.ensures) (two_lists _ _ _ c.requires.held.0 _ _ c.requires.held.1)
 
 pub best_exchange_of-requires-clause-figured : goal.best_exchange_of-requires-clause-figured
 best_exchange_of-requires-clause-figured c =
-    let held = c.requires.held in
     kept_figured _ _ c.args.terms _ _ _ _ _ _ _ _ _ _ c.list_of-one.ensures c.list_of-other.ensures c.requires.kept_figures
-            (omega (arith, held.1, held.2)) held.2 c.figures_at-figures.ensures
+            (omega (arith, c.requires.held.1, c.requires.held.2)) c.requires.held.2 c.figures_at-figures.ensures
 
 pub returns : goal.returns
 returns c =

@@ -21,10 +21,9 @@ best_at-best-requires c =
 
 pub returns-then-best-ne0 : goal.returns-then-best-ne0
 returns-then-best-ne0 c =
-    let ordered = c.loop-place.invariant.1.ordered in
     (
-      found_here _ _ _ _ (length-lists _ _) _ _ _ ordered c.loop-place-test.true c.best_at-best.ensures c.if-best-ne0.true ∙ c.loop-place.invariant.2,
-      apt _ _ _ _ _ _ _ _ c.requires.held.0 ordered c.loop-place-test.true c.best_at-best.ensures,
+      found_here _ _ _ _ (length-lists _ _) _ _ _ c.loop-place.invariant.1.ordered c.loop-place-test.true c.best_at-best.ensures c.if-best-ne0.true ∙ c.loop-place.invariant.2,
+      apt _ _ _ _ _ _ _ _ c.requires.held.0 c.loop-place.invariant.1.ordered c.loop-place-test.true c.best_at-best.ensures,
     )
 
 pub place_after-place-requires : goal.place_after-place-requires
@@ -37,11 +36,10 @@ loop-place-smaller c =
 
 pub loop-place-preserved : goal.loop-place-preserved
 loop-place-preserved c =
-    let ordered = c.loop-place.invariant.1.ordered in
     rw c.place_after-place.ensures (
       refl,
-      still_in _ _ ordered c.loop-place-test.true,
-      not_here _ _ _ _ (length-lists _ _) _ _ _ ordered c.loop-place-test.true c.best_at-best.ensures (omega (arith, c.if-best-ne0.false))
+      still_in _ _ c.loop-place.invariant.1.ordered c.loop-place-test.true,
+      not_here _ _ _ _ (length-lists _ _) _ _ _ c.loop-place.invariant.1.ordered c.loop-place-test.true c.best_at-best.ensures (omega (arith, c.if-best-ne0.false))
           ∙ c.loop-place.invariant.2,
     )
 

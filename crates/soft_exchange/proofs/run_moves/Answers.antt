@@ -80,11 +80,10 @@ figure_two-requires-clause-asked c =
 pub figure_two-requires-clause-held : goal.figure_two-requires-clause-held
 figure_two-requires-clause-held c =
     let cuts = c.next_move-found.ensures.1 c.if-found-eq0.false in
-    let edited = c.exchange_tails.ensures in
     (
-          still_held _ _ _ _ _ _ edited c.loop-terms.invariant.2,
-          omega (arith, cuts.before, cuts.there, edited.number),
-          omega (arith, cuts.there, edited.number),
+          still_held _ _ _ _ _ _ c.exchange_tails.ensures c.loop-terms.invariant.2,
+          omega (arith, cuts.before, cuts.there, c.exchange_tails.ensures.number),
+          omega (arith, cuts.there, c.exchange_tails.ensures.number),
         )
 
 pub figure_two-requires-clause-costs_len : goal.figure_two-requires-clause-costs_len
@@ -107,13 +106,12 @@ loop-terms-smaller c =
 pub loop-terms-preserved : goal.loop-terms-preserved
 loop-terms-preserved c =
     let cuts = c.next_move-found.ensures.1 c.if-found-eq0.false in
-    let edited = c.exchange_tails.ensures in
     (
       rw (c.place_after-ahead.ensures, c.loop-terms.invariant.4)
-          (moved_on _ _ _ _ _ _ _ _ _ _ _ c.loop-terms.invariant.0 c.if-limit-moves.false c.next_move-found.ensures.0 c.if-found-eq0.false edited),
-      subst (Edited _ _ _ _) (sym edited.holds) (edited_on _ _ _ _ _ _ _ _ c.loop-terms.invariant.1 edited),
-      still_held _ _ _ _ _ _ edited c.loop-terms.invariant.2,
-      rw (c.place_after-ahead.ensures, c.loop-terms.invariant.4, edited.number) (still_in _ _ cuts.before cuts.there),
-      c.loop-terms.invariant.4 ∙ sym edited.number,
-      kept_moved _ _ c.args.terms _ _ _ _ _ _ _ _ _ _ _ _ c.loop-terms.invariant.5 cuts edited c.figure_two.ensures,
+          (moved_on _ _ _ _ _ _ _ _ _ _ _ c.loop-terms.invariant.0 c.if-limit-moves.false c.next_move-found.ensures.0 c.if-found-eq0.false c.exchange_tails.ensures),
+      subst (Edited _ _ _ _) (sym c.exchange_tails.ensures.holds) (edited_on _ _ _ _ _ _ _ _ c.loop-terms.invariant.1 c.exchange_tails.ensures),
+      still_held _ _ _ _ _ _ c.exchange_tails.ensures c.loop-terms.invariant.2,
+      rw (c.place_after-ahead.ensures, c.loop-terms.invariant.4, c.exchange_tails.ensures.number) (still_in _ _ cuts.before cuts.there),
+      c.loop-terms.invariant.4 ∙ sym c.exchange_tails.ensures.number,
+      kept_moved _ _ c.args.terms _ _ _ _ _ _ _ _ _ _ _ _ c.loop-terms.invariant.5 cuts c.exchange_tails.ensures c.figure_two.ensures,
     )

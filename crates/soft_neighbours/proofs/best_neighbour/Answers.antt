@@ -17,46 +17,30 @@ first_place-here-requires c =
 
 pub loop-here-init : goal.loop-here-init
 loop-here-init c =
-    let pre = c.requires.TAIL:formed|depot_lt_l|list_in_bounds|cost_value in
-    (scan_starts _ _ _ _ c.first_place-here.ensures.1, refl, rw c.at_depot-head.ensures (depot_driven _ _ _ _ pre.1.0.0))
+    (scan_starts _ _ _ _ c.first_place-here.ensures.1, refl, rw c.at_depot-head.ensures (depot_driven _ _ _ _ c.requires.depot_lt_l.0))
 
 pub returns-in_default : goal.returns-in_default
 returns-in_default c =
-    let args = c.args in
-    let pre = c.requires.TAIL:formed|depot_lt_l|list_in_bounds|cost_value in
-    let first-place = c.first_place-here in
-    let loop = c.loop-here in
-    let a = args in
-    let day = columns a.l a.flags.now a.service.now a.ready.now a.due.now a.penalty.now a.distances.now a.times.now in
-    let price = effective_cost day a.limits a.depot in
-    scan_ends a.which price a.cost a.floor a.list.now _ _ _ pre.1.1.1 first-place.ensures.0 loop.invariant.0
+    let day = columns c.args.l c.args.flags.now c.args.service.now c.args.ready.now c.args.due.now c.args.penalty.now c.args.distances.now c.args.times.now in
+    let price = effective_cost day c.args.limits c.args.depot in
+    scan_ends c.args.which price c.args.cost c.args.floor c.args.list.now _ _ _ c.requires.cost_value c.first_place-here.ensures.0 c.loop-here.invariant.0
     c.in_default.is
 
 pub price_of-priced-requires : goal.price_of-priced-requires
 price_of-priced-requires c =
-    let pre = c.requires.TAIL:formed|depot_lt_l|list_in_bounds|cost_value in
-    let loop = c.loop-here in
-    let here = c.here-1 in
-    let inside = inside_at _ _ _ here.given.1 loop.invariant.0.inside in
-    (pre.0, (pre.1.0, ((rw loop.invariant.1 pre.1.1.0, inside), loop.invariant.2)))
+    let inside = inside_at _ _ _ c.in-At.is c.loop-here.invariant.0.inside in
+    (c.requires.formed, (c.requires.depot_lt_l, ((rw c.loop-here.invariant.1 c.requires.list_in_bounds, inside), c.loop-here.invariant.2)))
 
 pub after-here-requires : goal.after-here-requires
 after-here-requires c =
-    let pre = c.requires.TAIL:formed|depot_lt_l|list_in_bounds|cost_value in
-    let loop = c.loop-here in
-    let here = c.here-1 in
-    (pre.1.0.1.few, inside_at _ _ _ here.given.1 loop.invariant.0.inside)
+    (c.requires.depot_lt_l.1.few, inside_at _ _ _ c.in-At.is c.loop-here.invariant.0.inside)
 
 pub loop-here-smaller : goal.loop-here-smaller
 loop-here-smaller c =
-    let here = c.here-1 in
-    fewer _ _ _ _ here.given.1 c.after-here.ensures
+    fewer _ _ _ _ c.in-At.is c.after-here.ensures
 
 pub loop-here-preserved : goal.loop-here-preserved
 loop-here-preserved c =
-    let loop = c.loop-here in
-    let here = c.here-1 in
-    let price-of = c.price_of-priced in
-    let scanning = scan_turns _ _ _ _ _ _ _ _ _ _ loop.invariant.0 here.given.1 price-of.ensures.0
+    let scanning = scan_turns _ _ _ _ _ _ _ _ _ _ c.loop-here.invariant.0 c.in-At.is c.price_of-priced.ensures.0
     c.or-best.ensures c.after-here.ensures in
-    (scanning, price-of.auto.1.1.1.1.1.1.1.1.1.1.1.0 ∙ loop.invariant.1, price-of.ensures.1)
+    (scanning, c.price_of-priced.auto.buffer ∙ c.loop-here.invariant.1, c.price_of-priced.ensures.1)

@@ -52,30 +52,24 @@ slice_bounds-price_from-end c =
 
 pub price_from-new-requires : goal.price_from-new-requires
 price_from-new-requires c =
-    let known = c.requires.TAIL:prepared|in_bounds|visits in
-    let a = c.args in
-    let here = c.loop-place in
-    let driven = c.reach-head.ensures.TAIL:driven_2|visits_le_to in
-    let all = visits_inserted _ a.list.now a.offer.visit here.place known.1.1.0 known.1.1.1 known.1.1.2 in
+    let all = visits_inserted _ c.args.list.now c.args.offer.visit c.loop-place.place c.requires.visits.0 c.requires.visits.1 c.requires.visits.2 in
     (
-      known.0.formed,
+      c.requires.prepared.formed,
       (
-        known.0.depot_there,
-        driven.0.placed,
-        part_visits _ c.reach-head.result.visits c.inserted_first-end.result here.buffer _
-            (omega (arith, driven.1, here.invariant.2, c.inserted_first-end.ensures.value)) here.invariant.1 all,
+        c.requires.prepared.depot_there,
+        c.reach-head.ensures.driven_2.placed,
+        part_visits _ c.reach-head.result.visits c.inserted_first-end.result c.loop-place.buffer _
+            (omega (arith, c.reach-head.ensures.visits_le_to, c.loop-place.invariant.2, c.inserted_first-end.ensures.value)) c.loop-place.invariant.1 all,
       ),
     )
 
 pub returns-then-place-list : goal.returns-then-place-list
 returns-then-place-list c =
-    let a = c.args in
-    let here = c.loop-place in
-    let new = c.price_from-new.ensures ∙ price_inserted _ _ _ a.list.now c.reach-head.result c.reach-head.ensures.driven_2
-    a.offer.visit here.place c.inserted_first-end.result
-    here.buffer (c.reach-head.ensures.visits_le_to, here.invariant.2) c.inserted_first-end.ensures.value here.invariant.1 in
-    let turn = among_turn _ a.list.now a.offer here.after here.place _ _ here.invariant.2 new c.better_of-after.ensures in
-    sym (among_end _ a.list.now a.offer _ (here.place + 1) (omega (arith, c.if-place-list.true))) ∙ turn ∙ here.invariant.0
+    let new = c.price_from-new.ensures ∙ price_inserted _ _ _ c.args.list.now c.reach-head.result c.reach-head.ensures.driven_2
+    c.args.offer.visit c.loop-place.place c.inserted_first-end.result
+    c.loop-place.buffer (c.reach-head.ensures.visits_le_to, c.loop-place.invariant.2) c.inserted_first-end.ensures.value c.loop-place.invariant.1 in
+    let turn = among_turn _ c.args.list.now c.args.offer c.loop-place.after c.loop-place.place _ _ c.loop-place.invariant.2 new c.better_of-after.ensures in
+    sym (among_end _ c.args.list.now c.args.offer _ (c.loop-place.place + 1) (omega (arith, c.if-place-list.true))) ∙ turn ∙ c.loop-place.invariant.0
 
 pub step_on-requires : goal.step_on-requires
 step_on-requires c =
@@ -102,19 +96,17 @@ loop-place-smaller c =
 
 pub loop-place-preserved : goal.loop-place-preserved
 loop-place-preserved c =
-    let a = c.args in
-    let here = c.loop-place in
-    let new = c.price_from-new.ensures ∙ price_inserted _ _ _ a.list.now c.reach-head.result c.reach-head.ensures.driven_2
-    a.offer.visit here.place c.inserted_first-end.result
-    here.buffer (c.reach-head.ensures.visits_le_to, here.invariant.2) c.inserted_first-end.ensures.value here.invariant.1 in
-    let turn = among_turn _ a.list.now a.offer here.after here.place _ _ here.invariant.2 new c.better_of-after.ensures in
-    let on = stepped a.list.now a.offer.visit here.place c.inserted_first-end.result here.buffer
-    (omega (arith, c.if-place-list.false, here.invariant.2))
-    (omega (arith, c.inserted_first-end.ensures.value)) here.invariant.1 in
+    let new = c.price_from-new.ensures ∙ price_inserted _ _ _ c.args.list.now c.reach-head.result c.reach-head.ensures.driven_2
+    c.args.offer.visit c.loop-place.place c.inserted_first-end.result
+    c.loop-place.buffer (c.reach-head.ensures.visits_le_to, c.loop-place.invariant.2) c.inserted_first-end.ensures.value c.loop-place.invariant.1 in
+    let turn = among_turn _ c.args.list.now c.args.offer c.loop-place.after c.loop-place.place _ _ c.loop-place.invariant.2 new c.better_of-after.ensures in
+    let on = stepped c.args.list.now c.args.offer.visit c.loop-place.place c.inserted_first-end.result c.loop-place.buffer
+    (omega (arith, c.if-place-list.false, c.loop-place.invariant.2))
+    (omega (arith, c.inserted_first-end.ensures.value)) c.loop-place.invariant.1 in
     (
-      turn ∙ here.invariant.0,
+      turn ∙ c.loop-place.invariant.0,
       ap (take c.inserted_first-end.result) c.step_on.ensures ∙ on,
-      omega (arith, c.if-place-list.false, here.invariant.2),
-      c.step_on.auto.buffer ∙ here.invariant.3,
+      omega (arith, c.if-place-list.false, c.loop-place.invariant.2),
+      c.step_on.auto.buffer ∙ c.loop-place.invariant.3,
       c.reach-head.ensures.driven_2,
     )

@@ -26,11 +26,9 @@ price_of-requires-clause-prepared c =
 
 pub price_of-requires-clause-visits : goal.price_of-requires-clause-visits
 price_of-requires-clause-visits c =
-    let end = c.removed_into-end in
-    rw (front end.result end.new.0 _ end.ensures.1)
+    rw (front c.removed_into-end.result c.removed_into-end.new.buffer _ c.removed_into-end.ensures.buffer_after)
           (visits_without _ c.args.list.now c.args.position c.requires.in_bounds.1 c.requires.in_bounds.2)
 
 pub returns : goal.returns
 returns c =
-    let end = c.removed_into-end in
-    c.price_of.ensures ∙ ap (effective_cost _ _ _) (front end.result end.new.0 _ end.ensures.1)
+    c.price_of.ensures ∙ ap (effective_cost _ _ _) (front c.removed_into-end.result c.removed_into-end.new.buffer _ c.removed_into-end.ensures.buffer_after)

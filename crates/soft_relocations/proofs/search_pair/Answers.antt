@@ -13,5 +13,4 @@ put_pair-requires-clause-sized c =
 
 pub put_pair-requires-clause-from_bound : goal.put_pair-requires-clause-from_bound
 put_pair-requires-clause-from_bound c =
-    let few = c.requires.loaded.1.laid.few in
-    (omega (arith, few, c.requires.sized.1), omega (arith, few, c.requires.sized.2))
+    (omega (arith, c.requires.loaded.1.laid.few, c.requires.sized.1), omega (arith, c.requires.loaded.1.laid.few, c.requires.sized.2))

@@ -22,13 +22,11 @@ best_priced-requires-clause-two c =
 
 pub best_priced-requires-clause-figured : goal.best_priced-requires-clause-figured
 best_priced-requires-clause-figured c =
-    let figured = c.requires.figured in
-    figured
+    c.requires.figured
 
 pub best_priced-requires-clause-other_value : goal.best_priced-requires-clause-other_value
 best_priced-requires-clause-other_value c =
-    let figured = c.requires.figured in
-    let priced = prices_known _ c.args.terms _ _ _ _ _ _ figured.costs.first_cost figured.costs.second_cost c.is_finite.ensures.answer
+    let priced = prices_known _ c.args.terms _ _ _ _ _ _ c.requires.figured.costs.first_cost c.requires.figured.costs.second_cost c.is_finite.ensures.answer
     c.is_finite-2.ensures.answer (c.if-not-is_finite.false) (c.if-not-is_finite-2.false) in
     priced
 

@@ -29,8 +29,7 @@ boxes_at-head1-requires c =
 
 pub overflow_add-head1 : goal.overflow_add-head1
 overflow_add-head1 c =
-    let two = c.requires.two in
-    let small = sum_small _ _ _ c.requires.asked.loaded two.one_below (omega (arith, two.few)) _ _ _ c.loop-last-test.true
+    let small = sum_small _ _ _ c.requires.asked.loaded c.requires.two.one_below (omega (arith, c.requires.two.few)) _ _ _ c.loop-last-test.true
     c.loop-last.invariant.1 c.boxes_at-head1.ensures in
     omega (arith, small.0, small.1)
 
@@ -40,8 +39,7 @@ overflow_add-last c =
 
 pub reach-driven1-requires : goal.reach-driven1-requires
 reach-driven1-requires c =
-    let known = c.requires.TAIL:asked|two|figured|other_value in
-    (known.0.formed, ((known.0.depot_there, first_visits _ _ _ known.1.0, omega (arith, c.loop-last-test.true)), c.loop-last.invariant.3))
+    (c.requires.asked.formed, ((c.requires.asked.depot_there, first_visits _ _ _ c.requires.two, omega (arith, c.loop-last-test.true)), c.loop-last.invariant.3))
 
 pub overflow_add-last-in-loop-last : goal.overflow_add-last-in-loop-last
 overflow_add-last-in-loop-last c =
@@ -49,15 +47,14 @@ overflow_add-last-in-loop-last c =
 
 pub best_row-best-requires : goal.best_row-best-requires
 best_row-best-requires c =
-    let known = c.requires.TAIL:asked|two|figured|other_value in
     (
-      known.0,
+      c.requires.asked,
       (
-        (known.1.0, omega (arith, c.loop-last-test.true)),
+        (c.requires.two, omega (arith, c.loop-last-test.true)),
         (
-          known.1.1.0,
+          c.requires.figured,
           (
-            known.1.1.1,
+            c.requires.other_value,
             (load_more _ _ _ _ _ c.loop-last-test.true c.loop-last.invariant.1 c.boxes_at-head1.ensures, c.reach-driven1.ensures.driven_2),
           ),
         ),

@@ -61,8 +61,7 @@ overflow_add-cut2 c =
 
 pub reach-driven2-requires : goal.reach-driven2-requires
 reach-driven2-requires c =
-    let known = c.requires.TAIL:asked|two|figured|other_value|head1_value|driven_by in
-    (known.0.formed, ((known.0.depot_there, second_visits _ _ _ known.1.0.0, omega (arith, c.loop-last-test.true)), c.loop-last.invariant.3))
+    (c.requires.asked.formed, ((c.requires.asked.depot_there, second_visits _ _ _ c.requires.two.0, omega (arith, c.loop-last-test.true)), c.loop-last.invariant.3))
 
 pub overflow_sub-new1 : goal.overflow_sub-new1
 overflow_sub-new1 c =
@@ -89,26 +88,23 @@ overflow_add-new2 c =
 
 pub consider-found-requires : goal.consider-found-requires
 consider-found-requires c =
-    let known = c.requires.TAIL:asked|two|figured|other_value|head1_value|driven_by in
-    let a = c.args in
-    let boxes = boxes_of a.demand.now in
-    let figured = known.1.1.0 in
+    let boxes = boxes_of c.args.demand.now in
     let cut2 = c.loop-last.last + 1 in
     let head2 = load_more _ _ _ _ _ c.loop-last-test.true c.loop-last.invariant.1 c.boxes_at-head2.ensures in
     (
-      known.0,
+      c.requires.asked,
       (
-        (known.1.0.0, known.1.0.1, omega (arith, c.loop-last-test.true)),
+        (c.requires.two.0, c.requires.two.1, omega (arith, c.loop-last-test.true)),
         (
-          figured,
+          c.requires.figured,
           (
-            known.1.1.1.0,
+            c.requires.other_value,
             (
               (
-                load_joined boxes a.one.now a.other.now a.cut1 cut2 _ _ _ known.1.1.1.1.0 head2 figured.second_load,
-                load_joined boxes a.other.now a.one.now cut2 a.cut1 _ _ _ head2 known.1.1.1.1.0 figured.first_load,
+                load_joined boxes c.args.one.now c.args.other.now c.args.cut1 cut2 _ _ _ c.requires.head1_value head2 c.requires.figured.second_load,
+                load_joined boxes c.args.other.now c.args.one.now cut2 c.args.cut1 _ _ _ head2 c.requires.head1_value c.requires.figured.first_load,
               ),
-              (known.1.1.1.1.1, c.reach-driven2.ensures.driven_2),
+              (c.requires.driven_by, c.reach-driven2.ensures.driven_2),
             ),
           ),
         ),

@@ -48,13 +48,11 @@ best_place-requires-clause-prepared c =
 
 pub best_place-requires-clause-in_bounds : goal.best_place-requires-clause-in_bounds
 best_place-requires-clause-in_bounds c =
-    let two = c.requires.two_of.0 in
     omega (arith, c.giving_delta-giving.auto.buffer, c.requires.loaded.1)
 
 pub best_place-requires-clause-visits : goal.best_place-requires-clause-visits
 best_place-requires-clause-visits c =
-    let two = c.requires.two_of.0 in
-    (two.takes, two.room_there, two.gives.below _ c.requires.two_of.1)
+    (c.requires.two_of.0.takes, c.requires.two_of.0.room_there, c.requires.two_of.0.gives.below _ c.requires.two_of.1)
 
 pub returns : goal.returns
 returns c =

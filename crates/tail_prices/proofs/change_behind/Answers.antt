@@ -18,12 +18,10 @@ price_from-new2-requires c =
 
 pub returns : goal.returns
 returns c =
-    let a = c.args in
-    let known = c.requires.TAIL:formed|two|priced|driven_by|visits_value in
     let new1 = c.price_from-new1.ensures
-    ∙ price_behind _ _ _ a.one.now a.other.now a.cut1 a.cut2 a.driven1 known.1.1.1.0.0 known.1.1.1.1.0
-    (known.1.0.1, known.1.0.2) in
+    ∙ price_behind _ _ _ c.args.one.now c.args.other.now c.args.cut1 c.args.cut2 c.args.driven1 c.requires.driven_by.0 c.requires.visits_value.0
+    (c.requires.two.1, c.requires.two.2) in
     let new2 = c.price_from-new2.ensures
-    ∙ price_behind _ _ _ a.other.now a.one.now a.cut2 a.cut1 a.driven2 known.1.1.1.0.1 known.1.1.1.1.1
-    (known.1.0.2, known.1.0.1) in
-    same-change _ a.terms _ _ _ _ a.figures known.1.1.0 _ _ _ new1 new2 c.change_by.ensures
+    ∙ price_behind _ _ _ c.args.other.now c.args.one.now c.args.cut2 c.args.cut1 c.args.driven2 c.requires.driven_by.1 c.requires.visits_value.1
+    (c.requires.two.2, c.requires.two.1) in
+    same-change _ c.args.terms _ _ _ _ c.args.figures c.requires.priced _ _ _ new1 new2 c.change_by.ensures

@@ -40,9 +40,8 @@ change_behind-requires-clause-driven_by c =
 
 pub change_behind-requires-clause-visits_value : goal.change_behind-requires-clause-visits_value
 change_behind-requires-clause-visits_value c =
-    let a = c.args in
-    let first = eqb a.driven1.visits a.cut1 in
-    let second = eqb a.driven2.visits a.cut2 in
+    let first = eqb c.args.driven1.visits c.args.cut1 in
+    let second = eqb c.args.driven2.visits c.args.cut2 in
     let told = sym c.both.ensures ∙ c.if-not-both.false in
     (eqb-true _ _ (and_first first second told), eqb-true _ _ (and_second first second told))
 

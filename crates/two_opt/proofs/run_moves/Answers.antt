@@ -66,13 +66,11 @@ loop-place-smaller c =
 
 pub loop-place-preserved : goal.loop-place-preserved
 loop-place-preserved c =
-    let inv = c.loop-place.invariant in
-    let found = c.in-At.is in
-    let turn = left-turned _ c.next_move-found.ensures found in
+    let turn = left-turned _ c.next_move-found.ensures c.in-At.is in
     (
-      inv.0 ∙ sym turn.same_length,
-      turn.same_length ∙ inv.1,
-      rw turn.becomes (turned-visits _ _ _ turn.ordered inv.2),
-      rw (c.place_after-ahead.ensures, inv.0, turn.same_length) (still_in _ _ turn.ordered turn.there),
-      rw (c.place_after-ahead.ensures, inv.0) (goes _ _ _ _ _ _ _ _ _ c.next_move-found.ensures inv.4 _ found c.if-limit-moves.false),
+      c.loop-place.invariant.0 ∙ sym turn.same_length,
+      turn.same_length ∙ c.loop-place.invariant.1,
+      rw turn.becomes (turned-visits _ _ _ turn.ordered c.loop-place.invariant.2),
+      rw (c.place_after-ahead.ensures, c.loop-place.invariant.0, turn.same_length) (still_in _ _ turn.ordered turn.there),
+      rw (c.place_after-ahead.ensures, c.loop-place.invariant.0) (goes _ _ _ _ _ _ _ _ _ c.next_move-found.ensures c.loop-place.invariant.4 _ c.in-At.is c.if-limit-moves.false),
     )

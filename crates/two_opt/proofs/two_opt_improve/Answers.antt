@@ -10,17 +10,16 @@ is_symmetric-symmetric-requires c =
 
 pub run_moves-requires : goal.run_moves-requires
 run_moves-requires c =
-    let pre = c.requires.TAIL:formed|depot_lt_l|distances_value in
     (
       record {
-        formed = pre.0;
-        depot_there = pre.1.0.0;
-        plain = pre.1.1;
+        formed = c.requires.formed;
+        depot_there = c.requires.depot_lt_l.0;
+        plain = c.requires.distances_value;
         floor = rw (c.gain_floor-floor.ensures.answer, c.scale.ensures);
         symmetric = c.is_symmetric-symmetric.ensures;
         needed = c.route_checks_needed-needed.ensures;
       },
-      pre.1.0.1,
+      c.requires.depot_lt_l.1,
     )
 
 pub returns : goal.returns

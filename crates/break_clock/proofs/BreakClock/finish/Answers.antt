@@ -7,9 +7,7 @@ use Rattle.break_clock.proofs.BreakClock.finish.Goals as goal
 pub returns-then-label-back : goal.returns-then-label-back
 unfolding finished end_before
 returns-then-label-back c =
-    let before2 = c.before-1 in
-    let travel-time = c.travel_time-back in
-    rw (before2.given.1, ← travel-time.ensures) (picked _ _ _ _ c.if-label-back.true c.end_with.ensures)
+    rw (c.in-Served.is, ← c.travel_time-back.ensures) (picked _ _ _ _ c.if-label-back.true c.end_with.ensures)
 
 pub returns-in-Missed : goal.returns-in-Missed
 unfolding finished end_before
@@ -19,6 +17,4 @@ returns-in-Missed c =
 pub returns-else-label-back : goal.returns-else-label-back
 unfolding finished end_before
 returns-else-label-back c =
-    let before2 = c.before-1 in
-    let travel-time = c.travel_time-back in
-    rw (before2.given.1, ← travel-time.ensures) (other _ _ _ _ c.if-label-back.false c.end_of-in-Served.ensures)
+    rw (c.in-Served.is, ← c.travel_time-back.ensures) (other _ _ _ _ c.if-label-back.false c.end_of-in-Served.ensures)

@@ -10,8 +10,7 @@ use Rattle.day_scans.proofs.matrix.next_larger.Goals as goal
 
 pub loop-i-init : goal.loop-i-init
 loop-i-init c =
-    let past = c.past_smaller-i.ensures.TAIL:lower_bound|distances_value in
-    (past.0.0, past.0.1, past.1)
+    (c.past_smaller-i.ensures.lower_bound.0, c.past_smaller-i.ensures.lower_bound.1, c.past_smaller-i.ensures.distances_value)
 
 pub returns-then-most-distances-clause-lower_bound : goal.returns-then-most-distances-clause-lower_bound
 returns-then-most-distances-clause-lower_bound c =
@@ -23,8 +22,7 @@ returns-then-most-distances-clause-distances_value c =
 
 pub loop-i-preserved : goal.loop-i-preserved
 loop-i-preserved c =
-    let test = c.loop-i-test.true in
-    (search rules, search rules, largest_passed _ _ _ test c.if-most-distances.false ∙ c.loop-i.invariant.2)
+    (search rules, search rules, largest_passed _ _ _ c.loop-i-test.true c.if-most-distances.false ∙ c.loop-i.invariant.2)
 
 pub returns-clause-lower_bound : goal.returns-clause-lower_bound
 returns-clause-lower_bound c =

@@ -17,30 +17,25 @@ loop-i-init c =
 
 pub returns-then-not-four_smaller-clause-lower_bound : goal.returns-then-not-four_smaller-clause-lower_bound
 returns-then-not-four_smaller-clause-lower_bound c =
-    let inv = c.loop-i.invariant in
-    (inv.0, inv.1)
+    (c.loop-i.invariant.0, c.loop-i.invariant.1)
 
 pub returns-then-not-four_smaller-clause-distances_value : goal.returns-then-not-four_smaller-clause-distances_value
 returns-then-not-four_smaller-clause-distances_value c =
-    let inv = c.loop-i.invariant in
-    inv.2
+    c.loop-i.invariant.2
 
 pub loop-i-preserved : goal.loop-i-preserved
 loop-i-preserved c =
-    let inv = c.loop-i.invariant in
     (
       search rules,
       search rules,
-      largest_passed_four _ c.loop-i.i _ (omega (arith, c.loop-i-test.true, inv.1))
-          (yes _ _ c.four_smaller.ensures (ap not c.if-not-four_smaller.false)) ∙ inv.2,
+      largest_passed_four _ c.loop-i.i _ (omega (arith, c.loop-i-test.true, c.loop-i.invariant.1))
+          (yes _ _ c.four_smaller.ensures (ap not c.if-not-four_smaller.false)) ∙ c.loop-i.invariant.2,
     )
 
 pub returns-clause-lower_bound : goal.returns-clause-lower_bound
 returns-clause-lower_bound c =
-    let inv = c.loop-i.invariant in
-    (inv.0, inv.1)
+    (c.loop-i.invariant.0, c.loop-i.invariant.1)
 
 pub returns-clause-distances_value : goal.returns-clause-distances_value
 returns-clause-distances_value c =
-    let inv = c.loop-i.invariant in
-    inv.2
+    c.loop-i.invariant.2

@@ -23,14 +23,11 @@ overflow_cast-place c =
 
 pub get-distance-requires : goal.get-distance-requires
 get-distance-requires c =
-    let pre = c.requires in
-    (pre.0, pre.1, pre.2.below 0 (omega (arith, c.if-list-eq0.false)))
+    (c.requires.0, c.requires.1, c.requires.2.below 0 (omega (arith, c.if-list-eq0.false)))
 
 pub loop-i-init : goal.loop-i-init
 loop-i-init c =
-    let if1 = c.if-list-eq0 in
-    let pre = c.requires in
-    (omega (arith, if1.false), pre.2.below 0 (omega (arith, if1.false)), distance_first _ _ _ _ _ if1.false c.get-distance.ensures)
+    (omega (arith, c.if-list-eq0.false), c.requires.2.below 0 (omega (arith, c.if-list-eq0.false)), distance_first _ _ _ _ _ c.if-list-eq0.false c.get-distance.ensures)
 
 pub overflow_cast-visit : goal.overflow_cast-visit
 overflow_cast-visit c =
@@ -38,9 +35,7 @@ overflow_cast-visit c =
 
 pub get-distance-requires-in-loop-i : goal.get-distance-requires-in-loop-i
 get-distance-requires-in-loop-i c =
-    let pre = c.requires in
-    let loop = c.loop-i in
-    (pre.0, loop.invariant.1, pre.2.below loop.i c.loop-i-test.true)
+    (c.requires.0, c.loop-i.invariant.1, c.requires.2.below c.loop-i.i c.loop-i-test.true)
 
 pub overflow_add-i : goal.overflow_add-i
 overflow_add-i c =
@@ -48,15 +43,11 @@ overflow_add-i c =
 
 pub loop-i-preserved : goal.loop-i-preserved
 loop-i-preserved c =
-    let pre = c.requires in
-    let loop = c.loop-i in
-    let loop-test = c.loop-i-test in
-    (search rules, pre.2.below loop.i loop-test.true, distance_turn _ _ _ _ _ _ _ _ loop-test.true c.get-distance-in-loop-i.ensures ∙ loop.invariant.2)
+    (search rules, c.requires.2.below c.loop-i.i c.loop-i-test.true, distance_turn _ _ _ _ _ _ _ _ c.loop-i-test.true c.get-distance-in-loop-i.ensures ∙ c.loop-i.invariant.2)
 
 pub get-requires : goal.get-requires
 get-requires c =
-    let pre = c.requires in
-    (pre.0, c.loop-i.invariant.1, pre.1)
+    (c.requires.0, c.loop-i.invariant.1, c.requires.1)
 
 pub returns : goal.returns
 returns c =

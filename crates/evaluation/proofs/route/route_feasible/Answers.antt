@@ -7,18 +7,13 @@ use Rattle.evaluation.proofs.route.route_feasible.Goals as goal
 
 pub unclocked_distance-free-requires : goal.unclocked_distance-free-requires
 unclocked_distance-free-requires c =
-    let pre = c.requires.TAIL:formed|depot_lt_l in
-    (pre.0.tables.of_distances, pre.0.flags, pre.1.0, pre.1.1)
+    (c.requires.formed.tables.of_distances, c.requires.formed.flags, c.requires.depot_lt_l.0, c.requires.depot_lt_l.1)
 
 pub returns-in-Free : goal.returns-in-Free
 unfolding of_bits
 returns-in-Free c =
-    let free = c.free-1 in
-    let unclocked-distance = c.unclocked_distance-free in
-    let if1 = c.if-is_clockless in
-    let is-clockless = c.is_clockless in
     c.allow.ensures
-    ∙ feasible-unclocked _ _ _ _ _ (sym is-clockless.ensures ∙ if1.true) (sym unclocked-distance.ensures ∙ free.given.1)
+    ∙ feasible-unclocked _ _ _ _ _ (sym c.is_clockless.ensures ∙ c.if-is_clockless.true) (sym c.unclocked_distance-free.ensures ∙ c.in-Free.is)
 
 pub returns : goal.returns
 returns c =

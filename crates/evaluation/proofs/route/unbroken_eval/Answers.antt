@@ -23,82 +23,51 @@ overflow_cast-visit c =
 
 pub get-distance-requires : goal.get-distance-requires
 get-distance-requires c =
-    let pre = c.requires.TAIL:formed|depot_lt_l in
-    let loop = c.loop-i in
-    (pre.0.tables.of_distances, loop.invariant.1, pre.1.1.below loop.i c.loop-i-test.true)
+    (c.requires.formed.tables.of_distances, c.loop-i.invariant.1, c.requires.depot_lt_l.1.below c.loop-i.i c.loop-i-test.true)
 
 pub travel_time-travel-requires : goal.travel_time-travel-requires
 travel_time-travel-requires c =
-    let pre = c.requires.TAIL:formed|depot_lt_l in
-    let loop = c.loop-i in
-    let loop-test = c.loop-i-test in
-    (pre.0.tables, loop.invariant.1, pre.1.1.below loop.i loop-test.true)
+    (c.requires.formed.tables, c.loop-i.invariant.1, c.requires.depot_lt_l.1.below c.loop-i.i c.loop-i-test.true)
 
 pub stop_of-stop-requires : goal.stop_of-stop-requires
 stop_of-stop-requires c =
-    let pre = c.requires.TAIL:formed|depot_lt_l in
-    let loop = c.loop-i in
-    let loop-test = c.loop-i-test in
-    stop_in pre.0 (pre.1.1.below loop.i loop-test.true)
+    stop_in c.requires.formed (c.requires.depot_lt_l.1.below c.loop-i.i c.loop-i-test.true)
 
 pub returns-in_default : goal.returns-in_default
 unfolding of_bits evaluated
 returns-in_default c =
-    let loop-test = c.loop-i-test in
-    let travel-time = c.travel_time-travel in
-    let stop-of = c.stop_of-stop in
-    let serve = c.serve-reached in
-    let at-start = c.at_start-label in
-    let loop = c.loop-i in
     ap (evaluated _)
-    (unbroken_stops _ _ _ _ _ _ _ loop-test.true
-    (tick_is _ _ _ _ _ _ _ _ travel-time.ensures stop-of.ensures serve.ensures c.in_default.is)
-    ∙ unbroken_is _ _ _ _ _ at-start.ensures loop.invariant.2)
+    (unbroken_stops _ _ _ _ _ _ _ c.loop-i-test.true
+    (tick_is _ _ _ _ _ _ _ _ c.travel_time-travel.ensures c.stop_of-stop.ensures c.serve-reached.ensures c.in_default.is)
+    ∙ unbroken_is _ _ _ _ _ c.at_start-label.ensures c.loop-i.invariant.2)
 
 pub overflow_add-i : goal.overflow_add-i
 overflow_add-i c =
-    let loop-test = c.loop-i-test in
-    let pre = c.requires.TAIL:formed|depot_lt_l in
-    omega (arith, loop-test.true, pre.1.1.few)
+    omega (arith, c.loop-i-test.true, c.requires.depot_lt_l.1.few)
 
 pub loop-i-preserved : goal.loop-i-preserved
 loop-i-preserved c =
-    let pre = c.requires.TAIL:formed|depot_lt_l in
-    let loop = c.loop-i in
-    let loop-test = c.loop-i-test in
-    let get = c.get-distance in
-    let travel-time = c.travel_time-travel in
-    let stop-of = c.stop_of-stop in
-    let serve = c.serve-reached in
     (
       search rules,
-      pre.1.1.below loop.i loop-test.true,
-      unbroken_turns _ _ _ _ _ _ _ _ loop-test.true get.ensures
-          (tick_is _ _ _ _ _ _ _ _ travel-time.ensures stop-of.ensures serve.ensures c.in-Served.is)
-          ∙ loop.invariant.2,
+      c.requires.depot_lt_l.1.below c.loop-i.i c.loop-i-test.true,
+      unbroken_turns _ _ _ _ _ _ _ _ c.loop-i-test.true c.get-distance.ensures
+          (tick_is _ _ _ _ _ _ _ _ c.travel_time-travel.ensures c.stop_of-stop.ensures c.serve-reached.ensures c.in-Served.is)
+          ∙ c.loop-i.invariant.2,
     )
 
 pub get-requires : goal.get-requires
 get-requires c =
-    let pre = c.requires.TAIL:formed|depot_lt_l in
-    (pre.0.tables.of_distances, c.loop-i.invariant.1, pre.1.0)
+    (c.requires.formed.tables.of_distances, c.loop-i.invariant.1, c.requires.depot_lt_l.0)
 
 pub travel_time-back-requires : goal.travel_time-back-requires
 travel_time-back-requires c =
-    let pre = c.requires.TAIL:formed|depot_lt_l in
-    let loop = c.loop-i in
-    (pre.0.tables, loop.invariant.1, pre.1.0)
+    (c.requires.formed.tables, c.loop-i.invariant.1, c.requires.depot_lt_l.0)
 
 pub returns : goal.returns
 unfolding of_bits
 returns c =
-    let loop-test = c.loop-i-test in
-    let get2 = c.get in
-    let travel-time2 = c.travel_time-back in
-    let at-start = c.at_start-label in
-    let loop = c.loop-i in
     c.evaluate.ensures
     ∙ ap (evaluated _)
     (c.end_with.ensures
-    ∙ unbroken_ends _ _ _ _ _ _ _ _ _ loop-test.false get2.ensures travel-time2.ensures
-    ∙ unbroken_is _ _ _ _ _ at-start.ensures loop.invariant.2)
+    ∙ unbroken_ends _ _ _ _ _ _ _ _ _ c.loop-i-test.false c.get.ensures c.travel_time-back.ensures
+    ∙ unbroken_is _ _ _ _ _ c.at_start-label.ensures c.loop-i.invariant.2)

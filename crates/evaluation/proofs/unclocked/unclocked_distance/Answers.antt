@@ -19,44 +19,31 @@ overflow_cast-visit c =
 
 pub bounds-flags-visit : goal.bounds-flags-visit
 bounds-flags-visit c =
-    let pre = c.requires in
-    rw pre.1 (pre.3.below c.loop-i.i c.loop-i-test.true)
+    rw c.requires.1 (c.requires.3.below c.loop-i.i c.loop-i-test.true)
 
 pub returns-then-flag1 : goal.returns-then-flag1
 returns-then-flag1 c =
-    let loop-test = c.loop-i-test in
-    let loop = c.loop-i in
-    unclocked_stops _ _ _ _ _ _ _ _ loop-test.true (sym c.flag1.ensures ∙ c.if-flag1.true) ∙ loop.invariant.2
+    unclocked_stops _ _ _ _ _ _ _ _ c.loop-i-test.true (sym c.flag1.ensures ∙ c.if-flag1.true) ∙ c.loop-i.invariant.2
 
 pub get-distance-requires : goal.get-distance-requires
 get-distance-requires c =
-    let loop-test = c.loop-i-test in
-    let loop = c.loop-i in
-    let pre = c.requires in
-    (pre.0, loop.invariant.1, pre.3.below loop.i loop-test.true)
+    (c.requires.0, c.loop-i.invariant.1, c.requires.3.below c.loop-i.i c.loop-i-test.true)
 
 pub overflow_add-i : goal.overflow_add-i
 overflow_add-i c =
-    let loop-test = c.loop-i-test in
-    let pre = c.requires in
-    omega (arith, loop-test.true, pre.3.few)
+    omega (arith, c.loop-i-test.true, c.requires.3.few)
 
 pub loop-i-preserved : goal.loop-i-preserved
 loop-i-preserved c =
-    let flag1 = c.flag1 in
-    let loop-test = c.loop-i-test in
-    let loop = c.loop-i in
-    let pre = c.requires in
     (
       search rules,
-      pre.3.below loop.i loop-test.true,
-      unclocked_turn _ _ _ _ _ _ _ _ _ loop-test.true (sym flag1.ensures ∙ c.if-flag1.false) c.get-distance.ensures ∙ loop.invariant.2,
+      c.requires.3.below c.loop-i.i c.loop-i-test.true,
+      unclocked_turn _ _ _ _ _ _ _ _ _ c.loop-i-test.true (sym c.flag1.ensures ∙ c.if-flag1.false) c.get-distance.ensures ∙ c.loop-i.invariant.2,
     )
 
 pub get-requires : goal.get-requires
 get-requires c =
-    let pre = c.requires in
-    (pre.0, c.loop-i.invariant.1, pre.2)
+    (c.requires.0, c.loop-i.invariant.1, c.requires.2)
 
 pub returns : goal.returns
 returns c =

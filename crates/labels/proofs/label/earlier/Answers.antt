@@ -8,9 +8,7 @@ use Rattle.labels.proofs.label.earlier.Goals as goal
 pub returns-then-is_earlier : goal.returns-then-is_earlier
 unfolding earlier_of
 returns-then-is_earlier c =
-    let carried = c.carried-1 in
-    let here = c.here-1 in
-    rw (carried.given.1, here.given.1) (picked _ _ _ _ (sym c.is_earlier.ensures ∙ c.if-is_earlier.true) refl)
+    rw (c.in-Served.is, c.in-Served-here.is) (picked _ _ _ _ (sym c.is_earlier.ensures ∙ c.if-is_earlier.true) refl)
 
 pub returns-in-Missed : goal.returns-in-Missed
 unfolding earlier_of
@@ -25,6 +23,4 @@ returns-in-Missed-here c =
 pub returns-else-is_earlier : goal.returns-else-is_earlier
 unfolding earlier_of
 returns-else-is_earlier c =
-    let carried = c.carried-1 in
-    let here = c.here-1 in
-    rw (carried.given.1, here.given.1) (other _ _ _ _ (sym c.is_earlier.ensures ∙ c.if-is_earlier.false) refl)
+    rw (c.in-Served.is, c.in-Served-here.is) (other _ _ _ _ (sym c.is_earlier.ensures ∙ c.if-is_earlier.false) refl)

@@ -13,6 +13,4 @@ returns-then-is_violated c =
 pub returns : goal.returns
 unfolding served_in
 returns c =
-    let if1 = c.if-is_violated in
-    let is-violated = c.is_violated in
-    other _ _ _ _ (sym is-violated.ensures ∙ if1.false) (rw (← c.begin_at.ensures) c.in_time.ensures)
+    other _ _ _ _ (sym c.is_violated.ensures ∙ c.if-is_violated.false) (rw (← c.begin_at.ensures) c.in_time.ensures)

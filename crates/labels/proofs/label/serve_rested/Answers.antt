@@ -10,7 +10,7 @@ use Rattle.labels.proofs.label.serve_rested.Goals as goal
 pub returns-then-start-rest : goal.returns-then-start-rest
 unfolding served_rested
 returns-then-start-rest c =
-    picked _ _ _ _ (rw c.Later-of.ensures at c.if-start-rest.true) refl
+    picked _ _ _ _ (rw c.later_of-start.ensures at c.if-start-rest.true) refl
 
 pub serve_at-requires : goal.serve_at-requires
 serve_at-requires c =
@@ -19,6 +19,4 @@ serve_at-requires c =
 pub returns : goal.returns
 unfolding served_rested
 returns c =
-    let Later-of = c.Later-of in
-    let if1 = c.if-start-rest in
-    other _ _ _ _ (rw Later-of.ensures at if1.false) (rw (c.rest_here.ensures, Later-of.ensures) at c.serve_at.ensures)
+    other _ _ _ _ (rw c.later_of-start.ensures at c.if-start-rest.false) (rw (c.rest_here.ensures, c.later_of-start.ensures) at c.serve_at.ensures)

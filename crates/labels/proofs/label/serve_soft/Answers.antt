@@ -8,14 +8,9 @@ use Rattle.labels.proofs.label.serve_soft.Goals as goal
 pub returns-then-is_violated : goal.returns-then-is_violated
 unfolding served_in
 returns-then-is_violated c =
-    let if1 = c.if-is_violated in
-    let is-violated = c.is_violated in
-    let begin-at = c.begin_at-begin in
-    picked _ _ _ _ (sym is-violated.ensures ∙ if1.true) (rw (← begin-at.ensures, ← c.lateness.ensures) c.too_late.ensures)
+    picked _ _ _ _ (sym c.is_violated.ensures ∙ c.if-is_violated.true) (rw (← c.begin_at-begin.ensures, ← c.lateness.ensures) c.too_late.ensures)
 
 pub returns : goal.returns
 unfolding served_in
 returns c =
-    let is-violated = c.is_violated in
-    let begin-at = c.begin_at-begin in
-    other _ _ _ _ (sym is-violated.ensures ∙ c.if-is_violated.false) (rw (← begin-at.ensures) c.in_time.ensures)
+    other _ _ _ _ (sym c.is_violated.ensures ∙ c.if-is_violated.false) (rw (← c.begin_at-begin.ensures) c.in_time.ensures)

@@ -25,7 +25,6 @@ pub reconnection-requires : goal.reconnection-requires
 unfolding Inside
 reconnection-requires c =
     let w = rw c.in-Reconnected.is at c.requires.1 in
-    let n = c.requires.0 in
     (omega arith, omega arith, omega arith, omega arith)
 
 pub returns-in-Turned : goal.returns-in-Turned

@@ -4,6 +4,4 @@ use Rattle.planner_c.proofs.depots.planner_cross_depot_improve.Goals as goal
 
 pub returns : goal.returns
 returns c =
-    let e = c.cross_depot_improve-answer.ensures.answer in
-    let w = c.write_rearranged.ensures in
-    rw (← e.0) (w.0, w.1, w.2, w.3, e.1, e.2, e.3, e.4, e.5)
+    rw (← c.cross_depot_improve-answer.ensures.answer.0) (c.write_rearranged.ensures.0, c.write_rearranged.ensures.1, c.write_rearranged.ensures.2, c.write_rearranged.ensures.3, c.cross_depot_improve-answer.ensures.answer.1, c.cross_depot_improve-answer.ensures.answer.2, c.cross_depot_improve-answer.ensures.answer.3, c.cross_depot_improve-answer.ensures.answer.4, c.cross_depot_improve-answer.ensures.answer.5)

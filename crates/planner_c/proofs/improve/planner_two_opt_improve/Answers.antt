@@ -4,6 +4,4 @@ use Rattle.planner_c.proofs.improve.planner_two_opt_improve.Goals as goal
 
 pub returns : goal.returns
 returns c =
-    let e = c.two_opt_improve-answer.ensures.answer in
-    let w = c.write_improved.ensures in
-    rw (← e.0) (w.0, w.1, w.2, w.3, e.1, e.2, e.3)
+    rw (← c.two_opt_improve-answer.ensures.answer.0) (c.write_improved.ensures.0, c.write_improved.ensures.1, c.write_improved.ensures.2, c.write_improved.ensures.3, c.two_opt_improve-answer.ensures.answer.1, c.two_opt_improve-answer.ensures.answer.2, c.two_opt_improve-answer.ensures.answer.3)

@@ -4,6 +4,4 @@ use Rattle.planner_c.proofs.rearrange.planner_relocate_improve.Goals as goal
 
 pub returns : goal.returns
 returns c =
-    let e = c.relocate_improve-answer.ensures.answer in
-    let w = c.write_rearranged.ensures in
-    rw (← e.0) (w.0, w.1, w.2, w.3, e.1, e.2, e.3, e.4)
+    rw (← c.relocate_improve-answer.ensures.answer.0) (c.write_rearranged.ensures.0, c.write_rearranged.ensures.1, c.write_rearranged.ensures.2, c.write_rearranged.ensures.3, c.relocate_improve-answer.ensures.answer.1, c.relocate_improve-answer.ensures.answer.2, c.relocate_improve-answer.ensures.answer.3, c.relocate_improve-answer.ensures.answer.4)
