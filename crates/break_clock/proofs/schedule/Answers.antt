@@ -25,9 +25,13 @@ pub get-distance-requires : goal.get-distance-requires
 get-distance-requires c =
     (c.requires.formed.tables.of_distances, c.loop-i.invariant.1, c.requires.depot_lt_l.1.below c.loop-i.i c.loop-i-test.true)
 
-pub push-clock-requires : goal.push-clock-requires
-push-clock-requires c =
-    (c.requires.formed, (c.loop-i.invariant.2, c.requires.depot_lt_l.1.below c.loop-i.i c.loop-i-test.true, omega (arith, c.loop-i.invariant.3, c.requires.depot_lt_l.1.few, c.loop-i-test.true)))
+pub push-clock-requires-clause-formed : goal.push-clock-requires-clause-formed
+push-clock-requires-clause-formed c =
+    c.requires.formed
+
+pub push-clock-requires-clause-prev_lt_l : goal.push-clock-requires-clause-prev_lt_l
+push-clock-requires-clause-prev_lt_l c =
+    (c.loop-i.invariant.2, c.requires.depot_lt_l.1.below c.loop-i.i c.loop-i-test.true, omega (arith, c.loop-i.invariant.3, c.requires.depot_lt_l.1.few, c.loop-i-test.true))
 
 pub returns-then-not-any_left : goal.returns-then-not-any_left
 unfolding of_bits

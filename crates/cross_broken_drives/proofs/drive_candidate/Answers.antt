@@ -26,24 +26,29 @@ returns-then-both c =
     let gone = not c.any_left.result in
     let stops = sym c.both.ensures ∙ c.if-both.true in
     driving_stops _ _ _ _ _ _ _ _ c.loop-i.invariant _ (leb-true _ _ (and_first begun gone stops)) c.any_left.ensures
-    ((and_second begun gone stops))
+    (not-true _ (and_second begun gone stops))
 
-pub visit_at-visit-requires : goal.visit_at-visit-requires
-visit_at-visit-requires c =
-    (c.requires.from_le_to, (c.requires.formed.1.few, c.loop-i-test.true))
+pub visit_at-visit-requires-clause-from_le_to : goal.visit_at-visit-requires-clause-from_le_to
+visit_at-visit-requires-clause-from_le_to c =
+    c.requires.from_le_to
 
-pub next_head-head-requires : goal.next_head-head-requires
-next_head-head-requires c =
+pub visit_at-visit-requires-clause-other_len_bound : goal.visit_at-visit-requires-clause-other_len_bound
+visit_at-visit-requires-clause-other_len_bound c =
+    (c.requires.formed.1.few, c.loop-i-test.true)
+
+pub next_head-head-requires-clause-formed : goal.next_head-head-requires-clause-formed
+next_head-head-requires-clause-formed c =
+    c.requires.formed.0
+
+pub next_head-head-requires-clause-place_lt_l : goal.next_head-head-requires-clause-place_lt_l
+next_head-head-requires-clause-place_lt_l c =
     let long = length-changed c.args.list.now c.args.other.now _ _ c.args.other_from _ c.requires.from_le_to.0 c.requires.from_le_to.1 c.requires.from_le_to.3 in
     let visits = visits_changed c.args.list.now c.args.other.now _ _ _ _ c.requires.from_le_to.0 c.requires.from_le_to.1 c.requires.from_le_to.2 c.requires.from_le_to.3 c.requires.formed.1 in
     (
-      c.requires.formed.0,
-      (
         c.loop-i.invariant.placed,
         rw c.visit_at-visit.ensures (visits.below _ (omega (arith, long, c.loop-i-test.true))),
         omega (arith, c.loop-i.invariant.counted, c.requires.place_lt_l.1, long, visits.few, c.loop-i-test.true),
-      ),
-    )
+      )
 
 pub overflow_add-i : goal.overflow_add-i
 overflow_add-i c =

@@ -10,9 +10,17 @@ use Rattle.broken_heads.specs.Head.{clock_of}
 use borrow.Author.Rules.{rules}
 use Rattle.cross_broken_prices.proofs.broken_candidate.Goals as goal
 
-pub drive_candidate-drive-requires : goal.drive_candidate-drive-requires
-drive_candidate-drive-requires c =
-    ((c.requires.formed.0, c.requires.formed.2), ((c.requires.broken.1.placed, c.requires.broken.1.counted, c.requires.driven_le_from.0), (c.requires.driven_le_from.1, c.requires.driven_le_from.2, c.requires.driven_le_from.3, c.requires.driven_le_from.4)))
+pub drive_candidate-drive-requires-clause-formed : goal.drive_candidate-drive-requires-clause-formed
+drive_candidate-drive-requires-clause-formed c =
+    (c.requires.formed.0, c.requires.formed.2)
+
+pub drive_candidate-drive-requires-clause-place_lt_l : goal.drive_candidate-drive-requires-clause-place_lt_l
+drive_candidate-drive-requires-clause-place_lt_l c =
+    (c.requires.broken.1.placed, c.requires.broken.1.counted, c.requires.driven_le_from.0)
+
+pub drive_candidate-drive-requires-clause-from_le_to : goal.drive_candidate-drive-requires-clause-from_le_to
+drive_candidate-drive-requires-clause-from_le_to c =
+    (c.requires.driven_le_from.1, c.requires.driven_le_from.2, c.requires.driven_le_from.3, c.requires.driven_le_from.4)
 
 pub overflow_sub-other_to : goal.overflow_sub-other_to
 overflow_sub-other_to c =
@@ -46,10 +54,15 @@ pub get-requires : goal.get-requires
 get-requires c =
     (c.requires.formed.0.tables.of_distances, c.drive_candidate-drive.ensures.to_end.placed, c.requires.formed.1.depot_there)
 
-pub finish-outcome-requires : goal.finish-outcome-requires
+pub finish-outcome-requires-clause-tables : goal.finish-outcome-requires-clause-tables
 unfolding clock_of
-finish-outcome-requires c =
-    (c.requires.formed.0.tables, (rw c.clock-clock.ensures c.drive_candidate-drive.ensures.to_end.placed, c.requires.formed.1.depot_there))
+finish-outcome-requires-clause-tables c =
+    c.requires.formed.0.tables
+
+pub finish-outcome-requires-clause-prev_lt_l : goal.finish-outcome-requires-clause-prev_lt_l
+unfolding clock_of
+finish-outcome-requires-clause-prev_lt_l c =
+    (rw c.clock-clock.ensures c.drive_candidate-drive.ensures.to_end.placed, c.requires.formed.1.depot_there)
 
 pub returns-clause-head_of : goal.returns-clause-head_of
 returns-clause-head_of c =

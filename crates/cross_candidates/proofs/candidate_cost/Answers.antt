@@ -25,11 +25,15 @@ pub head_at-head-requires : goal.head_at-head-requires
 head_at-head-requires c =
     (omega (arith, c.requires.from_le_to.0, c.requires.from_le_to.1), omega (arith, c.requires.from_le_to.0, c.requires.from_le_to.1, c.requires.formed.2.few), c.requires.unbroken.1.long)
 
-pub price_from-price-requires : goal.price_from-price-requires
-price_from-price-requires c =
+pub price_from-price-requires-clause-formed : goal.price_from-price-requires-clause-formed
+price_from-price-requires-clause-formed c =
+    c.requires.formed
+
+pub price_from-price-requires-clause-place_lt_l : goal.price_from-price-requires-clause-place_lt_l
+price_from-price-requires-clause-place_lt_l c =
     let few : c.args.from ≤ length c.args.list.now = omega (arith, c.requires.from_le_to.0, c.requires.from_le_to.1) in
     let there = place_there c.args.l c.args.van.depot c.args.list.now c.args.from c.requires.formed.1.depot_there c.requires.formed.2.one_below few in
-    (c.requires.formed, (rw c.head_at-head.ensures there, c.requires.from_le_to.1, c.requires.from_le_to.2, c.requires.from_le_to.3))
+    (rw c.head_at-head.ensures there, c.requires.from_le_to.1, c.requires.from_le_to.2, c.requires.from_le_to.3)
 
 pub returns-in_default : goal.returns-in_default
 returns-in_default c =

@@ -37,13 +37,17 @@ pub end_at-to2-requires : goal.end_at-to2-requires
 end_at-to2-requires c =
     omega (arith, c.requires.rowed.0.others_within _ c.loop-j-test.true, c.requires.loaded.2.few)
 
-pub fits-first-requires : goal.fits-first-requires
-fits-first-requires c =
+pub fits-first-requires-clause-loaded : goal.fits-first-requires-clause-loaded
+fits-first-requires-clause-loaded c =
+    (c.requires.loaded.0, c.requires.loaded.1.0, c.requires.loaded.2)
+
+pub fits-first-requires-clause-prefixed : goal.fits-first-requires-clause-prefixed
+fits-first-requires-clause-prefixed c =
+    c.requires.prefixed
+
+pub fits-first-requires-clause-from_le_to : goal.fits-first-requires-clause-from_le_to
+fits-first-requires-clause-from_le_to c =
     (
-      (c.requires.loaded.0, c.requires.loaded.1.0, c.requires.loaded.2),
-      (
-        c.requires.prefixed,
-        (
           rw (c.start_at-from1.ensures, c.end_at-to1.ensures) (c.requires.rowed.0.ordered _ c.loop-j-test.true),
           rw c.end_at-to1.ensures
               (c.requires.rowed.0.within _ c.loop-j-test.true),
@@ -51,26 +55,26 @@ fits-first-requires c =
               (c.requires.rowed.0.others_ordered _ c.loop-j-test.true),
           rw c.end_at-to2.ensures
               (c.requires.rowed.0.others_within _ c.loop-j-test.true),
-        ),
-      ),
-    )
+        )
 
-pub fits-second-requires : goal.fits-second-requires
-fits-second-requires c =
+pub fits-second-requires-clause-loaded : goal.fits-second-requires-clause-loaded
+fits-second-requires-clause-loaded c =
+    (c.requires.loaded.0, c.requires.loaded.1.1, two_turned _ _ _ c.requires.loaded.2)
+
+pub fits-second-requires-clause-prefixed : goal.fits-second-requires-clause-prefixed
+fits-second-requires-clause-prefixed c =
+    (c.requires.prefixed.1, c.requires.prefixed.0)
+
+pub fits-second-requires-clause-from_le_to : goal.fits-second-requires-clause-from_le_to
+fits-second-requires-clause-from_le_to c =
     (
-      (c.requires.loaded.0, c.requires.loaded.1.1, two_turned _ _ _ c.requires.loaded.2),
-      (
-        (c.requires.prefixed.1, c.requires.prefixed.0),
-        (
           rw (c.start_at-from2.ensures, c.end_at-to2.ensures) (c.requires.rowed.0.others_ordered _ c.loop-j-test.true),
           rw c.end_at-to2.ensures
               (c.requires.rowed.0.others_within _ c.loop-j-test.true),
           rw (c.start_at-from1.ensures, c.end_at-to1.ensures)
               (c.requires.rowed.0.ordered _ c.loop-j-test.true),
           rw c.end_at-to1.ensures (c.requires.rowed.0.within _ c.loop-j-test.true),
-        ),
-      ),
-    )
+        )
 
 pub offset_bounds-marks-j : goal.offset_bounds-marks-j
 offset_bounds-marks-j c =

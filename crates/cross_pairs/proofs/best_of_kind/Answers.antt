@@ -40,11 +40,13 @@ rows_at_once-some-requires c =
       omega (arith, c.rows_of-rows.ensures, rows, c.requires.ready.two.few),
     )
 
-pub best_of_block-found-requires : goal.best_of_block-found-requires
-best_of_block-found-requires c =
+pub best_of_block-found-requires-clause-ready : goal.best_of_block-found-requires-clause-ready
+best_of_block-found-requires-clause-ready c =
+    c.requires.ready
+
+pub best_of_block-found-requires-clause-roomy : goal.best_of_block-found-requires-clause-roomy
+best_of_block-found-requires-clause-roomy c =
     (
-      c.requires.ready,
-      (
         c.loop-k.invariant.0,
         record {
           within = omega (arith, c.rows_of-rows.ensures, c.rows_at_once-some.ensures.1, c.loop-k-test.true);
@@ -54,8 +56,7 @@ best_of_block-found-requires c =
         },
         refl,
         refl,
-      ),
-    )
+      )
 
 pub overflow_add-k : goal.overflow_add-k
 overflow_add-k c =

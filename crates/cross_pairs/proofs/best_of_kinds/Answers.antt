@@ -16,9 +16,13 @@ pub loop-n-init : goal.loop-n-init
 loop-n-init c =
     (c.requires.roomy, kinds_are _ _ c.args.pair _ _ c.args.best)
 
-pub best_of_kind-found-requires : goal.best_of_kind-found-requires
-best_of_kind-found-requires c =
-    (c.requires.ready, c.loop-n.invariant.0)
+pub best_of_kind-found-requires-clause-ready : goal.best_of_kind-found-requires-clause-ready
+best_of_kind-found-requires-clause-ready c =
+    c.requires.ready
+
+pub best_of_kind-found-requires-clause-roomy : goal.best_of_kind-found-requires-clause-roomy
+best_of_kind-found-requires-clause-roomy c =
+    c.loop-n.invariant.0
 
 pub overflow_add-n : goal.overflow_add-n
 overflow_add-n c =

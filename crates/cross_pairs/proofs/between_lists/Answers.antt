@@ -13,9 +13,13 @@ prefix_both-requires c =
   c.requires.sums_len.0,
 )
 
-pub heads_of_both-reach-requires : goal.heads_of_both-reach-requires
-heads_of_both-reach-requires c =
-    ((c.requires.asked.0.formed, c.requires.asked.1, c.requires.asked.2), c.requires.sums_len.1)
+pub heads_of_both-reach-requires-clause-formed : goal.heads_of_both-reach-requires-clause-formed
+heads_of_both-reach-requires-clause-formed c =
+    (c.requires.asked.0.formed, c.requires.asked.1, c.requires.asked.2)
+
+pub heads_of_both-reach-requires-clause-heads_len : goal.heads_of_both-reach-requires-clause-heads_len
+heads_of_both-reach-requires-clause-heads_len c =
+    c.requires.sums_len.1
 
 pub slice_bounds-best_of_kinds-end : goal.slice_bounds-best_of_kinds-end
 slice_bounds-best_of_kinds-end c =

@@ -74,21 +74,23 @@ pub end_at-requires-in-loop-next : goal.end_at-requires-in-loop-next
 end_at-requires-in-loop-next c =
     omega (arith, c.requires.formed.2.few, c.requires.rowed.0.others_within _ c.loop-next-test.true)
 
-pub broken_candidate-priced-requires : goal.broken_candidate-priced-requires
-broken_candidate-priced-requires c =
+pub broken_candidate-priced-requires-clause-formed : goal.broken_candidate-priced-requires-clause-formed
+broken_candidate-priced-requires-clause-formed c =
+    c.requires.formed
+
+pub broken_candidate-priced-requires-clause-broken : goal.broken_candidate-priced-requires-clause-broken
+broken_candidate-priced-requires-clause-broken c =
+    (c.requires.broken, c.loop-next.invariant.2)
+
+pub broken_candidate-priced-requires-clause-driven_le_from : goal.broken_candidate-priced-requires-clause-driven_le_from
+broken_candidate-priced-requires-clause-driven_le_from c =
     (
-      c.requires.formed,
-      (
-        (c.requires.broken, c.loop-next.invariant.2),
-        (
           rw c.start_at-from.ensures c.loop-next.invariant.1,
           rw (c.start_at-from.ensures, c.end_at.ensures) (c.requires.rowed.0.ordered _ c.loop-next-test.true),
           rw c.end_at.ensures (c.requires.rowed.0.within _ c.loop-next-test.true),
           rw (c.start_at.ensures, c.end_at-in-loop-next.ensures) (c.requires.rowed.0.others_ordered _ c.loop-next-test.true),
           rw c.end_at-in-loop-next.ensures (c.requires.rowed.0.others_within _ c.loop-next-test.true),
-        ),
-      ),
-    )
+        )
 
 pub offset_bounds-costs-j-in-loop-next : goal.offset_bounds-costs-j-in-loop-next
 offset_bounds-costs-j-in-loop-next c =

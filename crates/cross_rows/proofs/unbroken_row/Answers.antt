@@ -37,20 +37,22 @@ pub end_at-requires-then-skip-j : goal.end_at-requires-then-skip-j
 end_at-requires-then-skip-j c =
     omega (arith, c.requires.formed.2.few, c.requires.rowed.0.others_within _ c.loop-j-test.true)
 
-pub candidate_cost-cost-requires : goal.candidate_cost-cost-requires
-candidate_cost-cost-requires c =
+pub candidate_cost-cost-requires-clause-formed : goal.candidate_cost-cost-requires-clause-formed
+candidate_cost-cost-requires-clause-formed c =
+    c.requires.formed
+
+pub candidate_cost-cost-requires-clause-unbroken : goal.candidate_cost-cost-requires-clause-unbroken
+candidate_cost-cost-requires-clause-unbroken c =
+    c.requires.unbroken
+
+pub candidate_cost-cost-requires-clause-from_le_to : goal.candidate_cost-cost-requires-clause-from_le_to
+candidate_cost-cost-requires-clause-from_le_to c =
     (
-      c.requires.formed,
-      (
-        c.requires.unbroken,
-        (
           rw (c.start_at.ensures, c.end_at.ensures) (c.requires.rowed.0.ordered _ c.loop-j-test.true),
           rw c.end_at.ensures (c.requires.rowed.0.within _ c.loop-j-test.true),
           rw (c.start_at-then-skip-j.ensures, c.end_at-then-skip-j.ensures) (c.requires.rowed.0.others_ordered _ c.loop-j-test.true),
           rw c.end_at-then-skip-j.ensures (c.requires.rowed.0.others_within _ c.loop-j-test.true),
-        ),
-      ),
-    )
+        )
 
 pub offset_bounds-costs-j : goal.offset_bounds-costs-j
 offset_bounds-costs-j c =

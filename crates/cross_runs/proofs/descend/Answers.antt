@@ -30,9 +30,29 @@ loop-turn-init c =
       c.requires.sums_len,
     )
 
-pub take_turn-turn-requires : goal.take_turn-turn-requires
-take_turn-turn-requires c =
-    (c.requires.asked, (c.requires.manned, (c.loop-turn.invariant.1, (c.loop-turn.invariant.6, (c.loop-turn.invariant.5, c.loop-turn.invariant.4)))))
+pub take_turn-turn-requires-clause-asked : goal.take_turn-turn-requires-clause-asked
+take_turn-turn-requires-clause-asked c =
+    c.requires.asked
+
+pub take_turn-turn-requires-clause-manned : goal.take_turn-turn-requires-clause-manned
+take_turn-turn-requires-clause-manned c =
+    c.requires.manned
+
+pub take_turn-turn-requires-clause-live : goal.take_turn-turn-requires-clause-live
+take_turn-turn-requires-clause-live c =
+    c.loop-turn.invariant.1
+
+pub take_turn-turn-requires-clause-sums_len : goal.take_turn-turn-requires-clause-sums_len
+take_turn-turn-requires-clause-sums_len c =
+    c.loop-turn.invariant.6
+
+pub take_turn-turn-requires-clause-deltas_len : goal.take_turn-turn-requires-clause-deltas_len
+take_turn-turn-requires-clause-deltas_len c =
+    c.loop-turn.invariant.5
+
+pub take_turn-turn-requires-clause-kept : goal.take_turn-turn-requires-clause-kept
+take_turn-turn-requires-clause-kept c =
+    c.loop-turn.invariant.4
 
 pub returns-then-turn-ne1 : goal.returns-then-turn-ne1
 returns-then-turn-ne1 c =

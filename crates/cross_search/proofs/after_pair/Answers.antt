@@ -27,7 +27,7 @@ returns-then-both-clause-value c =
     let old = and_parts _ _ (sym c.are_old-known.ensures ∙ known.0) in
     (pair_left _ _ _ _ _ _ _ _ _ _ _ _ _ _ c.requires.deltas_len.1 c.requires.a_in_bounds.0 c.requires.a_in_bounds.1 _
     c.requires.kept old.0 old.1
-    (known.1)).0
+    (not-true _ known.1)).0
 
 pub returns-then-both-clause-deltas_after : goal.returns-then-both-clause-deltas_after
 returns-then-both-clause-deltas_after c =
@@ -35,11 +35,27 @@ returns-then-both-clause-deltas_after c =
     let old = and_parts _ _ (sym c.are_old-known.ensures ∙ known.0) in
     (pair_left _ _ _ _ _ _ _ _ _ _ _ _ _ _ c.requires.deltas_len.1 c.requires.a_in_bounds.0 c.requires.a_in_bounds.1 _
     c.requires.kept old.0 old.1
-    (known.1)).1
+    (not-true _ known.1)).1
 
-pub best_of_pair-fresh-requires : goal.best_of_pair-fresh-requires
-best_of_pair-fresh-requires c =
-    (c.requires.asked, (c.requires.manned, (c.requires.held, (c.requires.a_in_bounds, c.requires.sums_len))))
+pub best_of_pair-fresh-requires-clause-asked : goal.best_of_pair-fresh-requires-clause-asked
+best_of_pair-fresh-requires-clause-asked c =
+    c.requires.asked
+
+pub best_of_pair-fresh-requires-clause-manned : goal.best_of_pair-fresh-requires-clause-manned
+best_of_pair-fresh-requires-clause-manned c =
+    c.requires.manned
+
+pub best_of_pair-fresh-requires-clause-held : goal.best_of_pair-fresh-requires-clause-held
+best_of_pair-fresh-requires-clause-held c =
+    c.requires.held
+
+pub best_of_pair-fresh-requires-clause-a_in_bounds : goal.best_of_pair-fresh-requires-clause-a_in_bounds
+best_of_pair-fresh-requires-clause-a_in_bounds c =
+    c.requires.a_in_bounds
+
+pub best_of_pair-fresh-requires-clause-sums_len : goal.best_of_pair-fresh-requires-clause-sums_len
+best_of_pair-fresh-requires-clause-sums_len c =
+    c.requires.sums_len
 
 pub offset_bounds-deltas-place-2 : goal.offset_bounds-deltas-place-2
 offset_bounds-deltas-place-2 c =

@@ -5,20 +5,22 @@ use Rattle.loads.proofs.Tables.{two_of}
 use Rattle.cross_search.proofs.Pairs.{pair_driven, pair_same, pair_apart, pair_other}
 use Rattle.cross_search.proofs.best_of_pair.Goals as goal
 
-pub pair_at-pair-requires : goal.pair_at-pair-requires
-pair_at-pair-requires c =
+pub pair_at-pair-requires-clause-fitted : goal.pair_at-pair-requires-clause-fitted
+pair_at-pair-requires-clause-fitted c =
+    c.requires.manned.crewed.fitted
+
+pub pair_at-pair-requires-clause-nonzero : goal.pair_at-pair-requires-clause-nonzero
+pair_at-pair-requires-clause-nonzero c =
+    (c.requires.manned.some_van, c.requires.manned.crewed.few)
+
+pub pair_at-pair-requires-clause-a_in_bounds : goal.pair_at-pair-requires-clause-a_in_bounds
+pair_at-pair-requires-clause-a_in_bounds c =
     (
-      c.requires.manned.crewed.fitted,
-      (
-        (c.requires.manned.some_van, c.requires.manned.crewed.few),
-        (
           omega (arith, c.requires.a_in_bounds.0, c.requires.held.1),
           omega (arith, c.requires.a_in_bounds.1, c.requires.held.1),
           omega (arith, c.requires.held.1, c.requires.held.2),
           omega (arith, c.requires.held.1, c.requires.held.0.laid.few),
-        ),
-      ),
-    )
+        )
 
 pub returns-then-is_same_depot : goal.returns-then-is_same_depot
 returns-then-is_same_depot c =

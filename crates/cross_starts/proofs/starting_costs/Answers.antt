@@ -23,9 +23,13 @@ pub bounds-ids-i : goal.bounds-ids-i
 bounds-ids-i c =
     c.loop-i-test.true
 
-pub fleet_vehicle-van-requires : goal.fleet_vehicle-van-requires
-fleet_vehicle-van-requires c =
-    (c.requires.fitted, c.requires.nonzero.0)
+pub fleet_vehicle-van-requires-clause-fitted : goal.fleet_vehicle-van-requires-clause-fitted
+fleet_vehicle-van-requires-clause-fitted c =
+    c.requires.fitted
+
+pub fleet_vehicle-van-requires-clause-ids_nonzero : goal.fleet_vehicle-van-requires-clause-ids_nonzero
+fleet_vehicle-van-requires-clause-ids_nonzero c =
+    c.requires.nonzero.0
 
 pub offset_bounds-prices-i : goal.offset_bounds-prices-i
 offset_bounds-prices-i c =

@@ -13,9 +13,13 @@ pub returns-then-not-room : goal.returns-then-not-room
 returns-then-not-room c =
     none_made _ _ _ _ _ _ _ (inr (c.if-not-room.true))
 
-pub make_best-left-requires : goal.make_best-left-requires
-make_best-left-requires c =
-    ((c.requires.makes.0 (eq-eqb _ _ c.if-found-ne1.false), c.requires.makes.1), c.requires.ids_len)
+pub make_best-left-requires-clause-makes : goal.make_best-left-requires-clause-makes
+make_best-left-requires-clause-makes c =
+    (c.requires.makes.0 (eq-eqb _ _ c.if-found-ne1.false), c.requires.makes.1)
+
+pub make_best-left-requires-clause-ids_len : goal.make_best-left-requires-clause-ids_len
+make_best-left-requires-clause-ids_len c =
+    c.requires.ids_len
 
 pub returns : goal.returns
 returns c =

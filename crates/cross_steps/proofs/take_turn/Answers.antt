@@ -40,21 +40,29 @@ pub slice_bounds-best_move-end-3 : goal.slice_bounds-best_move-end-3
 slice_bounds-best_move-end-3 c =
     omega (arith, c.requires.live.few, c.requires.live.even_costs)
 
-pub best_move-best-requires : goal.best_move-best-requires
-best_move-best-requires c =
-    (
-      c.requires.asked.0,
-      (
-        c.requires.manned,
-        (
-          asks_part _ _ _ _ _ _ c.requires.live,
-          (
-            c.requires.sums_len,
-            (c.requires.deltas_len, kept_part _ _ _ _ _ _ _ _ c.args.last.left _ _ _ _ _ c.requires.kept),
-          ),
-        ),
-      ),
-    )
+pub best_move-best-requires-clause-asked : goal.best_move-best-requires-clause-asked
+best_move-best-requires-clause-asked c =
+    c.requires.asked.0
+
+pub best_move-best-requires-clause-manned : goal.best_move-best-requires-clause-manned
+best_move-best-requires-clause-manned c =
+    c.requires.manned
+
+pub best_move-best-requires-clause-held : goal.best_move-best-requires-clause-held
+best_move-best-requires-clause-held c =
+    asks_part _ _ _ _ _ _ c.requires.live
+
+pub best_move-best-requires-clause-sums_len : goal.best_move-best-requires-clause-sums_len
+best_move-best-requires-clause-sums_len c =
+    c.requires.sums_len
+
+pub best_move-best-requires-clause-deltas_len : goal.best_move-best-requires-clause-deltas_len
+best_move-best-requires-clause-deltas_len c =
+    c.requires.deltas_len
+
+pub best_move-best-requires-clause-kept : goal.best_move-best-requires-clause-kept
+best_move-best-requires-clause-kept c =
+    kept_part _ _ _ _ _ _ _ _ c.args.last.left _ _ _ _ _ c.requires.kept
 
 pub make_found-requires-clause-makes : goal.make_found-requires-clause-makes
 make_found-requires-clause-makes c =

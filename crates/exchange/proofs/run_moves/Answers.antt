@@ -30,9 +30,13 @@ pub loop-terms-init : goal.loop-terms-init
 loop-terms-init c =
     (rw (nothing_ahead _) (going_starts _ _ _), edited_none _ _ c.requires.held.laid, c.requires.held, none_ahead _, refl)
 
-pub next_move-found-requires : goal.next_move-found-requires
-next_move-found-requires c =
-    (c.requires.asked, (c.loop-terms.invariant.2, c.loop-terms.invariant.3))
+pub next_move-found-requires-clause-asked : goal.next_move-found-requires-clause-asked
+next_move-found-requires-clause-asked c =
+    c.requires.asked
+
+pub next_move-found-requires-clause-held : goal.next_move-found-requires-clause-held
+next_move-found-requires-clause-held c =
+    (c.loop-terms.invariant.2, c.loop-terms.invariant.3)
 
 pub returns-then-found-eq0 : goal.returns-then-found-eq0
 returns-then-found-eq0 c =

@@ -14,9 +14,13 @@ pub loop-place-init : goal.loop-place-init
 loop-place-init c =
     (refl, c.requires.held.1, refl)
 
-pub best_at-best-requires : goal.best_at-best-requires
-best_at-best-requires c =
-    (c.requires.asked, (c.requires.held.0, c.loop-place.invariant.1.ordered, c.loop-place-test.true))
+pub best_at-best-requires-clause-asked : goal.best_at-best-requires-clause-asked
+best_at-best-requires-clause-asked c =
+    c.requires.asked
+
+pub best_at-best-requires-clause-held : goal.best_at-best-requires-clause-held
+best_at-best-requires-clause-held c =
+    (c.requires.held.0, c.loop-place.invariant.1.ordered, c.loop-place-test.true)
 
 pub returns-then-best-ne0 : goal.returns-then-best-ne0
 returns-then-best-ne0 c =

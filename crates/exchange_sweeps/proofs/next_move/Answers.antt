@@ -5,9 +5,13 @@ use Rattle.exchange_sweeps.proofs.Places.{start_in}
 use Rattle.exchange_sweeps.proofs.Moves.{is-ahead, is_anew}
 use Rattle.exchange_sweeps.proofs.next_move.Goals as goal
 
-pub first_move-found-requires : goal.first_move-found-requires
-first_move-found-requires c =
-    c.requires.TAIL:asked|held
+pub first_move-found-requires-clause-asked : goal.first_move-found-requires-clause-asked
+first_move-found-requires-clause-asked c =
+    c.requires.asked
+
+pub first_move-found-requires-clause-held : goal.first_move-found-requires-clause-held
+first_move-found-requires-clause-held c =
+    c.requires.held
 
 pub returns-then-found-ne0 : goal.returns-then-found-ne0
 returns-then-found-ne0 c =

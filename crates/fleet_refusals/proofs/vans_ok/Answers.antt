@@ -17,9 +17,13 @@ pub loop-k-init : goal.loop-k-init
 loop-k-init c =
     (search rules, all_none _)
 
-pub van_at-van-requires : goal.van_at-van-requires
-van_at-van-requires c =
-    (c.requires.0, (c.loop-k-test.true, c.requires.1))
+pub van_at-van-requires-clause-fitted : goal.van_at-van-requires-clause-fitted
+van_at-van-requires-clause-fitted c =
+    c.requires.0
+
+pub van_at-van-requires-clause-k_in_bounds : goal.van_at-van-requires-clause-k_in_bounds
+van_at-van-requires-clause-k_in_bounds c =
+    (c.loop-k-test.true, c.requires.1)
 
 pub returns-then-van_refusal-ne0 : goal.returns-then-van_refusal-ne0
 unfolding depots_ok vans_ok

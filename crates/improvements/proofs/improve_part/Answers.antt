@@ -5,9 +5,17 @@ use Rattle.within.proofs.Kept.{ran_visits}
 use mathlib.Core.Path.{sym, ◌∙◌}
 use Rattle.improvements.proofs.improve_part.Goals as goal
 
-pub improve-ended-requires : goal.improve-ended-requires
-improve-ended-requires c =
-    c.requires.TAIL:formed|depot_lt_l|distances_value
+pub improve-ended-requires-clause-formed : goal.improve-ended-requires-clause-formed
+improve-ended-requires-clause-formed c =
+    c.requires.formed
+
+pub improve-ended-requires-clause-depot_lt_l : goal.improve-ended-requires-clause-depot_lt_l
+improve-ended-requires-clause-depot_lt_l c =
+    c.requires.depot_lt_l
+
+pub improve-ended-requires-clause-distances_value : goal.improve-ended-requires-clause-distances_value
+improve-ended-requires-clause-distances_value c =
+    c.requires.distances_value
 
 pub route_distance-distance-requires : goal.route_distance-distance-requires
 route_distance-distance-requires c =

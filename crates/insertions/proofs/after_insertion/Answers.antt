@@ -15,14 +15,15 @@ pub loop-visit-init : goal.loop-visit-init
 loop-visit-init c =
     (omega arith, column_start _ _ _, column_start _ _ _, c.requires.figures_len.0, c.requires.figures_len.1)
 
-pub least_came-came-requires : goal.least_came-came-requires
-least_came-came-requires c =
+pub least_came-came-requires-clause-square : goal.least_came-came-requires-clause-square
+least_came-came-requires-clause-square c =
+    (c.requires.square.0, c.requires.square.1, c.loop-visit-test.true)
+
+pub least_came-came-requires-clause-position_in_bounds : goal.least_came-came-requires-clause-position_in_bounds
+least_came-came-requires-clause-position_in_bounds c =
     let f = column_read _ _ _ _ _ nan c.loop-visit.invariant.1 in
     let p = column_read _ _ _ _ _ 0 c.loop-visit.invariant.2 in
-    (
-      (c.requires.square.0, c.requires.square.1, c.loop-visit-test.true),
-      (c.requires.r_bound.1, c.requires.r_bound.2, rw (f, p) (c.requires.by_index _ c.loop-visit-test.true)),
-    )
+    (c.requires.r_bound.1, c.requires.r_bound.2, rw (f, p) (c.requires.by_index _ c.loop-visit-test.true))
 
 pub loop-visit-preserved : goal.loop-visit-preserved
 unfolding came_at

@@ -15,9 +15,13 @@ pub loop-visit-init : goal.loop-visit-init
 loop-visit-init c =
     (omega arith, column_start _ _ _, column_start _ _ _, c.requires.figures_len.0, c.requires.figures_len.1)
 
-pub least_left-left-requires : goal.least_left-left-requires
-least_left-left-requires c =
-    ((c.requires.square.0, c.requires.square.1, c.loop-visit-test.true), (c.requires.r_bound.1, c.requires.r_bound.2))
+pub least_left-left-requires-clause-square : goal.least_left-left-requires-clause-square
+least_left-left-requires-clause-square c =
+    (c.requires.square.0, c.requires.square.1, c.loop-visit-test.true)
+
+pub least_left-left-requires-clause-position_in_bounds : goal.least_left-left-requires-clause-position_in_bounds
+least_left-left-requires-clause-position_in_bounds c =
+    (c.requires.r_bound.1, c.requires.r_bound.2)
 
 pub loop-visit-preserved : goal.loop-visit-preserved
 unfolding left_at

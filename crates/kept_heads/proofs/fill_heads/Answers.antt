@@ -20,9 +20,13 @@ pub overflow_add-k : goal.overflow_add-k
 overflow_add-k c =
     omega (arith, c.loop-k-test.true, c.requires.depot_lt_l.1.few)
 
-pub drive-head-requires : goal.drive-head-requires
-drive-head-requires c =
-    (c.requires.formed, (c.loop-k.invariant.placed, c.requires.depot_lt_l.1, omega arith, omega (arith, c.loop-k-test.true)))
+pub drive-head-requires-clause-formed : goal.drive-head-requires-clause-formed
+drive-head-requires-clause-formed c =
+    c.requires.formed
+
+pub drive-head-requires-clause-place_lt_l : goal.drive-head-requires-clause-place_lt_l
+drive-head-requires-clause-place_lt_l c =
+    (c.loop-k.invariant.placed, c.requires.depot_lt_l.1, omega arith, omega (arith, c.loop-k-test.true))
 
 pub returns-then-head-k : goal.returns-then-head-k
 returns-then-head-k c =

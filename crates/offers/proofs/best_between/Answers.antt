@@ -50,30 +50,46 @@ loop-position-init c =
       refl,
     )
 
-pub offer_visit-best-requires : goal.offer_visit-best-requires
-offer_visit-best-requires c =
+pub offer_visit-best-requires-clause-prepared : goal.offer_visit-best-requires-clause-prepared
+offer_visit-best-requires-clause-prepared c =
+    c.requires.prepared
+
+pub offer_visit-best-requires-clause-loaded : goal.offer_visit-best-requires-clause-loaded
+offer_visit-best-requires-clause-loaded c =
+    let long = ap length c.list_of-giver.ensures ∙ length_list _ _ c.requires.loaded.1.laid.add_up c.args.from in
+    let wide = ap length c.list_of-receiver.ensures ∙ length_list _ _ c.requires.loaded.1.laid.add_up c.args.to in
+    let room = one_more _ _ _ c.requires.loaded.1 c.args.from c.args.to c.if-from-to.false
+    (omega (arith, c.loop-position-test.true, long)) in
+    (c.requires.loaded.0, omega (arith, c.loop-position.invariant.1, c.requires.in_bounds.0), c.load_of-load.ensures.1)
+
+pub offer_visit-best-requires-clause-visits : goal.offer_visit-best-requires-clause-visits
+offer_visit-best-requires-clause-visits c =
+    let long = ap length c.list_of-giver.ensures ∙ length_list _ _ c.requires.loaded.1.laid.add_up c.args.from in
+    let wide = ap length c.list_of-receiver.ensures ∙ length_list _ _ c.requires.loaded.1.laid.add_up c.args.to in
+    let room = one_more _ _ _ c.requires.loaded.1 c.args.from c.args.to c.if-from-to.false
+    (omega (arith, c.loop-position-test.true, long)) in
+    (rw c.list_of-giver.ensures (list_visits _ _ _ c.requires.loaded.1 c.args.from), c.loop-position-test.true)
+
+pub offer_visit-best-requires-clause-visits_2 : goal.offer_visit-best-requires-clause-visits_2
+offer_visit-best-requires-clause-visits_2 c =
+    let long = ap length c.list_of-giver.ensures ∙ length_list _ _ c.requires.loaded.1.laid.add_up c.args.from in
+    let wide = ap length c.list_of-receiver.ensures ∙ length_list _ _ c.requires.loaded.1.laid.add_up c.args.to in
+    let room = one_more _ _ _ c.requires.loaded.1 c.args.from c.args.to c.if-from-to.false
+    (omega (arith, c.loop-position-test.true, long)) in
+    (rw c.list_of-receiver.ensures (list_visits _ _ _ c.requires.loaded.1 c.args.to), omega (arith, wide, room))
+
+pub offer_visit-best-requires-clause-figures_len : goal.offer_visit-best-requires-clause-figures_len
+offer_visit-best-requires-clause-figures_len c =
     let long = ap length c.list_of-giver.ensures ∙ length_list _ _ c.requires.loaded.1.laid.add_up c.args.from in
     let wide = ap length c.list_of-receiver.ensures ∙ length_list _ _ c.requires.loaded.1.laid.add_up c.args.to in
     let room = one_more _ _ _ c.requires.loaded.1 c.args.from c.args.to c.if-from-to.false
     (omega (arith, c.loop-position-test.true, long)) in
     (
-      c.requires.prepared,
-      (
-        (c.requires.loaded.0, omega (arith, c.loop-position.invariant.1, c.requires.in_bounds.0), c.load_of-load.ensures.1),
-        (
-          (rw c.list_of-giver.ensures (list_visits _ _ _ c.requires.loaded.1 c.args.from), c.loop-position-test.true),
-          (
-            (rw c.list_of-receiver.ensures (list_visits _ _ _ c.requires.loaded.1 c.args.to), omega (arith, wide, room)),
-            (
               c.loop-position.invariant.0.cached.figures_long,
               c.loop-position.invariant.0.cached.places_long,
               omega
                   (arith, c.requires.in_bounds.2, c.requires.loaded.1.laid.few),
-            ),
-          ),
-        ),
-      ),
-    )
+            )
 
 pub overflow_add-position : goal.overflow_add-position
 overflow_add-position c =

@@ -15,9 +15,13 @@ pub loop-size-init : goal.loop-size-init
 loop-size-init c =
     refl
 
-pub best_piece-best-requires : goal.best_piece-best-requires
-best_piece-best-requires c =
-    (c.requires, c.loop-size-test.true)
+pub best_piece-best-requires-clause-asked : goal.best_piece-best-requires-clause-asked
+best_piece-best-requires-clause-asked c =
+    c.requires
+
+pub best_piece-best-requires-clause-size_bound : goal.best_piece-best-requires-clause-size_bound
+best_piece-best-requires-clause-size_bound c =
+    c.loop-size-test.true
 
 pub returns-in-Move : goal.returns-in-Move
 unfolding Apt

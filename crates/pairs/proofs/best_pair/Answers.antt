@@ -10,9 +10,13 @@ pub loop-from-init : goal.loop-from-init
 loop-from-init c =
     refl
 
-pub best_of_row-best-requires : goal.best_of_row-best-requires
-best_of_row-best-requires c =
-    (c.requires.0, (c.requires.1, omega (arith, c.loop-from-test.true, c.requires.1)))
+pub best_of_row-best-requires-clause-sized : goal.best_of_row-best-requires-clause-sized
+best_of_row-best-requires-clause-sized c =
+    c.requires.0
+
+pub best_of_row-best-requires-clause-n_bound : goal.best_of_row-best-requires-clause-n_bound
+best_of_row-best-requires-clause-n_bound c =
+    (c.requires.1, omega (arith, c.loop-from-test.true, c.requires.1))
 
 pub overflow_add-from : goal.overflow_add-from
 overflow_add-from c =

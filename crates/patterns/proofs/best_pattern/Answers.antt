@@ -11,12 +11,13 @@ use Rattle.patterns.proofs.Judging.{listed, cut_placed}
 use Rattle.patterns.proofs.Gate.{none_below}
 use Rattle.patterns.proofs.best_pattern.Goals as goal
 
-pub cut_at-cut-requires : goal.cut_at-cut-requires
-cut_at-cut-requires c =
-    (
-      (c.requires.prepared.formed.tables.of_distances, c.requires.prepared.marked, listed c.requires.prepared c.requires.visits.0),
-      (c.requires.inside.i_first, c.requires.inside.j_next, c.requires.inside.k_there),
-    )
+pub cut_at-cut-requires-clause-square : goal.cut_at-cut-requires-clause-square
+cut_at-cut-requires-clause-square c =
+    (c.requires.prepared.formed.tables.of_distances, c.requires.prepared.marked, listed c.requires.prepared c.requires.visits.0)
+
+pub cut_at-cut-requires-clause-i_lt_j : goal.cut_at-cut-requires-clause-i_lt_j
+cut_at-cut-requires-clause-i_lt_j c =
+    (c.requires.inside.i_first, c.requires.inside.j_next, c.requires.inside.k_there)
 
 pub any_below-requires : goal.any_below-requires
 any_below-requires c =
@@ -35,13 +36,23 @@ pub loop-pattern-init : goal.loop-pattern-init
 loop-pattern-init c =
     (scan_start _ _ _ _ _ _ c.requires.prepared.floor, refl)
 
-pub better_of-best-requires : goal.better_of-best-requires
-better_of-best-requires c =
+pub better_of-best-requires-clause-prepared : goal.better_of-best-requires-clause-prepared
+better_of-best-requires-clause-prepared c =
+    c.requires.prepared
+
+pub better_of-best-requires-clause-visits : goal.better_of-best-requires-clause-visits
+better_of-best-requires-clause-visits c =
     let below : c.loop-pattern.pattern < 8 = omega (arith, c.loop-pattern-test.true) in
-    (
-      c.requires.prepared,
-      ((c.requires.visits.0, omega (arith, c.loop-pattern.invariant.1, c.requires.visits.1)), ((c.requires.inside, below), c.cut_at-cut.ensures)),
-    )
+    (c.requires.visits.0, omega (arith, c.loop-pattern.invariant.1, c.requires.visits.1))
+
+pub better_of-best-requires-clause-inside : goal.better_of-best-requires-clause-inside
+better_of-best-requires-clause-inside c =
+    let below : c.loop-pattern.pattern < 8 = omega (arith, c.loop-pattern-test.true) in
+    (c.requires.inside, below)
+
+pub better_of-best-requires-clause-cut_value : goal.better_of-best-requires-clause-cut_value
+better_of-best-requires-clause-cut_value c =
+    c.cut_at-cut.ensures
 
 pub loop-pattern-preserved : goal.loop-pattern-preserved
 loop-pattern-preserved c =

@@ -6,13 +6,12 @@ use Rattle.tests.specs.All.{off}
 use Rattle.engine.specs.Engine.{passing}
 use Rattle.edits.proofs.Cuts.{front}
 use Rattle.reconnections.proofs.Reconnected.{visits_reconnected}
-use mathlib.Core.Bool.{not}
 use Rattle.patterns.proofs.candidate_passes.Goals as goal
 
 pub returns-then-not-setup : goal.returns-then-not-setup
 unfolding passing
 returns-then-not-setup c =
-    off _ _ (not-true c.args.setup.needed (ap not c.if-not-setup.true))
+    off _ _ (not-true c.args.setup.needed c.if-not-setup.true)
 
 pub passes-requires-clause-formed : goal.passes-requires-clause-formed
 passes-requires-clause-formed c =

@@ -27,24 +27,27 @@ insertion_delta-insertion-requires c =
       omega (arith, c.loop-setup-test.true, c.wide.ensures, c.wide-at.ensures),
     )
 
-pub better_of-after-requires : goal.better_of-after-requires
-better_of-after-requires c =
+pub better_of-after-requires-clause-prepared : goal.better_of-after-requires-clause-prepared
+better_of-after-requires-clause-prepared c =
+    c.requires.prepared
+
+pub better_of-after-requires-clause-in_bounds : goal.better_of-after-requires-clause-in_bounds
+better_of-after-requires-clause-in_bounds c =
+    omega (arith, c.loop-setup.invariant.3, c.requires.in_bounds)
+
+pub better_of-after-requires-clause-visits : goal.better_of-after-requires-clause-visits
+better_of-after-requires-clause-visits c =
     (
-      c.requires.prepared,
-      (
-        omega (arith, c.loop-setup.invariant.3, c.requires.in_bounds),
-        (
-          (
             c.requires.visits.0,
             c.requires.visits.1,
             c.requires.visits.2,
             omega
                 (arith, c.loop-setup-test.true, c.wide.ensures, c.wide-at.ensures),
-          ),
-          c.insertion_delta-insertion.ensures ∙ rw c.wide-visit.ensures,
-        ),
-      ),
-    )
+          )
+
+pub better_of-after-requires-clause-insertion_value : goal.better_of-after-requires-clause-insertion_value
+better_of-after-requires-clause-insertion_value c =
+    c.insertion_delta-insertion.ensures ∙ rw c.wide-visit.ensures
 
 pub overflow_add-place : goal.overflow_add-place
 overflow_add-place c =

@@ -7,13 +7,12 @@ use Rattle.tests.specs.All.{off}
 use Rattle.engine.specs.Engine.{passing}
 use Rattle.edits.proofs.Cuts.{front}
 use Rattle.loads.proofs.Visits.{visits_inserted}
-use mathlib.Core.Bool.{not}
 use Rattle.places.proofs.candidate_passes.Goals as goal
 
 pub returns-then-not-setup : goal.returns-then-not-setup
 unfolding passing
 returns-then-not-setup c =
-    off _ _ (not-true c.args.setup.needed (ap not c.if-not-setup.true))
+    off _ _ (not-true c.args.setup.needed c.if-not-setup.true)
 
 pub inserted_into-end-requires : goal.inserted_into-end-requires
 inserted_into-end-requires c =

@@ -15,14 +15,17 @@ returns-then-refused-ne0 c =
     let is = refused_over relocate_ran _ _ _ _ _ c.refusal_of_lists-refused.result c.if-refused-ne0.true c.refusal_of_lists-refused.ensures.answer in
     record { answer = (is.0, is.1, is.2, (λ f. refl), tt) }
 
-pub relocate_visits-ended-requires : goal.relocate_visits-ended-requires
-relocate_visits-ended-requires c =
+pub relocate_visits-ended-requires-clause-formed : goal.relocate_visits-ended-requires-clause-formed
+relocate_visits-ended-requires-clause-formed c =
     let f = fine_lists _ _ _ _ (sym c.refusal_of_lists-refused.ensures.answer
     ∙ c.if-refused-ne0.false) in
-    (
-      (formed f.day.shaped, loaded _ _ _ _ f),
-      rw (to_z-of_z w32 c.args.van.capacity (search rules)) (capacity-fine _ _ _ _ f, f.depot, held _ _ _ _ f),
-    )
+    (formed f.day.shaped, loaded _ _ _ _ f)
+
+pub relocate_visits-ended-requires-clause-capacity_value : goal.relocate_visits-ended-requires-clause-capacity_value
+relocate_visits-ended-requires-clause-capacity_value c =
+    let f = fine_lists _ _ _ _ (sym c.refusal_of_lists-refused.ensures.answer
+    ∙ c.if-refused-ne0.false) in
+    rw (to_z-of_z w32 c.args.van.capacity (search rules)) (capacity-fine _ _ _ _ f, f.depot, held _ _ _ _ f)
 
 pub returns : goal.returns
 unfolding run_over

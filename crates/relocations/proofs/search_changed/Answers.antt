@@ -31,12 +31,13 @@ pub search_both-requires-clause-sized : goal.search_both-requires-clause-sized
 search_both-requires-clause-sized c =
     (c.loop-other.invariant.0.sized, c.requires.a_in_bounds.0, c.loop-other-test.true)
 
-pub search_both-requires-in-loop-other : goal.search_both-requires-in-loop-other
-search_both-requires-in-loop-other c =
+pub search_both-requires-in-loop-other-clause-prepared : goal.search_both-requires-in-loop-other-clause-prepared
+search_both-requires-in-loop-other-clause-prepared c =
+    c.requires.prepared
+
+pub search_both-requires-in-loop-other-clause-loaded : goal.search_both-requires-in-loop-other-clause-loaded
+search_both-requires-in-loop-other-clause-loaded c =
     (
-      c.requires.prepared,
-      (
-        (
           c.requires.loaded.0,
           c.requires.loaded.1,
           omega (
@@ -45,18 +46,20 @@ search_both-requires-in-loop-other c =
             c.loop-other.invariant.3,
             c.requires.loaded.2,
           ),
-        ),
-        (
-          c.search_both.ensures.1,
-          (
+        )
+
+pub search_both-requires-in-loop-other-clause-cached : goal.search_both-requires-in-loop-other-clause-cached
+search_both-requires-in-loop-other-clause-cached c =
+    c.search_both.ensures.1
+
+pub search_both-requires-in-loop-other-clause-sized : goal.search_both-requires-in-loop-other-clause-sized
+search_both-requires-in-loop-other-clause-sized c =
+    (
             both_sized _ _ c.args.setup _ _ c.requires.loaded.1 _ _ _ _ c.search_both.ensures.0
                 c.loop-other.invariant.0.sized,
             c.requires.a_in_bounds.1,
             c.loop-other-test.true,
-          ),
-        ),
-      ),
-    )
+          )
 
 pub overflow_add-other : goal.overflow_add-other
 overflow_add-other c =

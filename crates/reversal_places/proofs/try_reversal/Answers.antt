@@ -6,9 +6,13 @@ use mathlib.Core.Path.{refl}
 use Rattle.reversal_places.proofs.Tried.{break_checked, delta_asks, no_gain, checked}
 use Rattle.reversal_places.proofs.try_reversal.Goals as goal
 
-pub two_opt_delta-delta-requires : goal.two_opt_delta-delta-requires
-two_opt_delta-delta-requires c =
-    (delta_asks _ _ _ c.requires.worked.0 c.requires.worked.1, (omega (arith, c.requires.first_lt_last.0), c.requires.first_lt_last.1))
+pub two_opt_delta-delta-requires-clause-square : goal.two_opt_delta-delta-requires-clause-square
+two_opt_delta-delta-requires-clause-square c =
+    delta_asks _ _ _ c.requires.worked.0 c.requires.worked.1
+
+pub two_opt_delta-delta-requires-clause-first_le_last : goal.two_opt_delta-delta-requires-clause-first_le_last
+two_opt_delta-delta-requires-clause-first_le_last c =
+    (omega (arith, c.requires.first_lt_last.0), c.requires.first_lt_last.1)
 
 pub returns-then-not-gains-clause-value : goal.returns-then-not-gains-clause-value
 returns-then-not-gains-clause-value c =

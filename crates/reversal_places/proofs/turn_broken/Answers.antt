@@ -23,19 +23,24 @@ pub reverse-requires-clause-to_in_bounds : goal.reverse-requires-clause-to_in_bo
 reverse-requires-clause-to_in_bounds c =
     omega (arith, c.requires.first_lt_last.1)
 
-pub outcome_of-outcome-requires : goal.outcome_of-outcome-requires
-outcome_of-outcome-requires c =
+pub outcome_of-outcome-requires-clause-formed : goal.outcome_of-outcome-requires-clause-formed
+outcome_of-outcome-requires-clause-formed c =
+    c.requires.worked.0.formed
+
+pub outcome_of-outcome-requires-clause-depot_lt_l : goal.outcome_of-outcome-requires-clause-depot_lt_l
+outcome_of-outcome-requires-clause-depot_lt_l c =
     (
-      c.requires.worked.0.formed,
-      (
         c.requires.worked.0.depot_there,
         rw c.reverse.ensures (turned-visits _ _ c.args.place c.requires.first_lt_last.0 c.requires.worked.1),
-      ),
-    )
+      )
 
-pub reverse-requires-then-not-passed : goal.reverse-requires-then-not-passed
-reverse-requires-then-not-passed c =
-    (omega (arith, c.requires.first_lt_last.0), omega (arith, c.requires.first_lt_last.1, c.reverse.auto.list))
+pub reverse-requires-then-not-passed-clause-from_le_to : goal.reverse-requires-then-not-passed-clause-from_le_to
+reverse-requires-then-not-passed-clause-from_le_to c =
+    omega (arith, c.requires.first_lt_last.0)
+
+pub reverse-requires-then-not-passed-clause-to_in_bounds : goal.reverse-requires-then-not-passed-clause-to_in_bounds
+reverse-requires-then-not-passed-clause-to_in_bounds c =
+    omega (arith, c.requires.first_lt_last.1, c.reverse.auto.list)
 
 pub returns-then-not-passed-clause-value : goal.returns-then-not-passed-clause-value
 unfolding passing feasible

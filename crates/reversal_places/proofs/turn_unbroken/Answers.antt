@@ -11,19 +11,21 @@ pub overflow_add-end : goal.overflow_add-end
 overflow_add-end c =
     omega (arith, c.requires.first_lt_last.1, c.requires.worked.1.few)
 
-pub laid_passes-laid-requires : goal.laid_passes-laid-requires
-laid_passes-laid-requires c =
+pub laid_passes-laid-requires-clause-formed : goal.laid_passes-laid-requires-clause-formed
+laid_passes-laid-requires-clause-formed c =
+    c.requires.worked.0.formed
+
+pub laid_passes-laid-requires-clause-depot_lt_l : goal.laid_passes-laid-requires-clause-depot_lt_l
+laid_passes-laid-requires-clause-depot_lt_l c =
     (
-      c.requires.worked.0.formed,
-      (
-        (
           c.requires.worked.0.depot_there,
           c.requires.worked.1,
           rw c.reversal-turned.ensures (reversal_cut _ _ _ (omega (arith, c.requires.first_lt_last.0)) (omega (arith, c.requires.first_lt_last.1))),
-        ),
-        ((c.requires.shared.0, rw c.reversal-turned.ensures c.requires.shared.1), c.requires.rest_value),
-      ),
-    )
+        )
+
+pub laid_passes-laid-requires-clause-driven : goal.laid_passes-laid-requires-clause-driven
+laid_passes-laid-requires-clause-driven c =
+    ((c.requires.shared.0, rw c.reversal-turned.ensures c.requires.shared.1), c.requires.rest_value)
 
 pub reverse-requires-clause-from_le_to : goal.reverse-requires-clause-from_le_to
 reverse-requires-clause-from_le_to c =

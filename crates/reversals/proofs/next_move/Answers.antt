@@ -4,9 +4,13 @@ use Rattle.reversals.proofs.Places.{start_in}
 use Rattle.reversals.proofs.Turns.{left_as_it_was, found_ahead, found_anew}
 use Rattle.reversals.proofs.next_move.Goals as goal
 
-pub first_move-found-requires : goal.first_move-found-requires
-first_move-found-requires c =
-    (c.requires.worked, search (c.requires.in_sweep, start_in))
+pub first_move-found-requires-clause-worked : goal.first_move-found-requires-clause-worked
+first_move-found-requires-clause-worked c =
+    c.requires.worked
+
+pub first_move-found-requires-clause-in_sweep : goal.first_move-found-requires-clause-in_sweep
+first_move-found-requires-clause-in_sweep c =
+    search (c.requires.in_sweep, start_in)
 
 pub returns-in-At : goal.returns-in-At
 returns-in-At c =

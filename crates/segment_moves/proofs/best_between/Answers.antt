@@ -14,19 +14,25 @@ pub loop-to-init : goal.loop-to-init
 loop-to-init c =
     (omega arith, refl, c.requires.known)
 
-pub consider-found-requires : goal.consider-found-requires
-consider-found-requires c =
-    (
-      c.requires.asked,
-      (
-        record {
+pub consider-found-requires-clause-asked : goal.consider-found-requires-clause-asked
+consider-found-requires-clause-asked c =
+    c.requires.asked
+
+pub consider-found-requires-clause-fits : goal.consider-found-requires-clause-fits
+consider-found-requires-clause-fits c =
+    record {
           inside = c.requires.size_in_bounds.0;
           there = omega arith;
           apart = ⊎_elim (λ before. inl (omega arith)) (λ behind. inr (omega arith)) c.requires.fact;
-        },
-        (c.requires.gain_value, c.loop-to.invariant.2),
-      ),
-    )
+        }
+
+pub consider-found-requires-clause-gain_value : goal.consider-found-requires-clause-gain_value
+consider-found-requires-clause-gain_value c =
+    c.requires.gain_value
+
+pub consider-found-requires-clause-known : goal.consider-found-requires-clause-known
+consider-found-requires-clause-known c =
+    c.loop-to.invariant.2
 
 pub loop-to-preserved : goal.loop-to-preserved
 loop-to-preserved c =

@@ -4,13 +4,33 @@ use native.Mathlib.Omega.{arith}
 use Rattle.segment_moves.proofs.Rows.{row-chosen}
 use Rattle.segment_moves.proofs.best_from.Goals as goal
 
-pub removal_gain-gain-requires : goal.removal_gain-gain-requires
-removal_gain-gain-requires c =
-    ((c.requires.asked.formed.tables.of_distances, record { depot_there = c.requires.asked.depot_there; visits = c.requires.asked.visits.below }), c.requires.size_in_bounds)
+pub removal_gain-gain-requires-clause-square : goal.removal_gain-gain-requires-clause-square
+removal_gain-gain-requires-clause-square c =
+    (c.requires.asked.formed.tables.of_distances, record { depot_there = c.requires.asked.depot_there; visits = c.requires.asked.visits.below })
 
-pub best_between-before-requires : goal.best_between-before-requires
-best_between-before-requires c =
-    (c.requires.asked, ((c.requires.size_in_bounds, omega arith), (inl (omega arith), (c.removal_gain-gain.ensures, c.requires.known))))
+pub removal_gain-gain-requires-clause-size_in_bounds : goal.removal_gain-gain-requires-clause-size_in_bounds
+removal_gain-gain-requires-clause-size_in_bounds c =
+    c.requires.size_in_bounds
+
+pub best_between-before-requires-clause-asked : goal.best_between-before-requires-clause-asked
+best_between-before-requires-clause-asked c =
+    c.requires.asked
+
+pub best_between-before-requires-clause-size_in_bounds : goal.best_between-before-requires-clause-size_in_bounds
+best_between-before-requires-clause-size_in_bounds c =
+    (c.requires.size_in_bounds, omega arith)
+
+pub best_between-before-requires-clause-fact : goal.best_between-before-requires-clause-fact
+best_between-before-requires-clause-fact c =
+    inl (omega arith)
+
+pub best_between-before-requires-clause-gain_value : goal.best_between-before-requires-clause-gain_value
+best_between-before-requires-clause-gain_value c =
+    c.removal_gain-gain.ensures
+
+pub best_between-before-requires-clause-known : goal.best_between-before-requires-clause-known
+best_between-before-requires-clause-known c =
+    c.requires.known
 
 pub overflow_add-start : goal.overflow_add-start
 overflow_add-start c =

@@ -28,9 +28,17 @@ pub overflow_add-from : goal.overflow_add-from
 overflow_add-from c =
     omega (arith, c.requires.size_bound, c.loop-from.invariant.0, c.requires.asked.visits.few)
 
-pub best_from-best-requires : goal.best_from-best-requires
-best_from-best-requires c =
-    (c.requires.asked, (c.loop-from-test.true, c.loop-from.invariant.2))
+pub best_from-best-requires-clause-asked : goal.best_from-best-requires-clause-asked
+best_from-best-requires-clause-asked c =
+    c.requires.asked
+
+pub best_from-best-requires-clause-size_in_bounds : goal.best_from-best-requires-clause-size_in_bounds
+best_from-best-requires-clause-size_in_bounds c =
+    c.loop-from-test.true
+
+pub best_from-best-requires-clause-known : goal.best_from-best-requires-clause-known
+best_from-best-requires-clause-known c =
+    c.loop-from.invariant.2
 
 pub overflow_add-from-in-loop-from : goal.overflow_add-from-in-loop-from
 overflow_add-from-in-loop-from c =

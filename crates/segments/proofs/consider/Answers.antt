@@ -6,9 +6,13 @@ use mathlib.Core.Path.{ap}
 use mathlib.Core.Bool.{not}
 use Rattle.segments.proofs.consider.Goals as goal
 
-pub piece_insertion-cost-requires : goal.piece_insertion-cost-requires
-piece_insertion-cost-requires c =
-    ((c.requires.asked.formed.tables.of_distances, record { depot_there = c.requires.asked.depot_there; visits = c.requires.asked.visits.below }), (c.requires.fits.inside, c.requires.fits.there))
+pub piece_insertion-cost-requires-clause-square : goal.piece_insertion-cost-requires-clause-square
+piece_insertion-cost-requires-clause-square c =
+    (c.requires.asked.formed.tables.of_distances, record { depot_there = c.requires.asked.depot_there; visits = c.requires.asked.visits.below })
+
+pub piece_insertion-cost-requires-clause-size_in_bounds : goal.piece_insertion-cost-requires-clause-size_in_bounds
+piece_insertion-cost-requires-clause-size_in_bounds c =
+    (c.requires.fits.inside, c.requires.fits.there)
 
 pub returns-then-not-delta-most : goal.returns-then-not-delta-most
 returns-then-not-delta-most c =

@@ -5,14 +5,12 @@ use borrow.Author.Tests.{not-true, not-false}
 use Rattle.tests.specs.All.{off, on}
 use Rattle.engine.specs.Engine.{passing}
 use Rattle.segments.proofs.Moved.{part_long}
-use mathlib.Core.Path.{ap}
-use mathlib.Core.Bool.{not}
 use Rattle.segments.proofs.moved_passes.Goals as goal
 
 pub returns-then-not-terms : goal.returns-then-not-terms
 unfolding passing
 returns-then-not-terms c =
-    off _ _ (not-true c.args.terms.needed (ap not c.if-not-terms.true))
+    off _ _ (not-true c.args.terms.needed c.if-not-terms.true)
 
 pub slice_bounds-buffer-end : goal.slice_bounds-buffer-end
 slice_bounds-buffer-end c =
@@ -33,4 +31,4 @@ candidate_passes-requires-clause-candidate_len c =
 pub returns : goal.returns
 unfolding passing
 returns c =
-    on _ _ _ (not-false c.args.terms.needed (ap not c.if-not-terms.false)) c.candidate_passes.ensures
+    on _ _ _ (not-false c.args.terms.needed c.if-not-terms.false) c.candidate_passes.ensures

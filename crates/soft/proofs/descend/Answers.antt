@@ -16,17 +16,33 @@ use Rattle.engine.proofs.Running.{going_settles, going_stops}
 use borrow.Author.Rules.{rules}
 use Rattle.soft.proofs.descend.Goals as goal
 
-pub effective_cost-cost-requires : goal.effective_cost-cost-requires
-effective_cost-cost-requires c =
-    (c.requires.formed, c.requires.depot_lt_l)
+pub effective_cost-cost-requires-clause-formed : goal.effective_cost-cost-requires-clause-formed
+effective_cost-cost-requires-clause-formed c =
+    c.requires.formed
+
+pub effective_cost-cost-requires-clause-depot_lt_l : goal.effective_cost-cost-requires-clause-depot_lt_l
+effective_cost-cost-requires-clause-depot_lt_l c =
+    c.requires.depot_lt_l
 
 pub loop-place-init : goal.loop-place-init
 loop-place-init c =
     (going_starts _ _ _, c.effective_cost-cost.ensures, c.requires.depot_lt_l.1, refl, refl)
 
-pub best_neighbour-best-requires : goal.best_neighbour-best-requires
-best_neighbour-best-requires c =
-    (c.requires.formed, ((c.requires.depot_lt_l.0, c.loop-place.invariant.2), (omega (arith, c.loop-place.invariant.3, c.loop-place.invariant.4, c.requires.list_in_bounds), c.loop-place.invariant.1)))
+pub best_neighbour-best-requires-clause-formed : goal.best_neighbour-best-requires-clause-formed
+best_neighbour-best-requires-clause-formed c =
+    c.requires.formed
+
+pub best_neighbour-best-requires-clause-depot_lt_l : goal.best_neighbour-best-requires-clause-depot_lt_l
+best_neighbour-best-requires-clause-depot_lt_l c =
+    (c.requires.depot_lt_l.0, c.loop-place.invariant.2)
+
+pub best_neighbour-best-requires-clause-list_in_bounds : goal.best_neighbour-best-requires-clause-list_in_bounds
+best_neighbour-best-requires-clause-list_in_bounds c =
+    omega (arith, c.loop-place.invariant.3, c.loop-place.invariant.4, c.requires.list_in_bounds)
+
+pub best_neighbour-best-requires-clause-cost_value : goal.best_neighbour-best-requires-clause-cost_value
+best_neighbour-best-requires-clause-cost_value c =
+    c.loop-place.invariant.1
 
 pub returns-in_default : goal.returns-in_default
 unfolding soft_run

@@ -5,9 +5,17 @@ use Rattle.exchange_sweeps.proofs.Places.{start_in}
 use Rattle.exchange_sweeps.proofs.Moves.{is-ahead, is_anew}
 use Rattle.soft_exchange.proofs.next_move.Goals as goal
 
-pub first_move-found-requires : goal.first_move-found-requires
-first_move-found-requires c =
-    c.requires.TAIL:asked|held|kept_figures
+pub first_move-found-requires-clause-asked : goal.first_move-found-requires-clause-asked
+first_move-found-requires-clause-asked c =
+    c.requires.asked
+
+pub first_move-found-requires-clause-held : goal.first_move-found-requires-clause-held
+first_move-found-requires-clause-held c =
+    c.requires.held
+
+pub first_move-found-requires-clause-kept_figures : goal.first_move-found-requires-clause-kept_figures
+first_move-found-requires-clause-kept_figures c =
+    c.requires.kept_figures
 
 pub returns-then-found-ne0 : goal.returns-then-found-ne0
 returns-then-found-ne0 c =

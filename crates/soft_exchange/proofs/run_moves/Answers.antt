@@ -53,9 +53,17 @@ loop-terms-init c =
       c.figure_lists.ensures,
     )
 
-pub next_move-found-requires : goal.next_move-found-requires
-next_move-found-requires c =
-    (c.requires.asked, ((c.loop-terms.invariant.2, c.loop-terms.invariant.3), c.loop-terms.invariant.5))
+pub next_move-found-requires-clause-asked : goal.next_move-found-requires-clause-asked
+next_move-found-requires-clause-asked c =
+    c.requires.asked
+
+pub next_move-found-requires-clause-held : goal.next_move-found-requires-clause-held
+next_move-found-requires-clause-held c =
+    (c.loop-terms.invariant.2, c.loop-terms.invariant.3)
+
+pub next_move-found-requires-clause-kept_figures : goal.next_move-found-requires-clause-kept_figures
+next_move-found-requires-clause-kept_figures c =
+    c.loop-terms.invariant.5
 
 pub returns-then-found-eq0 : goal.returns-then-found-eq0
 returns-then-found-eq0 c =

@@ -26,10 +26,22 @@ returns-in_default c =
     scan_ends c.args.which price c.args.cost c.args.floor c.args.list.now _ _ _ c.requires.cost_value c.first_place-here.ensures.0 c.loop-here.invariant.0
     c.in_default.is
 
-pub price_of-priced-requires : goal.price_of-priced-requires
-price_of-priced-requires c =
+pub price_of-priced-requires-clause-formed : goal.price_of-priced-requires-clause-formed
+price_of-priced-requires-clause-formed c =
+    c.requires.formed
+
+pub price_of-priced-requires-clause-depot_lt_l : goal.price_of-priced-requires-clause-depot_lt_l
+price_of-priced-requires-clause-depot_lt_l c =
+    c.requires.depot_lt_l
+
+pub price_of-priced-requires-clause-list_in_bounds : goal.price_of-priced-requires-clause-list_in_bounds
+price_of-priced-requires-clause-list_in_bounds c =
     let inside = inside_at _ _ _ c.in-At.is c.loop-here.invariant.0.inside in
-    (c.requires.formed, (c.requires.depot_lt_l, ((rw c.loop-here.invariant.1 c.requires.list_in_bounds, inside), c.loop-here.invariant.2)))
+    (rw c.loop-here.invariant.1 c.requires.list_in_bounds, inside)
+
+pub price_of-priced-requires-clause-driven : goal.price_of-priced-requires-clause-driven
+price_of-priced-requires-clause-driven c =
+    c.loop-here.invariant.2
 
 pub after-here-requires : goal.after-here-requires
 after-here-requires c =

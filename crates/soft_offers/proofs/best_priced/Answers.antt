@@ -6,13 +6,21 @@ use Rattle.descent.proofs.Members.{and_parts}
 use Rattle.soft_offers.proofs.Offering.{unpriced_as, priced_as}
 use Rattle.soft_offers.proofs.best_priced.Goals as goal
 
-pub price_of-old_from-requires : goal.price_of-old_from-requires
-price_of-old_from-requires c =
-    (c.requires.prepared, c.requires.two_of.gives)
+pub price_of-old_from-requires-clause-prepared : goal.price_of-old_from-requires-clause-prepared
+price_of-old_from-requires-clause-prepared c =
+    c.requires.prepared
 
-pub price_of-old_to-requires : goal.price_of-old_to-requires
-price_of-old_to-requires c =
-    (c.requires.prepared, c.requires.two_of.takes)
+pub price_of-old_from-requires-clause-visits : goal.price_of-old_from-requires-clause-visits
+price_of-old_from-requires-clause-visits c =
+    c.requires.two_of.gives
+
+pub price_of-old_to-requires-clause-prepared : goal.price_of-old_to-requires-clause-prepared
+price_of-old_to-requires-clause-prepared c =
+    c.requires.prepared
+
+pub price_of-old_to-requires-clause-visits : goal.price_of-old_to-requires-clause-visits
+price_of-old_to-requires-clause-visits c =
+    c.requires.two_of.takes
 
 pub returns-then-not-both : goal.returns-then-not-both
 returns-then-not-both c =

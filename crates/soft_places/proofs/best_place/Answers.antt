@@ -23,9 +23,17 @@ pub loop-place-init : goal.loop-place-init
 loop-place-init c =
     (refl, c.inserted_first-end.ensures.buffer_after, omega arith, refl, rw c.at_depot-head.ensures (depot_driven _ _ _ _ c.requires.prepared.depot_there))
 
-pub reach-head-requires : goal.reach-head-requires
-reach-head-requires c =
-    (c.requires.prepared.formed, ((c.requires.prepared.depot_there, c.requires.visits.0, c.loop-place.invariant.2), c.loop-place.invariant.4))
+pub reach-head-requires-clause-formed : goal.reach-head-requires-clause-formed
+reach-head-requires-clause-formed c =
+    c.requires.prepared.formed
+
+pub reach-head-requires-clause-depot_lt_l : goal.reach-head-requires-clause-depot_lt_l
+reach-head-requires-clause-depot_lt_l c =
+    (c.requires.prepared.depot_there, c.requires.visits.0, c.loop-place.invariant.2)
+
+pub reach-head-requires-clause-driven : goal.reach-head-requires-clause-driven
+reach-head-requires-clause-driven c =
+    c.loop-place.invariant.4
 
 pub offset_bounds-buffer-from : goal.offset_bounds-buffer-from
 offset_bounds-buffer-from c =
@@ -50,18 +58,19 @@ slice_bounds-price_from-end c =
       c.requires.visits.1,
     )
 
-pub price_from-new-requires : goal.price_from-new-requires
-price_from-new-requires c =
+pub price_from-new-requires-clause-formed : goal.price_from-new-requires-clause-formed
+price_from-new-requires-clause-formed c =
+    c.requires.prepared.formed
+
+pub price_from-new-requires-clause-depot_lt_l : goal.price_from-new-requires-clause-depot_lt_l
+price_from-new-requires-clause-depot_lt_l c =
     let all = visits_inserted _ c.args.list.now c.args.offer.visit c.loop-place.place c.requires.visits.0 c.requires.visits.1 c.requires.visits.2 in
     (
-      c.requires.prepared.formed,
-      (
         c.requires.prepared.depot_there,
         c.reach-head.ensures.driven_2.placed,
         part_visits _ c.reach-head.result.visits c.inserted_first-end.result c.loop-place.buffer _
             (omega (arith, c.reach-head.ensures.visits_le_to, c.loop-place.invariant.2, c.inserted_first-end.ensures.value)) c.loop-place.invariant.1 all,
-      ),
-    )
+      )
 
 pub returns-then-place-list : goal.returns-then-place-list
 returns-then-place-list c =

@@ -3,9 +3,17 @@ use borrow.Author.Rules.{rules}
 use Rattle.soft_places.proofs.Placing.{giving_is}
 use Rattle.soft_places.proofs.giving_delta.Goals as goal
 
-pub price_without-new-requires : goal.price_without-new-requires
-price_without-new-requires c =
-    (c.requires.prepared, (c.requires.in_bounds, c.requires.driven_by))
+pub price_without-new-requires-clause-prepared : goal.price_without-new-requires-clause-prepared
+price_without-new-requires-clause-prepared c =
+    c.requires.prepared
+
+pub price_without-new-requires-clause-in_bounds : goal.price_without-new-requires-clause-in_bounds
+price_without-new-requires-clause-in_bounds c =
+    c.requires.in_bounds
+
+pub price_without-new-requires-clause-driven_by : goal.price_without-new-requires-clause-driven_by
+price_without-new-requires-clause-driven_by c =
+    c.requires.driven_by
 
 pub returns : goal.returns
 returns c =

@@ -30,23 +30,26 @@ pub search_both-requires-clause-sized : goal.search_both-requires-clause-sized
 search_both-requires-clause-sized c =
     (c.loop-other.invariant.0.sized, c.requires.a_in_bounds.0, c.loop-other-test.true)
 
-pub search_both-requires-in-loop-other : goal.search_both-requires-in-loop-other
-search_both-requires-in-loop-other c =
+pub search_both-requires-in-loop-other-clause-prepared : goal.search_both-requires-in-loop-other-clause-prepared
+search_both-requires-in-loop-other-clause-prepared c =
+    c.requires.prepared
+
+pub search_both-requires-in-loop-other-clause-loaded : goal.search_both-requires-in-loop-other-clause-loaded
+search_both-requires-in-loop-other-clause-loaded c =
+    c.requires.loaded
+
+pub search_both-requires-in-loop-other-clause-in_bounds : goal.search_both-requires-in-loop-other-clause-in_bounds
+search_both-requires-in-loop-other-clause-in_bounds c =
+    omega
+              (arith, c.search_both.auto.buffer, c.loop-other.invariant.1, c.requires.in_bounds)
+
+pub search_both-requires-in-loop-other-clause-sized : goal.search_both-requires-in-loop-other-clause-sized
+search_both-requires-in-loop-other-clause-sized c =
     (
-      c.requires.prepared,
-      (
-        c.requires.loaded,
-        (
-          omega
-              (arith, c.search_both.auto.buffer, c.loop-other.invariant.1, c.requires.in_bounds),
-          (
             both_sized _ _ _ _ _ _ _ _ c.loop-other.invariant.0.sized c.search_both.ensures,
             c.requires.a_in_bounds.1,
             c.loop-other-test.true,
-          ),
-        ),
-      ),
-    )
+          )
 
 pub overflow_add-other : goal.overflow_add-other
 overflow_add-other c =

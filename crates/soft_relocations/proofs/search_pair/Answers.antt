@@ -3,9 +3,21 @@ use borrow.Author.Rules.{rules}
 use native.Mathlib.Omega.{arith}
 use Rattle.soft_relocations.proofs.search_pair.Goals as goal
 
-pub best_between-best-requires : goal.best_between-best-requires
-best_between-best-requires c =
-    (c.requires.prepared, (c.requires.loaded, (c.requires.in_bounds, (c.requires.sized.1, c.requires.sized.2))))
+pub best_between-best-requires-clause-prepared : goal.best_between-best-requires-clause-prepared
+best_between-best-requires-clause-prepared c =
+    c.requires.prepared
+
+pub best_between-best-requires-clause-loaded : goal.best_between-best-requires-clause-loaded
+best_between-best-requires-clause-loaded c =
+    c.requires.loaded
+
+pub best_between-best-requires-clause-in_bounds : goal.best_between-best-requires-clause-in_bounds
+best_between-best-requires-clause-in_bounds c =
+    c.requires.in_bounds
+
+pub best_between-best-requires-clause-from_in_bounds : goal.best_between-best-requires-clause-from_in_bounds
+best_between-best-requires-clause-from_in_bounds c =
+    (c.requires.sized.1, c.requires.sized.2)
 
 pub put_pair-requires-clause-sized : goal.put_pair-requires-clause-sized
 put_pair-requires-clause-sized c =

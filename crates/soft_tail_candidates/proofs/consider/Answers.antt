@@ -10,9 +10,21 @@ pub returns-then-load2-terms : goal.returns-then-load2-terms
 returns-then-load2-terms c =
     stays_second_load _ _ c.args.terms _ _ _ _ _ _ c.requires.load1_value.1 c.if-load2-terms.true
 
-pub change_of-delta-requires : goal.change_of-delta-requires
-change_of-delta-requires c =
-    ((c.requires.asked.formed, c.requires.asked.depot_there), (c.requires.two, (c.requires.figured.costs, c.requires.driven_by)))
+pub change_of-delta-requires-clause-formed : goal.change_of-delta-requires-clause-formed
+change_of-delta-requires-clause-formed c =
+    (c.requires.asked.formed, c.requires.asked.depot_there)
+
+pub change_of-delta-requires-clause-two : goal.change_of-delta-requires-clause-two
+change_of-delta-requires-clause-two c =
+    c.requires.two
+
+pub change_of-delta-requires-clause-priced : goal.change_of-delta-requires-clause-priced
+change_of-delta-requires-clause-priced c =
+    c.requires.figured.costs
+
+pub change_of-delta-requires-clause-driven_by : goal.change_of-delta-requires-clause-driven_by
+change_of-delta-requires-clause-driven_by c =
+    c.requires.driven_by
 
 pub returns-then-delta-best : goal.returns-then-delta-best
 returns-then-delta-best c =

@@ -37,29 +37,45 @@ pub overflow_add-last : goal.overflow_add-last
 overflow_add-last c =
     omega (arith, c.loop-last-test.true, c.requires.two.few)
 
-pub reach-driven1-requires : goal.reach-driven1-requires
-reach-driven1-requires c =
-    (c.requires.asked.formed, ((c.requires.asked.depot_there, first_visits _ _ _ c.requires.two, omega (arith, c.loop-last-test.true)), c.loop-last.invariant.3))
+pub reach-driven1-requires-clause-formed : goal.reach-driven1-requires-clause-formed
+reach-driven1-requires-clause-formed c =
+    c.requires.asked.formed
+
+pub reach-driven1-requires-clause-depot_lt_l : goal.reach-driven1-requires-clause-depot_lt_l
+reach-driven1-requires-clause-depot_lt_l c =
+    (c.requires.asked.depot_there, first_visits _ _ _ c.requires.two, omega (arith, c.loop-last-test.true))
+
+pub reach-driven1-requires-clause-driven : goal.reach-driven1-requires-clause-driven
+reach-driven1-requires-clause-driven c =
+    c.loop-last.invariant.3
 
 pub overflow_add-last-in-loop-last : goal.overflow_add-last-in-loop-last
 overflow_add-last-in-loop-last c =
     omega (arith, c.loop-last-test.true, c.requires.two.few)
 
-pub best_row-best-requires : goal.best_row-best-requires
-best_row-best-requires c =
-    (
-      c.requires.asked,
-      (
-        (c.requires.two, omega (arith, c.loop-last-test.true)),
-        (
-          c.requires.figured,
-          (
-            c.requires.other_value,
-            (load_more _ _ _ _ _ c.loop-last-test.true c.loop-last.invariant.1 c.boxes_at-head1.ensures, c.reach-driven1.ensures.driven_2),
-          ),
-        ),
-      ),
-    )
+pub best_row-best-requires-clause-asked : goal.best_row-best-requires-clause-asked
+best_row-best-requires-clause-asked c =
+    c.requires.asked
+
+pub best_row-best-requires-clause-two : goal.best_row-best-requires-clause-two
+best_row-best-requires-clause-two c =
+    (c.requires.two, omega (arith, c.loop-last-test.true))
+
+pub best_row-best-requires-clause-figured : goal.best_row-best-requires-clause-figured
+best_row-best-requires-clause-figured c =
+    c.requires.figured
+
+pub best_row-best-requires-clause-other_value : goal.best_row-best-requires-clause-other_value
+best_row-best-requires-clause-other_value c =
+    c.requires.other_value
+
+pub best_row-best-requires-clause-head1_value : goal.best_row-best-requires-clause-head1_value
+best_row-best-requires-clause-head1_value c =
+    load_more _ _ _ _ _ c.loop-last-test.true c.loop-last.invariant.1 c.boxes_at-head1.ensures
+
+pub best_row-best-requires-clause-driven_by : goal.best_row-best-requires-clause-driven_by
+best_row-best-requires-clause-driven_by c =
+    c.reach-driven1.ensures.driven_2
 
 pub overflow_add-last-in-loop-last-2 : goal.overflow_add-last-in-loop-last-2
 overflow_add-last-in-loop-last-2 c =

@@ -59,9 +59,17 @@ pub overflow_add-cut2 : goal.overflow_add-cut2
 overflow_add-cut2 c =
     omega (arith, c.loop-last-test.true, c.requires.two.0.few)
 
-pub reach-driven2-requires : goal.reach-driven2-requires
-reach-driven2-requires c =
-    (c.requires.asked.formed, ((c.requires.asked.depot_there, second_visits _ _ _ c.requires.two.0, omega (arith, c.loop-last-test.true)), c.loop-last.invariant.3))
+pub reach-driven2-requires-clause-formed : goal.reach-driven2-requires-clause-formed
+reach-driven2-requires-clause-formed c =
+    c.requires.asked.formed
+
+pub reach-driven2-requires-clause-depot_lt_l : goal.reach-driven2-requires-clause-depot_lt_l
+reach-driven2-requires-clause-depot_lt_l c =
+    (c.requires.asked.depot_there, second_visits _ _ _ c.requires.two.0, omega (arith, c.loop-last-test.true))
+
+pub reach-driven2-requires-clause-driven : goal.reach-driven2-requires-clause-driven
+reach-driven2-requires-clause-driven c =
+    c.loop-last.invariant.3
 
 pub overflow_sub-new1 : goal.overflow_sub-new1
 overflow_sub-new1 c =
@@ -86,30 +94,38 @@ overflow_add-new2 c =
     let most = one-small c in
     omega (arith, small.0, small.1, most, c.requires.figured.first_load)
 
-pub consider-found-requires : goal.consider-found-requires
-consider-found-requires c =
+pub consider-found-requires-clause-asked : goal.consider-found-requires-clause-asked
+consider-found-requires-clause-asked c =
+    c.requires.asked
+
+pub consider-found-requires-clause-two : goal.consider-found-requires-clause-two
+consider-found-requires-clause-two c =
+    let boxes = boxes_of c.args.demand.now in
+    let cut2 = c.loop-last.last + 1 in
+    let head2 = load_more _ _ _ _ _ c.loop-last-test.true c.loop-last.invariant.1 c.boxes_at-head2.ensures in
+    (c.requires.two.0, c.requires.two.1, omega (arith, c.loop-last-test.true))
+
+pub consider-found-requires-clause-figured : goal.consider-found-requires-clause-figured
+consider-found-requires-clause-figured c =
+    c.requires.figured
+
+pub consider-found-requires-clause-other_value : goal.consider-found-requires-clause-other_value
+consider-found-requires-clause-other_value c =
+    c.requires.other_value
+
+pub consider-found-requires-clause-load1_value : goal.consider-found-requires-clause-load1_value
+consider-found-requires-clause-load1_value c =
     let boxes = boxes_of c.args.demand.now in
     let cut2 = c.loop-last.last + 1 in
     let head2 = load_more _ _ _ _ _ c.loop-last-test.true c.loop-last.invariant.1 c.boxes_at-head2.ensures in
     (
-      c.requires.asked,
-      (
-        (c.requires.two.0, c.requires.two.1, omega (arith, c.loop-last-test.true)),
-        (
-          c.requires.figured,
-          (
-            c.requires.other_value,
-            (
-              (
                 load_joined boxes c.args.one.now c.args.other.now c.args.cut1 cut2 _ _ _ c.requires.head1_value head2 c.requires.figured.second_load,
                 load_joined boxes c.args.other.now c.args.one.now cut2 c.args.cut1 _ _ _ head2 c.requires.head1_value c.requires.figured.first_load,
-              ),
-              (c.requires.driven_by, c.reach-driven2.ensures.driven_2),
-            ),
-          ),
-        ),
-      ),
-    )
+              )
+
+pub consider-found-requires-clause-driven_by : goal.consider-found-requires-clause-driven_by
+consider-found-requires-clause-driven_by c =
+    (c.requires.driven_by, c.reach-driven2.ensures.driven_2)
 
 pub overflow_add-last : goal.overflow_add-last
 overflow_add-last c =

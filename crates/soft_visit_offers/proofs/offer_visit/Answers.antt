@@ -29,12 +29,21 @@ returns-then-load-setup c =
     c.args.position _ _ c.wide.ensures c.boxes_of.ensures.0
     c.if-load-setup.true
 
-pub giving_delta-giving-requires : goal.giving_delta-giving-requires
-giving_delta-giving-requires c =
-    (
-      c.requires.prepared,
-      ((c.requires.loaded.1, c.requires.two_of.0.gives, c.requires.two_of.1), (c.requires.driven_by, c.requires.known.0.price_from)),
-    )
+pub giving_delta-giving-requires-clause-prepared : goal.giving_delta-giving-requires-clause-prepared
+giving_delta-giving-requires-clause-prepared c =
+    c.requires.prepared
+
+pub giving_delta-giving-requires-clause-in_bounds : goal.giving_delta-giving-requires-clause-in_bounds
+giving_delta-giving-requires-clause-in_bounds c =
+    (c.requires.loaded.1, c.requires.two_of.0.gives, c.requires.two_of.1)
+
+pub giving_delta-giving-requires-clause-driven_by : goal.giving_delta-giving-requires-clause-driven_by
+giving_delta-giving-requires-clause-driven_by c =
+    c.requires.driven_by
+
+pub giving_delta-giving-requires-clause-value : goal.giving_delta-giving-requires-clause-value
+giving_delta-giving-requires-clause-value c =
+    c.requires.known.0.price_from
 
 pub returns-then-not-is_finite : goal.returns-then-not-is_finite
 returns-then-not-is_finite c =

@@ -13,16 +13,17 @@ pub returns-then-load2-terms : goal.returns-then-load2-terms
 returns-then-load2-terms c =
     stays_second_load _ _ c.args.terms c.requires.asked _ _ _ _ _ _ c.requires.load1_value.1 c.if-load2-terms.true
 
-pub exchange_delta-delta-requires : goal.exchange_delta-delta-requires
-exchange_delta-delta-requires c =
+pub exchange_delta-delta-requires-clause-square : goal.exchange_delta-delta-requires-clause-square
+exchange_delta-delta-requires-clause-square c =
     (
-      (
         c.requires.asked.formed.tables.of_distances,
         record { depot_there = c.requires.asked.depot_there; visits = c.requires.two.0.one_below },
         record { depot_there = c.requires.asked.depot_there; visits = c.requires.two.0.other_below },
-      ),
-      (c.requires.two.1, c.requires.two.2),
-    )
+      )
+
+pub exchange_delta-delta-requires-clause-cut1_in_bounds : goal.exchange_delta-delta-requires-clause-cut1_in_bounds
+exchange_delta-delta-requires-clause-cut1_in_bounds c =
+    (c.requires.two.1, c.requires.two.2)
 
 pub returns-then-not-delta-best : goal.returns-then-not-delta-best
 returns-then-not-delta-best c =

@@ -7,13 +7,12 @@ use Rattle.evaluation.specs.Route.{feasible}
 use Rattle.engine.specs.Engine.{passing}
 use Rattle.edits.proofs.Cuts.{front}
 use Rattle.tail_candidates.proofs.Joined.{visits_joined, built}
-use mathlib.Core.Bool.{not}
 use Rattle.tail_candidates.proofs.joined_passes.Goals as goal
 
 pub returns-then-not-terms : goal.returns-then-not-terms
 unfolding passing
 returns-then-not-terms c =
-    off _ _ (not-true c.args.terms.needed (ap not c.if-not-terms.true))
+    off _ _ (not-true c.args.terms.needed c.if-not-terms.true)
 
 pub passes-requires-clause-formed : goal.passes-requires-clause-formed
 passes-requires-clause-formed c =
@@ -32,4 +31,4 @@ returns c =
     let whole = front c.append_stretch-end.result c.append_stretch-end.new.buffer _
     (built c.args.one.now c.args.other.now c.args.cut1 c.args.cut2 c.append_stretch-head.ensures.appended.filled
     c.append_stretch-end.ensures.appended.filled) in
-    on _ _ _ (not-false c.args.terms.needed (ap not c.if-not-terms.false)) (c.passes.ensures ∙ ap (feasible _ _ _) whole)
+    on _ _ _ (not-false c.args.terms.needed c.if-not-terms.false) (c.passes.ensures ∙ ap (feasible _ _ _) whole)

@@ -4,13 +4,29 @@ use Rattle.loads.proofs.Visits.{two_turned}
 use Rattle.tail_prices.proofs.Behind.{same-change}
 use Rattle.tail_prices.proofs.change_whole.Goals as goal
 
-pub joined_cost-new1-requires : goal.joined_cost-new1-requires
-joined_cost-new1-requires c =
-    (c.requires.formed, (c.requires.two.0, (c.requires.two.1, c.requires.two.2)))
+pub joined_cost-new1-requires-clause-formed : goal.joined_cost-new1-requires-clause-formed
+joined_cost-new1-requires-clause-formed c =
+    c.requires.formed
 
-pub joined_cost-new2-requires : goal.joined_cost-new2-requires
-joined_cost-new2-requires c =
-    (c.requires.formed, (two_turned _ _ _ c.requires.two.0, (c.requires.two.2, c.requires.two.1)))
+pub joined_cost-new1-requires-clause-two : goal.joined_cost-new1-requires-clause-two
+joined_cost-new1-requires-clause-two c =
+    c.requires.two.0
+
+pub joined_cost-new1-requires-clause-cut1_in_bounds : goal.joined_cost-new1-requires-clause-cut1_in_bounds
+joined_cost-new1-requires-clause-cut1_in_bounds c =
+    (c.requires.two.1, c.requires.two.2)
+
+pub joined_cost-new2-requires-clause-formed : goal.joined_cost-new2-requires-clause-formed
+joined_cost-new2-requires-clause-formed c =
+    c.requires.formed
+
+pub joined_cost-new2-requires-clause-two : goal.joined_cost-new2-requires-clause-two
+joined_cost-new2-requires-clause-two c =
+    two_turned _ _ _ c.requires.two.0
+
+pub joined_cost-new2-requires-clause-cut1_in_bounds : goal.joined_cost-new2-requires-clause-cut1_in_bounds
+joined_cost-new2-requires-clause-cut1_in_bounds c =
+    (c.requires.two.2, c.requires.two.1)
 
 pub returns : goal.returns
 returns c =

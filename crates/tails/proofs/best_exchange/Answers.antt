@@ -40,19 +40,21 @@ pub overflow_add-last : goal.overflow_add-last
 overflow_add-last c =
     omega (arith, c.loop-last-test.true, c.requires.two.few)
 
-pub best_row-best-requires : goal.best_row-best-requires
-best_row-best-requires c =
+pub best_row-best-requires-clause-asked : goal.best_row-best-requires-clause-asked
+best_row-best-requires-clause-asked c =
+    c.requires.asked
+
+pub best_row-best-requires-clause-two : goal.best_row-best-requires-clause-two
+best_row-best-requires-clause-two c =
+    (c.requires.two, omega (arith, c.loop-last-test.true))
+
+pub best_row-best-requires-clause-head1_value : goal.best_row-best-requires-clause-head1_value
+best_row-best-requires-clause-head1_value c =
     (
-      c.requires.asked,
-      (
-        (c.requires.two, omega (arith, c.loop-last-test.true)),
-        (
           load_more _ _ _ _ _ c.loop-last-test.true c.loop-last.invariant.1 c.boxes_at-head1.ensures,
           c.load_of-load1.ensures.0,
           c.load_of-load2.ensures.0,
-        ),
-      ),
-    )
+        )
 
 pub overflow_add-last-in-loop-last : goal.overflow_add-last-in-loop-last
 overflow_add-last-in-loop-last c =

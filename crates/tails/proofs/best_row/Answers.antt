@@ -75,8 +75,22 @@ overflow_add-new2 c =
     let most = one-small c in
     omega (arith, small.0, small.1, most, (start c).requires.1.1.1)
 
-pub consider-found-requires : goal.consider-found-requires
-consider-found-requires c =
+pub consider-found-requires-clause-asked : goal.consider-found-requires-clause-asked
+consider-found-requires-clause-asked c =
+    (start c).requires.0
+
+pub consider-found-requires-clause-two : goal.consider-found-requires-clause-two
+consider-found-requires-clause-two c =
+    let boxes = boxes_of (start c).args.demand.now in
+    let one = (start c).args.one.now in
+    let other = (start c).args.other.now in
+    let loads = (start c).requires.1.1 in
+    let cut2 = c.loop-last.last + 1 in
+    let head2 = load_more _ _ _ _ _ c.loop-last-test.true c.loop-last.invariant.1 c.boxes_at-head2.ensures in
+    ((start c).requires.1.0.0, (start c).requires.1.0.1, omega (arith, c.loop-last-test.true))
+
+pub consider-found-requires-clause-load1_value : goal.consider-found-requires-clause-load1_value
+consider-found-requires-clause-load1_value c =
     let boxes = boxes_of (start c).args.demand.now in
     let one = (start c).args.one.now in
     let other = (start c).args.other.now in
@@ -84,15 +98,9 @@ consider-found-requires c =
     let cut2 = c.loop-last.last + 1 in
     let head2 = load_more _ _ _ _ _ c.loop-last-test.true c.loop-last.invariant.1 c.boxes_at-head2.ensures in
     (
-      (start c).requires.0,
-      (
-        ((start c).requires.1.0.0, (start c).requires.1.0.1, omega (arith, c.loop-last-test.true)),
-        (
           load_joined boxes one other (start c).args.cut1 cut2 _ _ _ loads.0 head2 loads.2,
           load_joined boxes other one cut2 (start c).args.cut1 _ _ _ head2 loads.0 loads.1,
-        ),
-      ),
-    )
+        )
 
 pub overflow_add-last : goal.overflow_add-last
 overflow_add-last c =

@@ -13,15 +13,17 @@ pub loop-place-init : goal.loop-place-init
 loop-place-init c =
     (sweep_start _ _ _ _ _ c.requires.visits.2, c.requires.visits.0, refl, refl)
 
-pub best_pattern-pattern-requires : goal.best_pattern-pattern-requires
-best_pattern-pattern-requires c =
-    (
-      c.requires.prepared,
-      (
-        (c.loop-place.invariant.1, omega (arith, c.loop-place.invariant.2, c.loop-place.invariant.3, c.requires.visits.1)),
-        standing_inside _ _ c.loop-place.invariant.0.standing c.loop-place-test.true,
-      ),
-    )
+pub best_pattern-pattern-requires-clause-prepared : goal.best_pattern-pattern-requires-clause-prepared
+best_pattern-pattern-requires-clause-prepared c =
+    c.requires.prepared
+
+pub best_pattern-pattern-requires-clause-visits : goal.best_pattern-pattern-requires-clause-visits
+best_pattern-pattern-requires-clause-visits c =
+    (c.loop-place.invariant.1, omega (arith, c.loop-place.invariant.2, c.loop-place.invariant.3, c.requires.visits.1))
+
+pub best_pattern-pattern-requires-clause-inside : goal.best_pattern-pattern-requires-clause-inside
+best_pattern-pattern-requires-clause-inside c =
+    standing_inside _ _ c.loop-place.invariant.0.standing c.loop-place-test.true
 
 pub place_after-place-requires : goal.place_after-place-requires
 place_after-place-requires c =

@@ -23,9 +23,13 @@ loop-place-init c =
     let nothing = from_end n _ (none_ahead n) (omega arith) in
     (refl, refl, (start c).requires.1, none_ahead n, turning_starts _ _ _ _ _ nothing)
 
-pub next_move-found-requires : goal.next_move-found-requires
-next_move-found-requires c =
-    (((start c).pre.0, c.loop-place.invariant.2), c.loop-place.invariant.3)
+pub next_move-found-requires-clause-worked : goal.next_move-found-requires-clause-worked
+next_move-found-requires-clause-worked c =
+    ((start c).pre.0, c.loop-place.invariant.2)
+
+pub next_move-found-requires-clause-in_sweep : goal.next_move-found-requires-clause-in_sweep
+next_move-found-requires-clause-in_sweep c =
+    c.loop-place.invariant.3
 
 pub returns-in_default : goal.returns-in_default
 returns-in_default c =

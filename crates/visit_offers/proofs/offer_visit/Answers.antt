@@ -91,9 +91,21 @@ bounds-places-cell c =
       c.requires.figures_len.2,
     )
 
-pub try_visit-tried-requires : goal.try_visit-tried-requires
-try_visit-tried-requires c =
-    (c.requires.prepared, (c.requires.loaded, (c.requires.visits, c.requires.visits_2)))
+pub try_visit-tried-requires-clause-prepared : goal.try_visit-tried-requires-clause-prepared
+try_visit-tried-requires-clause-prepared c =
+    c.requires.prepared
+
+pub try_visit-tried-requires-clause-loaded : goal.try_visit-tried-requires-clause-loaded
+try_visit-tried-requires-clause-loaded c =
+    c.requires.loaded
+
+pub try_visit-tried-requires-clause-visits : goal.try_visit-tried-requires-clause-visits
+try_visit-tried-requires-clause-visits c =
+    c.requires.visits
+
+pub try_visit-tried-requires-clause-visits_2 : goal.try_visit-tried-requires-clause-visits_2
+try_visit-tried-requires-clause-visits_2 c =
+    c.requires.visits_2
 
 pub offset_bounds-figures-cell-2 : goal.offset_bounds-figures-cell-2
 offset_bounds-figures-cell-2 c =

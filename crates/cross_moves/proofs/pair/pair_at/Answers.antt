@@ -11,9 +11,13 @@ pub bounds-ids-a : goal.bounds-ids-a
 bounds-ids-a c =
     omega (arith, c.requires.a_in_bounds.0, c.requires.a_in_bounds.1, c.requires.a_in_bounds.2, c.requires.a_in_bounds.3)
 
-pub fleet_vehicle-van1-requires : goal.fleet_vehicle-van1-requires
-fleet_vehicle-van1-requires c =
-    (c.requires.fitted, c.requires.nonzero)
+pub fleet_vehicle-van1-requires-clause-fitted : goal.fleet_vehicle-van1-requires-clause-fitted
+fleet_vehicle-van1-requires-clause-fitted c =
+    c.requires.fitted
+
+pub fleet_vehicle-van1-requires-clause-ids_nonzero : goal.fleet_vehicle-van1-requires-clause-ids_nonzero
+fleet_vehicle-van1-requires-clause-ids_nonzero c =
+    c.requires.nonzero
 
 pub offset_bounds-ids-b : goal.offset_bounds-ids-b
 offset_bounds-ids-b c =
@@ -23,9 +27,13 @@ pub bounds-ids-b : goal.bounds-ids-b
 bounds-ids-b c =
     omega (arith, c.requires.a_in_bounds.0, c.requires.a_in_bounds.1, c.requires.a_in_bounds.2, c.requires.a_in_bounds.3)
 
-pub fleet_vehicle-van2-requires : goal.fleet_vehicle-van2-requires
-fleet_vehicle-van2-requires c =
-    (c.requires.fitted, c.requires.nonzero)
+pub fleet_vehicle-van2-requires-clause-fitted : goal.fleet_vehicle-van2-requires-clause-fitted
+fleet_vehicle-van2-requires-clause-fitted c =
+    c.requires.fitted
+
+pub fleet_vehicle-van2-requires-clause-ids_nonzero : goal.fleet_vehicle-van2-requires-clause-ids_nonzero
+fleet_vehicle-van2-requires-clause-ids_nonzero c =
+    c.requires.nonzero
 
 pub offset_bounds-costs-a : goal.offset_bounds-costs-a
 offset_bounds-costs-a c =

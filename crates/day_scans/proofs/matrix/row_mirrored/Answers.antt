@@ -26,7 +26,7 @@ pub returns-then-get : goal.returns-then-get
 unfolding mirrored ne
 returns-then-get c =
     sym (all_fails _ _ c.loop-to.to (search rules) (rw
-    (← c.get.ensures, ← c.get-in-loop-to.ensures) (c.if-get.true)))
+    (← c.get.ensures, ← c.get-in-loop-to.ensures) (not-true _ c.if-get.true)))
 
 pub loop-to-preserved : goal.loop-to-preserved
 unfolding ne
@@ -34,7 +34,7 @@ loop-to-preserved c =
     (
   search rules,
   all_more _ _ c.loop-to.invariant.1 (rw (← c.get.ensures, ← c.get-in-loop-to.ensures)
-      (c.if-get.false)),
+      (not-false _ c.if-get.false)),
 )
 
 pub returns : goal.returns
