@@ -49,7 +49,7 @@ module _ (l : ℕ) (d : ℕ → ℕ → Float) (whole : (a b : ℕ) → a < l �
       let t = sub_whole (leg_whole y x hy hx) (leg_whole x y hx hy) (omega arith) (omega arith) in
       let a = add_whole w t (omega arith) (omega arith) in
       let z = mul-suc 16777216 (length ys) in
-      let r = turned_whole _ (p + (D y x + 0)) (n + (0 + D x y)) (k + 16777216) y ys a (omega arith) (omega arith) (omega arith) hy (omega arith) in
+      let r = turned_whole (s ⊕ (d y x ⊖ d x y)) (p + (D y x + 0)) (n + (0 + D x y)) (k + 16777216) y ys a (omega arith) (omega arith) (omega arith) hy (omega arith) in
       shift_whole (p + (D y x + walk (back D) y ys)) (n + (D x y + walk D y ys)) r (omega arith)
 
   pub reversal_whole : (xs : List ℕ) → length xs ≤ 1008 → Below l xs → Whole (reversal_delta d xs) (inside (back D) xs) (inside D xs)

@@ -20,6 +20,11 @@ exchange_outer-requires c =
     let room = tails_room _ _ _ _ _ _ c.requires in
     omega (arith, c.place_of-from.ensures, c.end_of-a.ensures, c.place_of-b.ensures, c.end_of-to.ensures)
 
+pub exchange_lengths-requires : goal.exchange_lengths-requires
+exchange_lengths-requires c =
+    let room = tails_room _ _ _ _ _ _ c.requires in
+    search rules
+
 pub returns : goal.returns
 returns c =
     rw (c.exchange_outer.ensures, c.exchange_lengths.ensures)

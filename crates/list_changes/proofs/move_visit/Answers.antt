@@ -20,6 +20,11 @@ move_one-requires c =
     let room = relocation_room _ _ _ _ _ _ c.requires in
     omega (arith, c.place_of-p.ensures, c.place_of-q.ensures)
 
+pub move_length-requires-clause-from_in_bounds : goal.move_length-requires-clause-from_in_bounds
+move_length-requires-clause-from_in_bounds c =
+    let room = relocation_room _ _ _ _ _ _ c.requires in
+    search rules
+
 pub move_length-requires-clause-nonzero : goal.move_length-requires-clause-nonzero
 move_length-requires-clause-nonzero c =
     let room = relocation_room _ _ _ _ _ _ c.requires in
