@@ -11,7 +11,7 @@ use mir.ValLaws.{to_z-of_z}
 use Rattle.descent.proofs.Members.{true-T}
 use Rattle.loads.proofs.boxes_in.Goals as goal
 
-read_pos : (c : tie.Start) → pos 0 ≤ℤ to_z w32 (of_z w32 c.args.x)
+read_pos : (c : goal.Start) → pos 0 ≤ℤ to_z w32 (of_z w32 c.args.x)
 read_pos c = subst (λ (z : ℤ). pos 0 ≤ℤ z) (sym (to_z-of_z w32 c.args.x c.ranges.x)) (le_z_yes (true-T (le_z (pos 0) c.args.x) c.requires))
 
 pub overflow_cast-result : goal.overflow_cast-result
