@@ -1,4 +1,7 @@
 // Tail exchange and relocate over the lists of a day: the search of the engine or, where a window is soft, the same moves by whole effective costs.
+
+#![tactic(auto)]
+
 ghost use Rattle.std.specs.Prelude.{◌≡◌, true, ◌<◌, pos};
 ghost use Rattle.std.specs.Int.Signed.{le_z};
 ghost use Rattle.day.specs.Refusal.{capacity_ok};

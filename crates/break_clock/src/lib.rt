@@ -1,5 +1,8 @@
 // The clock of a list that carries the driver's break, evaluation/schedule.rs. The break can go at any stop, and the best one depends on the
 // windows after it. So the clock keeps two labels: the earliest with the break still to take, and with it taken. To be earlier is never worse.
+
+#![tactic(auto)]
+
 ghost use Rattle.std.specs.Prelude.{◌≡◌, ◌<◌};
 ghost use Rattle.day.specs.Matrix.{Tables, travel};
 ghost use Rattle.labels.specs.Columns.{columns_at, Formed, Visits};

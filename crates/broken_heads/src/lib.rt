@@ -1,5 +1,8 @@
 // A head of a list with the driver's break, driven once, so that what lists share isn't driven again. The Rust drives every list whole.
 // A walk over a list goes on from where its head ended (labels' `walk-on`), and where no label is left, none comes again.
+
+#![tactic(auto)]
+
 ghost use Rattle.std.specs.Prelude.{◌≡◌, ◌+◌, ◌<◌};
 ghost use Rattle.labels.specs.Columns.{columns_at, Formed};
 ghost use Rattle.labels.specs.Walk.{onward, tour_of};

@@ -1,4 +1,7 @@
 // A list of visits built in a lent buffer, piece by piece. Each function's contract is `Appended` of edits/specs/Edits.antt.
+
+#![tactic(auto)]
+
 ghost use Rattle.std.specs.Prelude.{◌≡◌, [], ◌∷◌, reverse, ◌+◌, ◌-◌, ◌<◌, ◌≤◌, length};
 ghost use Rattle.std.proofs.Math.Seq.{slice};
 ghost use Rattle.edits.specs.Edits.{Appended};

@@ -1,5 +1,8 @@
 // A block of rows of moves between two lists, worked out in tables of 64 entries: as many rows as fit, one behind another. A row of short lists has few moves,
 // and what a row costs by itself is then paid once a block (the inner loops of `best_move` of local_search/cross_depot.rs).
+
+#![tactic(auto)]
+
 ghost use Rattle.std.specs.Prelude.{◌≡◌, cond, ◌*◌, ◌+◌, ◌≤◌, ◌<◌, length};
 ghost use Rattle.fleet.specs.Fleet.{Driven};
 ghost use Rattle.labels.specs.Columns.{columns_at, Formed};

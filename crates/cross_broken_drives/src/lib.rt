@@ -1,5 +1,8 @@
 // A candidate with a break to take, driven from a head of the list that it changes: over that list's visits up to the stretch that is replaced, over the
 // stretch of the other list, and over its own last visits. It isn't built: its visits are read by position. The head before the stretch is kept for the next.
+
+#![tactic(auto)]
+
 ghost use Rattle.std.specs.Prelude.{◌≡◌, ◌+◌, ◌-◌, ◌<◌, ◌≤◌, length, get_or};
 ghost use Rattle.std.proofs.Math.Seq.{slice};
 ghost use Rattle.labels.specs.Columns.{columns_at, Formed};

@@ -1,5 +1,8 @@
 // What a candidate costs with a break to take. It shares its first visits with the list that it changes: it is driven from a head of them on, and hands back
 // the head of all of them, from which the next candidate is driven.
+
+#![tactic(auto)]
+
 ghost use Rattle.std.specs.Prelude.{◌≡◌, ◌≤◌, length};
 ghost use Rattle.std.proofs.Math.Seq.{slice};
 ghost use Rattle.fleet.specs.Fleet.{Driven};

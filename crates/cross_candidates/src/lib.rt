@@ -1,5 +1,8 @@
 // What a candidate costs with no break to take. It shares its first visits with the list that it changes: that list's heads are driven once and kept
 // (`kept_heads::fill_heads`), and the candidate is driven from its head on.
+
+#![tactic(auto)]
+
 ghost use Rattle.std.specs.Prelude.{◌≡◌, ◌≤◌, length};
 ghost use Rattle.std.proofs.Math.Seq.{slice};
 ghost use Rattle.fleet.specs.Fleet.{Driven};

@@ -1,4 +1,7 @@
 // What a move makes of the tables: the two lists change in place, and the lists that are then empty are dropped.
+
+#![tactic(auto)]
+
 ghost use Rattle.std.specs.Prelude.{◌≡◌, ◌≤◌, ◌<◌, length, set};
 ghost use Rattle.numbers.specs.Operations.{zero64};
 ghost use Rattle.lists.specs.Table.{lists};

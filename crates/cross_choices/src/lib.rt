@@ -1,5 +1,8 @@
 // A row of moves between two lists decided by tables: which moves are open, what their lists cost, and the first least delta (the innermost loops of
 // `best_move` of local_search/cross_depot.rs).
+
+#![tactic(auto)]
+
 ghost use Rattle.std.specs.Prelude.{◌≡◌, ◌*◌, ◌≤◌, ◌<◌, length};
 ghost use Rattle.fleet.specs.Fleet.{Driven};
 ghost use Rattle.cross_moves.specs.Boxes.{Prefixed};

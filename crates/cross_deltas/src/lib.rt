@@ -1,4 +1,7 @@
 // The least delta of each pair of lists, kept over a run of cross-depot: which pairs are as they were, and the better of what is kept and what is found.
+
+#![tactic(auto)]
+
 ghost use Rattle.std.specs.Prelude.{◌≡◌, ◌&&◌};
 ghost use Rattle.cross_choices.specs.Scan.{nothing};
 ghost use Rattle.cross_deltas.specs.Deltas.{joined, is_old, kept_of};

@@ -1,6 +1,9 @@
 // A whole run of cross-depot (`cross_depot_improve` of local_search/cross_depot.rs): visits move between lists whose vans start from different depots. From the
 // lent prices on, the greatest gain over relocations, swaps and tail exchanges of every pair of lists, the first found of equals, until none gains or the limit
 // is used up; every list is priced with its own van.
+
+#![tactic(auto)]
+
 ghost use Rattle.std.specs.Prelude.{◌≡◌, length};
 ghost use Rattle.edits.specs.Total.{SameVisits};
 ghost use Rattle.lists.specs.Table.{lists};

@@ -1,4 +1,7 @@
 // What a list costs with its van and no break to take, its head driven: a stretch of another list and then its own last visits follow the head.
+
+#![tactic(auto)]
+
 ghost use Rattle.std.specs.Prelude.{◌≡◌, ◌≤◌, ◌<◌, length, drop};
 ghost use Rattle.std.proofs.Math.Seq.{slice};
 ghost use Rattle.fleet.specs.Fleet.{Driven};

@@ -1,4 +1,7 @@
 // Cross-depot's moves (local_search/cross_depot.rs): two lists whose vans start from different depots, a move between them, and what a list costs with its
 // van. The definitions of the engine and of its whole run are in specs/CrossDepot.antt.
+
+#![tactic(auto)]
+
 pub mod pair; // two lists, and a move between them
 pub mod price; // the price of a list

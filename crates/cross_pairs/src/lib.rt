@@ -1,6 +1,9 @@
 // The best move between two lists of different depots (the inner loops of `best_move` of local_search/cross_depot.rs). Moves are tried row by row, as many
 // rows at once as the lent tables have room for: what the lists of a block of rows cost is worked out into the tables, the first list's before the second's,
 // and the first least delta of the block is taken.
+
+#![tactic(auto)]
+
 ghost use Rattle.std.specs.Prelude.{◌≡◌, ◌+◌, length, take, drop};
 ghost use Rattle.labels.specs.Columns.{columns_at, Formed};
 ghost use Rattle.kept_heads.specs.Kept.{Kept};

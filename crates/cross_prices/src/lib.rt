@@ -1,4 +1,7 @@
 // What a list costs with its van (`priced` of local_search/cross_depot.rs).
+
+#![tactic(auto)]
+
 ghost use Rattle.std.specs.Prelude.{◌≡◌, ◌+◌, ◌≤◌, length, take};
 ghost use Rattle.std.proofs.Math.Seq.{slice};
 ghost use Rattle.labels.specs.Columns.{columns_at, Formed, Visits};

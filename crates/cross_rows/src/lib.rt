@@ -1,5 +1,8 @@
 // What the candidates of a row cost with their van, each driven from the head that it shares with the list that it changes: one of the heads that are kept,
 // and with a break to take the one head that goes on from candidate to candidate.
+
+#![tactic(auto)]
+
 ghost use Rattle.std.specs.Prelude.{◌≡◌, ◌≤◌, ◌<◌, length};
 ghost use Rattle.fleet.specs.Fleet.{Driven};
 ghost use Rattle.labels.specs.Columns.{columns_at, Formed};

@@ -1,5 +1,8 @@
 // The moves of a run of cross-depot (the loop of `cross_depot_improve` of local_search/cross_depot.rs): turn after turn, until no move gains or the limit is
 // used up.
+
+#![tactic(auto)]
+
 ghost use Rattle.std.specs.Prelude.{◌≡◌, cond, length};
 ghost use Rattle.numbers.specs.Floor.{gain_floor};
 ghost use Rattle.day.specs.Matrix.{scale_of};

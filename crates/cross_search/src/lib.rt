@@ -1,5 +1,8 @@
 // The best move over all pairs of lists of different depots (`best_move` of local_search/cross_depot.rs). The least delta of each pair is kept over a run,
 // and a pair whose two lists are as they were is searched again only where its delta is below the best so far.
+
+#![tactic(auto)]
+
 ghost use Rattle.std.specs.Prelude.{◌≡◌, ◌+◌, ◌*◌, ◌<◌, length, set};
 ghost use Rattle.labels.specs.Columns.{columns_at};
 ghost use Rattle.cross_moves.specs.CrossDepot.{plan_of};

@@ -1,4 +1,7 @@
 // The start of a run: the van of each list, and what each list costs by the price that is lent.
+
+#![tactic(auto)]
+
 ghost use Rattle.std.specs.Prelude.{◌≡◌, ◌≤◌, ◌<◌, length};
 ghost use Rattle.fleet.specs.Fleet.{fleet_at, Fitted};
 ghost use Rattle.cross_moves.specs.CrossDepot.{found_ids, starting_costs};

@@ -1,5 +1,8 @@
 // One turn of a run of cross-depot (the body of the loop of `cross_depot_improve` of local_search/cross_depot.rs): the best move searched, and made in the
 // tables where one gains and the limit leaves room.
+
+#![tactic(auto)]
+
 ghost use Rattle.std.specs.Prelude.{◌≡◌, true, ◌≤◌, length, take};
 ghost use Rattle.numbers.specs.Floor.{gain_floor};
 ghost use Rattle.day.specs.Matrix.{scale_of};

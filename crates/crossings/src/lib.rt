@@ -1,5 +1,8 @@
 // The entry across depots, which changes all lists in place and the ids of their vans. Its contract says, in this order: what is answered; what the three
 // tables hold then; that they hold the same visits as before, whatever the numbers; and what the lists handed back carry.
+
+#![tactic(auto)]
+
 ghost use Rattle.std.specs.Prelude.{◌≡◌, take};
 ghost use Rattle.day.specs.Day.{day_at};
 ghost use Rattle.edits.specs.Total.{SameVisits};

@@ -1,5 +1,8 @@
 // A day and a van as they are lent: columns by location, the tables of distances and times.
 // Ports distance/matrix.rs, models/customer.rs, models/vehicle.rs and `RouteLimits` of evaluation/mod.rs, without the parts that build records.
+
+#![tactic(auto)]
+
 pub mod flags; // the bits of a flags byte
 pub mod matrix; // distance, travel time
 pub mod customer; // the window of a location

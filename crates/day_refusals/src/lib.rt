@@ -1,4 +1,7 @@
 // Refusals 1 to 5 of document 01, those of the day, found in the order of their numbers.
+
+#![tactic(auto)]
+
 ghost use Rattle.std.specs.Prelude.{◌≡◌, ◌≤◌};
 ghost use Rattle.day.specs.Day.{day_at};
 ghost use Rattle.day.specs.Refusal.{size_ok, tables_ok, lengths_ok};

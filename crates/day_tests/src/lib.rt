@@ -1,4 +1,7 @@
 // The tests of a day's tables, locations and windows that refusals 3 to 5 of document 01 ask.
+
+#![tactic(auto)]
+
 ghost use Rattle.std.specs.Prelude.{◌≡◌, true, ◌+◌, ◌≤◌, ◌<◌, length, get_or};
 ghost use Rattle.std.specs.Float.{nan};
 ghost use Rattle.numbers.specs.Plain.{plain};

@@ -2,6 +2,8 @@
 // demand 3 for the program's own judging: definitions (specs/), laws (proofs/) and the structs that both the definitions and the code speak of. Where the Rust
 // adds up the legs of a turned piece, so does the definition; the short cut on a symmetric table gives the same bits.
 
+#![tactic(auto)]
+
 // Two stops: those around a piece, or a piece's own first and last visit.
 #[derive(Clone, Copy)]
 pub struct Ends {

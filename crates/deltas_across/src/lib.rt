@@ -1,5 +1,8 @@
 // The deltas of tail exchange and relocate in f64, bit for bit as the Rust works them out (exchange.rs, relocate.rs). A function over a list reads its stops
 // and hands them to a sum.
+
+#![tactic(auto)]
+
 ghost use Rattle.std.specs.Prelude.{◌≡◌, ◌<◌, ◌≤◌, length};
 ghost use Rattle.day.specs.Matrix.{leg, Square};
 ghost use Rattle.deltas.specs.Changes.{Placed, removal_cost, fixed_if, tails_change};

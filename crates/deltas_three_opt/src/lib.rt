@@ -1,4 +1,7 @@
 // The deltas of 3-opt in f64, bit for bit as the Rust works them out (three_opt.rs): the list cut in pieces, and two of these exchanged or turned round.
+
+#![tactic(auto)]
+
 ghost use Rattle.std.specs.Prelude.{◌≡◌, ◌<◌, length};
 ghost use Rattle.day.specs.Matrix.{leg, Square};
 ghost use Rattle.deltas.specs.Changes.{Placed, turned_if, plus_if, through, through_if, pattern_change};

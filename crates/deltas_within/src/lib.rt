@@ -1,5 +1,8 @@
 // The deltas of 2-opt and Or-opt in f64, bit for bit as the Rust works them out (two_opt.rs, or_opt.rs), and what turning a piece changes inside it. A function
 // over a list reads its stops and hands them to a sum.
+
+#![tactic(auto)]
+
 ghost use Rattle.std.specs.Prelude.{◌≡◌, ◌+◌, ◌<◌, ◌≤◌, length};
 ghost use Rattle.std.proofs.Math.Seq.{slice};
 ghost use Rattle.numbers.specs.Operations.{◌⊕◌, ◌⊖◌};

@@ -2,6 +2,9 @@
 //
 // Each function's contract equates its slice at exit with the edit of specs/Edits.antt at entry. Every edit is made of reversals, so
 // it needs no second list, and each visit is moved twice at most.
+
+#![tactic(auto)]
+
 ghost use Rattle.std.specs.Prelude.{◌≡◌, ◌⊎◌, ◌+◌, ◌<◌, ◌≤◌, length};
 ghost use Rattle.edits.specs.Edits.{swapped, reversed, exchanged, put_before, outer_exchanged};
 

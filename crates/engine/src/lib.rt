@@ -1,4 +1,7 @@
 // What every engine shares: how a run ends, and whether a candidate passes.
+
+#![tactic(auto)]
+
 ghost use Rattle.std.specs.Prelude.{◌≡◌, ◌<◌};
 ghost use Rattle.labels.specs.Columns.{columns_at, Formed, Visits};
 ghost use Rattle.engine.specs.Engine.{passing};

@@ -2,6 +2,9 @@
 // of one visit or more and exchange their tails; both loads and both lists pass.
 //
 // The next move is that of `exchange_sweeps`. After a move the sweep goes on with the next pair; a sweep with no move ends the run.
+
+#![tactic(auto)]
+
 ghost use Rattle.std.specs.Prelude.{◌≡◌, true, [], ◌∷◌, ◌<◌, pos, length};
 ghost use Rattle.std.specs.Int.Signed.{le_z};
 ghost use Rattle.numbers.specs.Operations.{zero64};

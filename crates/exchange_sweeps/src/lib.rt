@@ -1,5 +1,8 @@
 // Tail exchange's next move (local_search/exchange.rs, where no window is soft): the pairs of lists r1 < r2 in turn, at each the best exchange of the two
 // (crate `tails`). The first that there is ends the search; behind the last pair comes a new sweep, once.
+
+#![tactic(auto)]
+
 ghost use Rattle.std.specs.Prelude.{◌≡◌, ◌<◌, length};
 ghost use Rattle.lists.specs.Table.{lists};
 ghost use Rattle.labels.specs.Columns.{columns_at};

@@ -1,4 +1,7 @@
 // Refusals 11 and 12 of document 01: the lengths of a fleet's columns and of the lists' columns, and the prices among these.
+
+#![tactic(auto)]
+
 ghost use Rattle.std.specs.Prelude.{◌≡◌};
 ghost use Rattle.fleet.specs.Fleet.{fleet_at};
 ghost use Rattle.fleet.specs.Refusal.{cost_columns_ok, limit_columns_ok, list_columns_ok, fleet_ok, prices_refusal};

@@ -1,4 +1,7 @@
 // The refusals of a fleet, of document 01's table, in their order: 11 first, then every van for 6, then every van for 7.
+
+#![tactic(auto)]
+
 ghost use Rattle.std.specs.Prelude.{◌≡◌, true, ◌≤◌, length, get_or};
 ghost use Rattle.tests.specs.All.{all_below};
 ghost use Rattle.day.specs.Refusal.{is_depot};

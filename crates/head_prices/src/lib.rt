@@ -1,4 +1,7 @@
 // What a list costs whose head is driven: the visits behind the head are driven from its end on. The Rust drives every list whole; the price is the same.
+
+#![tactic(auto)]
+
 ghost use Rattle.std.specs.Prelude.{◌≡◌, ◌<◌};
 ghost use Rattle.labels.specs.Columns.{columns_at, Formed, Visits};
 ghost use Rattle.head_prices.specs.Prices.{ended_cost, cost_from, price_from};

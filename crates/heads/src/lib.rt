@@ -1,5 +1,8 @@
 // A head of a list, driven once, so that what lists share isn't driven again. The Rust drives every list whole.
 // A walk over a list goes on from where its head ended (labels' `walk-on`). With a break to take, the head stays at the depot.
+
+#![tactic(auto)]
+
 ghost use Rattle.std.specs.Prelude.{◌≡◌, ◌<◌, ◌≤◌, length};
 ghost use Rattle.labels.specs.Columns.{columns_at, Formed, Visits};
 ghost use Rattle.heads.specs.Head.{at_depot, shared, nearest, Driven, Drove};

@@ -1,5 +1,8 @@
 // The entries that change one list in place: 2-opt, Or-opt and 3-opt. Each contract says, in this order: what is answered; what the table of visits holds
 // then; that it holds the same visits as before, whatever the numbers; and, where demand 3's premises hold, its claim about this run.
+
+#![tactic(auto)]
+
 ghost use Rattle.std.specs.Prelude.{◌≡◌, true, ◌<◌};
 ghost use Rattle.day.specs.Day.{day_at};
 ghost use Rattle.day.specs.Refusal.{all_plain};

@@ -3,6 +3,9 @@
 // places but those at the change stay what they were.
 //
 // Two lent tables hold it, 1,024 figures and 1,024 places, at 16 times the visit plus the list; a figure that is not finite says nothing.
+
+#![tactic(auto)]
+
 ghost use Rattle.std.specs.Prelude.{◌≡◌, ℕ, ◌+◌, ◌≤◌, ◌<◌, T, length, get_or, set};
 ghost use Rattle.std.specs.Float.{nan};
 ghost use Rattle.std.specs.Float.Ieee.Scale.{finite};

@@ -1,4 +1,7 @@
 // All heads of a list, kept in a lent table, four numbers a head, for the lists that share their first visits with it.
+
+#![tactic(auto)]
+
 ghost use Rattle.std.specs.Prelude.{◌≡◌, ◌<◌, ◌≤◌, length};
 ghost use Rattle.labels.specs.Columns.{columns_at, Formed, Visits};
 ghost use Rattle.kept_heads.specs.Kept.{place_before, head_of, stored, Kept};

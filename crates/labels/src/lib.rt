@@ -1,3 +1,6 @@
 // The van at a stop with its service done, with and without the driver's break (the label of evaluation/schedule.rs).
+
+#![tactic(auto)]
+
 pub mod stop; // what the columns say of a visit
 pub mod label; // the van at a stop with its service done

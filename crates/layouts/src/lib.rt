@@ -1,5 +1,8 @@
 // A list in four pieces A, B, C and D, of which B and C change places or are turned round: every candidate within a list is one. It is laid out in a
 // buffer; or it is driven from a head of the list without being built, and ends where a visit can't be served, as most candidates soon do.
+
+#![tactic(auto)]
+
 ghost use Rattle.std.specs.Prelude.{◌≡◌, true, false, ◌+◌, ◌-◌, ◌<◌, ◌≤◌, length, take, drop, get_or};
 ghost use Rattle.std.proofs.Math.Seq.{slice};
 ghost use Rattle.edits.specs.Edits.{Appended};

@@ -1,5 +1,8 @@
 // `push` over a clock that is lent and advanced, as evaluation/schedule.rs has it (`BreakClock::push(&mut self, ..) -> bool`).
 // It calls the `push` that takes the clock by value; evaluation's own walks use that one.
+
+#![tactic(auto)]
+
 ghost use Rattle.std.specs.Prelude.{◌≡◌, ◌<◌};
 ghost use Rattle.labels.specs.Columns.{columns_at, Formed};
 ghost use Rattle.break_clock.specs.Schedule.{pushed, any_left_of};

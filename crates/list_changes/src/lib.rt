@@ -1,5 +1,8 @@
 // The edits of both tables of lists in place: a visit or a tail that changes lists, and the empty lists dropped (local_search/relocate.rs, exchange.rs). Each
 // equals its definition on a list of lists.
+
+#![tactic(auto)]
+
 ghost use Rattle.std.specs.Prelude.{◌≡◌, [], ◌∷◌, ◌+◌, ◌≤◌, ◌<◌, length, get_or};
 ghost use Rattle.lists.specs.Table.{lists};
 ghost use Rattle.list_changes.specs.Edits.{nonzero, packed, Edited, Relocates, relocated, moved_one, length_moved, Cuts, tails_exchanged, tail_lengths};

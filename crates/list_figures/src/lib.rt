@@ -1,5 +1,8 @@
 // What each list of a call costs and loads where a day has a soft window (local_search/exchange.rs, the `soft` branches: `old1`, `old2` and the loads).
 // A move changes two lists only, so that a run keeps both figures of every list in two lent tables of 16 entries, and works them out again for these two.
+
+#![tactic(auto)]
+
 ghost use Rattle.std.specs.Prelude.{◌≡◌, ◌<◌, length, set};
 ghost use Rattle.edits.specs.Total.{total};
 ghost use Rattle.labels.specs.Columns.{columns_at};

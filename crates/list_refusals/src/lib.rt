@@ -1,4 +1,7 @@
 // Refusals 8 to 10 of document 01, those of the lists, found in the order of their numbers.
+
+#![tactic(auto)]
+
 ghost use Rattle.std.specs.Prelude.{◌≡◌, ℕ, ◌≤◌, ◌<◌, length, get_or};
 ghost use Rattle.list_refusals.specs.Refused.{all_short, shape_ok, visit_ok, visits_ok, distinct, table_refusal, lists_refusal};
 

@@ -1,5 +1,8 @@
 // The lists of a call: one table of visits, the lists one after another, and one of their lengths. Where a list lies, and a list as the caller's own part of
 // the table (specs/Table.antt says how the two tables go together with a list of lists).
+
+#![tactic(auto)]
+
 ghost use Rattle.std.specs.Prelude.{◌≡◌, ◌+◌, ◌≤◌, ◌<◌, length, get_or};
 ghost use Rattle.lists.specs.Table.{Laid, start_of, list_of};
 

@@ -1,5 +1,8 @@
 // Loads (relocate.rs and exchange.rs, `load`, `demand`): the boxes of a visit and the load of a list, for the engines that move visits between lists. A list
 // has at most 63 visits of at most 1,000,000 boxes, so that no sum of theirs can wrap.
+
+#![tactic(auto)]
+
 ghost use Rattle.std.specs.Prelude.{◌≡◌, true, ◌<◌, ◌≤◌, pos, nat_abs, length, get_or};
 ghost use Rattle.std.specs.Int.Signed.{le_z};
 ghost use Rattle.day.specs.Refusal.{demand_ok};

@@ -3,6 +3,9 @@
 //
 // A place is a neighbour by its numbers. Each function's contract says which neighbours are left from its answer on, so that a loop over places
 // goes through the whole enumeration of specs/Neighbours.antt.
+
+#![tactic(auto)]
+
 pub mod layout;
 
 ghost use Rattle.std.specs.Prelude.{◌≡◌, ◌⊎◌, map, ◌+◌, ◌<◌, ◌≤◌};

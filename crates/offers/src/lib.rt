@@ -4,6 +4,9 @@
 //
 // The Rust collects the moves that gain, sorts them and takes the first that passes; here the best so far is kept, and a candidate is checked only where
 // it is better.
+
+#![tactic(auto)]
+
 ghost use Rattle.std.specs.Prelude.{◌≡◌, ◌<◌, ◌≤◌, length};
 ghost use Rattle.lists.specs.Table.{lists};
 ghost use Rattle.labels.specs.Columns.{columns_at};

@@ -2,6 +2,9 @@
 //
 // Order of search: piece lengths 1, 2, 3 in turn, at each the best move of a piece of that length (segment_moves); after a move the sweep goes on with the
 // next length. Every function states what the definition chooses from here on, so that each loop shows that the rest equals the whole.
+
+#![tactic(auto)]
+
 ghost use Rattle.std.specs.Prelude.{◌≡◌, [], ◌<◌, length};
 ghost use Rattle.numbers.specs.Operations.{zero64};
 ghost use Rattle.labels.specs.Columns.{columns_at, Formed, Visits};

@@ -1,6 +1,9 @@
 // The best move of every ordered pair of lists, kept in a table, for both relocate engines: ports `pairs`, `best` and `moved` of `Relocations` in
 // local_search/relocate.rs. A move changes two lists, so that only the pairs with one of them in it are searched again; the least entry, by (delta, from
 // list, position, to list, place), is the move that a scan of all relocations takes, since the scan goes in that order of the four numbers.
+
+#![tactic(auto)]
+
 ghost use Rattle.std.specs.Prelude.{◌≡◌, ◌≤◌, ◌<◌};
 ghost use Rattle.pairs.specs.Pairs.{in_order, less_then, earlier, as_move, ahead, first_of, first_among};
 ghost use Rattle.pairs.specs.Pairs.{found_if, table_at, Sized, entry, narrowed, put, row_from, least_entry};

@@ -3,6 +3,9 @@
 // The Rust sorts the patterns that count and takes the first that passes. Here they are scanned in order, and one is tested only where its delta is
 // below the best that passed so far: the same answer, and where none passes, which is where a search spends its time, the same tests. Before that scan
 // it is asked whether any counts.
+
+#![tactic(auto)]
+
 ghost use Rattle.std.specs.Prelude.{◌≡◌, ◌<◌, ◌≤◌, length};
 ghost use Rattle.day.specs.Matrix.{leg, Square};
 ghost use Rattle.labels.specs.Columns.{columns_at, Visits};

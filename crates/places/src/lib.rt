@@ -1,5 +1,8 @@
 // The best place of a list for a visit (relocate.rs, `best_between`: the loop over the places): the visit is offered at each, and what the places cost at
 // least is noted. Of equal deltas the first place is taken; the list with the visit in it has to pass.
+
+#![tactic(auto)]
+
 ghost use Rattle.std.specs.Prelude.{◌≡◌, suc, ◌+◌, ◌<◌, ◌≤◌, length, take};
 ghost use Rattle.day.specs.Matrix.{leg};
 ghost use Rattle.labels.specs.Columns.{columns_at, Visits};

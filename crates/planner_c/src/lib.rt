@@ -1,5 +1,8 @@
 // The planner's entries for C and Rust, as a static library (`rt staticlib planner_c`; include/planner.h declares them). Each is thin: it calls the
 // entry of crate `planner`, answers the refusal's number or 0, and writes the values of the answer's case. Where it refuses, it writes nothing.
+
+#![tactic(auto)]
+
 pub mod improve; // 2-opt, Or-opt and 3-opt of a list
 pub mod rearrange; // engines over all lists
 pub mod depots; // the engine over all lists and a fleet

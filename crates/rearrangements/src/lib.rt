@@ -1,5 +1,8 @@
 // The entries across lists, which change all lists in place: relocate and tail exchange. Each contract says, in this order: what is answered; what the
 // two tables hold then; that they hold the same visits as before, whatever the numbers; and, where demand 3's premises hold, its claim about this run.
+
+#![tactic(auto)]
+
 ghost use Rattle.std.specs.Prelude.{◌≡◌, false, take};
 ghost use Rattle.day.specs.Day.{day_at};
 ghost use Rattle.edits.specs.Total.{SameVisits};

@@ -1,5 +1,8 @@
 // Ports parts of local_search/three_opt.rs: a list cut behind three of its visits, with the pieces B and C between the cuts put back as one of the seven
 // patterns has them: built in a buffer, or in place of the list.
+
+#![tactic(auto)]
+
 ghost use Rattle.std.specs.Prelude.{◌≡◌, ◌++◌, ◌+◌, ◌-◌, ◌<◌, ◌≤◌, length, take};
 ghost use Rattle.std.proofs.Math.Seq.{slice};
 ghost use Rattle.descent.specs.Permitted.{turn, arranged};

@@ -1,4 +1,7 @@
 // The number of the first refusal, which every entry asks first.
+
+#![tactic(auto)]
+
 ghost use Rattle.std.specs.Prelude.{◌≡◌};
 ghost use Rattle.day.specs.Day.{day_at};
 ghost use Rattle.fleet.specs.Fleet.{fleet_at};

@@ -5,6 +5,9 @@
 // As in the Rust the best move of every pair of lists is kept in a table (crate `relocations`), and so is what it costs at least to insert a visit into a
 // list (crate `insertions`), by which most visits need not be offered (crate `offers`). A move changes two lists, so that only the pairs with one of them in
 // it are searched again (crate `changes`). The move taken is the one that a scan of all candidates takes, which is the definition.
+
+#![tactic(auto)]
+
 ghost use Rattle.std.specs.Prelude.{◌≡◌, true, false, [], ◌∷◌, ◌<◌, ◌≤◌, length};
 ghost use Rattle.day.specs.Refusal.{capacity_ok};
 ghost use Rattle.lists.specs.Table.{lists};

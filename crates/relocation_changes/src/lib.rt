@@ -1,5 +1,8 @@
 // What a relocation makes of the tables (relocate.rs, `Relocations::moved`): the visit goes to its new list, the cache of insertions follows, and the pairs
 // of the two lists that changed are searched again.
+
+#![tactic(auto)]
+
 ghost use Rattle.std.specs.Prelude.{◌≡◌, ◌<◌, ◌≤◌, length, get_or};
 ghost use Rattle.day.specs.Matrix.{leg, Square};
 ghost use Rattle.lists.specs.Table.{Laid, lists, list_of};

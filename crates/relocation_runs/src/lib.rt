@@ -1,5 +1,8 @@
 // A run of relocate where the best move of every pair of lists is known (relocate.rs, the loop of `relocate_improve`): the least of the table is made, and
 // the table follows, until none gains or the limit is used up.
+
+#![tactic(auto)]
+
 ghost use Rattle.std.specs.Prelude.{◌≡◌, false, [], ◌∷◌, ◌≤◌, length};
 ghost use Rattle.lists.specs.Table.{lists};
 ghost use Rattle.list_changes.specs.Edits.{Edited};

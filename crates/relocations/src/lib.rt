@@ -1,6 +1,9 @@
 // The best relocation between every ordered pair of lists (relocate.rs, `Relocations`: `with_pruning`, `moved`): a table of the pairs (crate `pairs`), filled
 // by the search of each pair (crate `offers`), first of all pairs and after a move of those with one of its two lists, for the other pairs stay what they
 // were.
+
+#![tactic(auto)]
+
 ghost use Rattle.std.specs.Prelude.{◌+◌, ◌<◌, ◌≤◌, length};
 ghost use Rattle.lists.specs.Table.{lists};
 ghost use Rattle.labels.specs.Columns.{columns_at};

@@ -1,5 +1,8 @@
 // One place of 2-opt's sweep over a list (local_search/two_opt.rs, where no window is soft): the place that follows it, and the reversal at it, which is made
 // where it gains and the list then passes.
+
+#![tactic(auto)]
+
 ghost use Rattle.std.specs.Prelude.{◌≡◌, true, cond, ◌<◌, length};
 ghost use Rattle.day.specs.declared.vehicle.Rest.TheVariants.{NoBreak};
 ghost use Rattle.labels.specs.Columns.{columns_at, Visits};

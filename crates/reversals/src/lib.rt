@@ -2,6 +2,9 @@
 //
 // Places are the pairs first < last, in the order of the Rust's two loops, with one candidate each. The next move is the first ahead in this sweep or,
 // where there is none, the first of a new sweep. Each search equals the definition's `first_move`.
+
+#![tactic(auto)]
+
 ghost use Rattle.std.specs.Prelude.{length};
 ghost use Rattle.labels.specs.Columns.{columns_at, Visits};
 ghost use Rattle.reversal_places.specs.Places.{Worked};

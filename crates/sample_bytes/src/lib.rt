@@ -1,4 +1,7 @@
 // The stored sample byte by byte: words, values and numbers by position. A position past the end is NOWHERE, and stays there; what lies there reads as 0.
+
+#![tactic(auto)]
+
 ghost use Rattle.std.specs.Prelude.{◌≡◌, ◌≤◌, not};
 ghost use Rattle.std.specs.Float.{binary64};
 ghost use Rattle.std.specs.Float.Ieee.{nan_bits};

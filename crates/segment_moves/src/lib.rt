@@ -1,5 +1,8 @@
 // local_search/or_opt.rs: the best move of a piece of a given length within its list: the first least of the changes that count and pass, by the piece's place
 // and then by its new position. Every function states what the definition chooses from here on, so that each loop shows that the rest equals the whole.
+
+#![tactic(auto)]
+
 ghost use Rattle.std.specs.Prelude.{◌≡◌, ◌⊎◌, suc, ◌+◌, ◌<◌, ◌≤◌, length};
 ghost use Rattle.day.specs.Matrix.{leg};
 ghost use Rattle.labels.specs.Columns.{columns_at};

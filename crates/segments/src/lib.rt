@@ -1,5 +1,8 @@
 // local_search/or_opt.rs (Or 1976): a piece of a list at one new position of it: what that changes, whether the list then passes, and the better of it and
 // the best so far. The Rust's one test against the best so far is the definition's two, as what is below the best also counts.
+
+#![tactic(auto)]
+
 ghost use Rattle.std.specs.Prelude.{◌≡◌, [], ◌∷◌, length};
 ghost use Rattle.day.specs.Matrix.{leg};
 ghost use Rattle.labels.specs.Columns.{columns_at};

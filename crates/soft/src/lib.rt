@@ -1,5 +1,8 @@
 // local_search/soft.rs: the search within a list where a day has a soft window, steepest descent over the effective cost. A pass (soft_neighbours)
 // finds the neighbour of least cost; it is made in the list, and the next pass begins from there.
+
+#![tactic(auto)]
+
 ghost use Rattle.std.specs.Prelude.{◌≡◌, ◌<◌, ◌≤◌, length};
 ghost use Rattle.numbers.specs.Floor.{gain_floor};
 ghost use Rattle.day.specs.Matrix.{scale_of};

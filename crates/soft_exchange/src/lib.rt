@@ -3,6 +3,9 @@
 // Pairs and the order of search are those of `exchange_sweeps`, and the best exchange of two lists is that of `soft_tails`. What each list costs and loads is
 // kept in two tables (`list_figures`), and worked out again for the two lists that a move changes. Where the rounded delta of an exchange that changes
 // nothing counts, only the limit ends the run, as in the Rust.
+
+#![tactic(auto)]
+
 ghost use Rattle.std.specs.Prelude.{◌≡◌, true, [], ◌<◌, pos, length};
 ghost use Rattle.std.specs.Int.Signed.{le_z};
 ghost use Rattle.numbers.specs.Floor.{gain_floor};

@@ -3,6 +3,9 @@
 //
 // The Rust's closure over all neighbours is a loop over places here, each a layout of the list (neighbours) in one lent buffer. A
 // neighbour keeps the list's first visits: their head is driven once for all that share it. The best so far is kept by its numbers alone.
+
+#![tactic(auto)]
+
 ghost use Rattle.std.specs.Prelude.{◌≡◌, ◌<◌, ◌≤◌, length};
 ghost use Rattle.labels.specs.Columns.{columns_at, Formed, Visits};
 ghost use Rattle.evaluation.specs.Route.{effective_cost};

@@ -1,6 +1,9 @@
 // The best move of a pair of lists where a day has a soft window (relocate.rs, `best_between_soft`): each visit of the one is offered at each place of the
 // other (crate `soft_visit_offers`). A list that has no price isn't moved into or out of. Later visits share the giver's first ones: these are driven once
 // (`heads`).
+
+#![tactic(auto)]
+
 ghost use Rattle.std.specs.Prelude.{◌≡◌, ◌<◌, ◌≤◌, length};
 ghost use Rattle.labels.specs.Columns.{columns_at};
 ghost use Rattle.descent.specs.Order.{range};

@@ -1,6 +1,9 @@
 // The best place of a list for a visit where a day has a soft window (relocate.rs, `best_between_soft`: the prices and the loop over the places). What a
 // visit taken out and put in changes can't be told from its neighbours there, for one put in front of a late one makes it later, so that every list is priced
 // whole. Offers at later places share the list's first visits: these are driven once (`heads`), and a list is priced from there on.
+
+#![tactic(auto)]
+
 ghost use Rattle.std.specs.Prelude.{◌≡◌, suc, ◌+◌, ◌-◌, ◌<◌, ◌≤◌, length, take};
 ghost use Rattle.edits.specs.Edits.{swapped, without, inserted};
 ghost use Rattle.labels.specs.Columns.{columns_at, Visits};

@@ -3,6 +3,9 @@
 //
 // The best move of each ordered pair of lists is kept in a table (crate `soft_relocations`), of which the least entry is the next move: the one that a scan in
 // the order (from list, position, to list, place) takes. After a move only the pairs with one of its two lists are searched again.
+
+#![tactic(auto)]
+
 ghost use Rattle.std.specs.Prelude.{◌≡◌, true, ◌+◌, ◌<◌, ◌≤◌, length};
 ghost use Rattle.numbers.specs.Floor.{gain_floor};
 ghost use Rattle.day.specs.Matrix.{scale_of};

@@ -1,5 +1,8 @@
 // The best relocation between every ordered pair of lists where a day has a soft window (relocate.rs, `Relocations`): a table of the pairs (crate `pairs`),
 // filled by the search of each pair (crate `soft_offers`), first of all pairs and after a move of those with one of its two lists.
+
+#![tactic(auto)]
+
 ghost use Rattle.std.specs.Prelude.{◌+◌, ◌<◌, ◌≤◌, length};
 ghost use Rattle.labels.specs.Columns.{columns_at};
 ghost use Rattle.loads.specs.Loads.{Loaded, Held};

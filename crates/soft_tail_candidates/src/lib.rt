@@ -1,4 +1,7 @@
 // One tail exchange of two lists where a day has a soft window (local_search/exchange.rs, the `soft` branches): the better of it and the best so far.
+
+#![tactic(auto)]
+
 ghost use Rattle.std.specs.Prelude.{◌≡◌, true, ◌≤◌, length};
 ghost use Rattle.edits.specs.Total.{total};
 ghost use Rattle.list_changes.specs.Edits.{joined};

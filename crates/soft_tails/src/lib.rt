@@ -4,6 +4,9 @@
 // Cuts, loads and the order of search are those of `tails`. What differs is the delta, and that a pair of which one list has no finite price has no move.
 // The cut at both ends, which changes nothing, is tried too, as in the Rust.
 // Candidates with one cut share the head in front of it: it is driven once (`heads`), and a new list is priced from there on.
+
+#![tactic(auto)]
+
 ghost use Rattle.std.specs.Prelude.{◌≡◌, true, ◌≤◌, length, take};
 ghost use Rattle.edits.specs.Total.{total};
 ghost use Rattle.labels.specs.Columns.{columns_at};

@@ -1,5 +1,8 @@
 // A visit of one list offered to another where a day has a soft window (relocate.rs, `best_between_soft`): at each place, unless the list has no room for
 // it, or the giver no price without it. Every move is priced whole, on both lists, with the fixed cost saved or paid (crate `soft_places`).
+
+#![tactic(auto)]
+
 ghost use Rattle.std.specs.Prelude.{◌≡◌, ◌<◌, ◌≤◌, length};
 ghost use Rattle.labels.specs.Columns.{columns_at};
 ghost use Rattle.loads.specs.Loads.{Loaded};

@@ -1,4 +1,7 @@
 // Which stops a move touches, by position, and the sum that the deltas within a list and across lists share: a way by a piece, less the direct leg.
+
+#![tactic(auto)]
+
 ghost use Rattle.std.specs.Prelude.{◌≡◌, ◌<◌, ◌≤◌, length, get_or};
 ghost use Rattle.day.specs.Matrix.{leg, Square};
 ghost use Rattle.deltas.specs.Changes.{Placed, detour};

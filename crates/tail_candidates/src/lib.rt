@@ -1,5 +1,8 @@
 // One tail exchange of two lists (local_search/exchange.rs, where no window is soft): whether both new lists pass, what it changes, and the better of it and
 // the best so far. The Rust's two tests of a delta are one: the best so far starts at minus the floor.
+
+#![tactic(auto)]
+
 ghost use Rattle.std.specs.Prelude.{◌≡◌, ◌<◌, ◌≤◌, length};
 ghost use Rattle.edits.specs.Total.{total};
 ghost use Rattle.list_changes.specs.Edits.{joined};

@@ -1,6 +1,9 @@
 // What a tail exchange changes where a day has a soft window (local_search/exchange.rs, the `soft` branches). An exchange that shortens two lists can make
 // a van late, so that it is judged by the whole of both new lists: distance plus lateness cost. Each is priced from the head that it keeps, where that was
 // driven up to the cut (`heads`).
+
+#![tactic(auto)]
+
 ghost use Rattle.std.specs.Prelude.{◌≡◌, ◌<◌, ◌≤◌, length};
 ghost use Rattle.numbers.specs.Operations.{◌⊕◌, ◌⊖◌};
 ghost use Rattle.list_changes.specs.Edits.{joined};

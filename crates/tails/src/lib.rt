@@ -1,5 +1,8 @@
 // The best tail exchange of two lists (local_search/exchange.rs, where no window is soft): the first least of the exchanges that count and pass, by the first
 // list's cut and then by the second's. The load of a head is kept running, and a tail's is the list's less it, so that a candidate's two loads cost two sums.
+
+#![tactic(auto)]
+
 ghost use Rattle.std.specs.Prelude.{◌≡◌, ◌≤◌, length, take};
 ghost use Rattle.edits.specs.Total.{total};
 ghost use Rattle.labels.specs.Columns.{columns_at};

@@ -1,4 +1,7 @@
 // Tests joined: each function is one connective of a definition, so that a chain of tests reads, and is proved, like the definition it equals.
+
+#![tactic(auto)]
+
 ghost use Rattle.std.specs.Prelude.{◌≡◌, ◌&&◌, ◌||◌};
 ghost use Rattle.tests.specs.All.{unless, first_of};
 

@@ -1,6 +1,9 @@
 // Intra-route 3-opt (Lin 1965), ports local_search/three_opt.rs. Places are triples i < j < k, a list being cut behind its visits i, j and k; at a
 // place the pieces B and C between the cuts take the least of the seven patterns that counts and passes, ties to the lower pattern; after a move the
 // search starts again.
+
+#![tactic(auto)]
+
 ghost use Rattle.std.specs.Prelude.{◌≡◌, true, [], ◌<◌, ◌≤◌, length};
 ghost use Rattle.numbers.specs.Operations.{zero64};
 ghost use Rattle.day.specs.Refusal.{all_plain};

@@ -2,6 +2,9 @@
 //
 // After a kept reversal the sweep goes on behind it; a sweep with no move ends the run. A run is written as a chain of searches (reversals), each equal to
 // the definition's `first_move`, so that the chain equals its `run`.
+
+#![tactic(auto)]
+
 ghost use Rattle.std.specs.Prelude.{◌≡◌, true, [], ◌<◌};
 ghost use Rattle.numbers.specs.Operations.{zero64};
 ghost use Rattle.day.specs.Refusal.{all_plain};

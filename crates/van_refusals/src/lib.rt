@@ -1,4 +1,7 @@
 // Refusals 6 and 7 of document 01, those of the van, found in the order of their numbers.
+
+#![tactic(auto)]
+
 ghost use Rattle.std.specs.Prelude.{◌≡◌};
 ghost use Rattle.day.specs.Refusal.{capacity_ok, cost_ok, present_ok, break_ok, limits_ok, van_ok};
 ghost use Rattle.van_refusals.specs.Order.{van_refusal};

@@ -1,4 +1,7 @@
 // The van of a list, by its id (`fleet_vehicle` of constructive/nearest_neighbor.rs).
+
+#![tactic(auto)]
+
 ghost use Rattle.std.specs.Prelude.{◌≡◌, ◌≤◌, ◌<◌, length};
 ghost use Rattle.fleet.specs.Fleet.{fleet_at, van_at, number_from, fleet_vehicle, Fitted};
 

@@ -1,5 +1,8 @@
 // A visit of one list offered to another (relocate.rs, `best_between`): each place is tried, unless the list has no room for the visit, or what is known of
 // it shows that no place gains.
+
+#![tactic(auto)]
+
 ghost use Rattle.std.specs.Prelude.{◌≡◌, ◌<◌, ◌≤◌, length, get_or, set};
 ghost use Rattle.labels.specs.Columns.{columns_at, Visits};
 ghost use Rattle.loads.specs.Loads.{Loaded};

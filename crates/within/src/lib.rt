@@ -1,4 +1,7 @@
 // 2-opt, Or-opt and 3-opt on one list of a day: the search of the engine or, where a window is soft, the same neighbourhood over the effective cost.
+
+#![tactic(auto)]
+
 ghost use Rattle.std.specs.Prelude.{◌≡◌, true, ◌<◌};
 ghost use Rattle.day.specs.Refusal.{all_plain};
 ghost use Rattle.labels.specs.Columns.{columns_at, Formed, Visits};

@@ -1,4 +1,7 @@
 // What an export of planner_c writes through its caller's references, from the planner's answer: nothing where it is refused.
+
+#![tactic(auto)]
+
 ghost use Rattle.std.specs.Prelude.{◌≡◌};
 ghost use Rattle.written.specs.Written.{eval_code, eval_passes, eval_in, schedule_code, found_in, schedule_in, taken_in, position_in, start_in};
 ghost use Rattle.written.specs.Written.{distance_of, duration_of, lateness_of, lateness_cost_of};
