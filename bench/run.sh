@@ -3,7 +3,7 @@
 # valgrind's callgrind, measures code size and stack by size.sh, and writes docs/BENCHMARKS.md from it. It takes some minutes. The exit
 # status is 1 where both sides differ, or size or stack are over our aim.
 #   SHARED   the folder with docs/src (the published Rust) and oracle; by default the folder shared beside the repository
-#   LIBRARY  the static library; by default target/staticlib/libplanner_c.a, which `rt staticlib planner_c` writes: it is made
+#   LIBRARY  the static library; by default crates/planner_c/out/libplanner_c.a, which `rt lib` in crates/planner_c writes: it is made
 #            where it isn't there or is older than a source
 #   ROWS     a part of the names of the rows to run, as 'soft windows, 30'; then nothing is written, but for OUT
 # Where the instructions go, by function: OUT/bench functions OUT/dumps
@@ -18,9 +18,9 @@ out="$(cd "$1" && pwd)"
 
 library() {
     [ -z "${LIBRARY:-}" ] || return 0
-    LIBRARY="$root/target/staticlib/libplanner_c.a"
+    LIBRARY="$root/crates/planner_c/out/libplanner_c.a"
     if [ ! -f "$LIBRARY" ] || [ -n "$(find "$root/crates" -name '*.rt' -newer "$LIBRARY" -print -quit)" ]; then
-        (cd "$root" && rt staticlib planner_c)
+        (cd "$root/crates/planner_c" && rt lib)
     fi
 }
 

@@ -5,13 +5,13 @@
 #   code      code and constants of a program that has this entry alone, linked with --gc-sections, or has all of them; bytes on x86-64
 #   deepest   how many bytes below its return address any call of it can take, read off the machine code (deepest.awk)
 #   measured  how many bytes a call took on a day of 63 offices, with hard and with soft windows, its arguments included (stack.c)
-#   LIBRARY   the static library; by default target/staticlib/libplanner_c.a, which `rt staticlib planner_c` writes
+#   LIBRARY   the static library; by default crates/planner_c/out/libplanner_c.a, which `rt lib` in crates/planner_c writes
 set -euo pipefail
 case "$*" in '') table= ;; --table) table=yes ;; *) echo "usage: $0 [--table]" >&2; exit 2 ;; esac
 here="$(cd "$(dirname "$0")" && pwd)"
 root="$(cd "$here/.." && pwd)"
-library="${LIBRARY:-$root/target/staticlib/libplanner_c.a}"
-[ -f "$library" ] || (cd "$root" && rt staticlib planner_c >&2)
+library="${LIBRARY:-$root/crates/planner_c/out/libplanner_c.a}"
+[ -f "$library" ] || (cd "$root/crates/planner_c" && rt lib >&2)
 work="$(mktemp -d)"
 trap 'rm -rf "$work"' EXIT
 arguments=512 # the most bytes that a call's arguments take on the stack

@@ -1,5 +1,5 @@
 /*
- * The route planner's static library (rt staticlib planner_c: target/staticlib/libplanner_c.a), System V C ABI, x86-64.
+ * The route planner's static library (rt lib in crates/planner_c: crates/planner_c/out/libplanner_c.a), System V C ABI, x86-64.
  *
  * Every function may be called with any numbers, lists and tables. A table is a pointer and the count of its entries; it
  * has to be readable (and, where not const, writable) over that count, and aligned. The result is 0, or the number of the

@@ -2,14 +2,14 @@
 # build.sh OUT: makes OUT/reference, OUT/port, OUT/generate, OUT/compare, OUT/demand3 and OUT/sample, and holds include/planner.h to C99.
 #   SHARED   the folder with docs/src (the published Rust, not copied into this repository) and oracle (the script that
 #            makes the reference of it); by default the folder shared beside the repository
-#   LIBRARY  the port's static library; by default target/staticlib/libplanner_c.a, which `rt staticlib planner_c` writes
+#   LIBRARY  the port's static library; by default crates/planner_c/out/libplanner_c.a, which `rt lib` in crates/planner_c writes
 # What can't be made for want of one of these is said, and the exit status is then 1.
 set -euo pipefail
 [ $# -eq 1 ] || { echo "usage: $0 OUT" >&2; exit 2; }
 here="$(cd "$(dirname "$0")" && pwd)"
 root="$(cd "$here/.." && pwd)"
 shared="${SHARED:-$root/../shared}"
-library="${LIBRARY:-$root/target/staticlib/libplanner_c.a}"
+library="${LIBRARY:-$root/crates/planner_c/out/libplanner_c.a}"
 mkdir -p "$1"
 out="$(cd "$1" && pwd)"
 missing=0
@@ -47,12 +47,12 @@ else
 fi
 
 if [ ! -f "$library" ] && [ -z "${LIBRARY:-}" ] && [ -d "$root/crates/planner_c" ]; then
-    (cd "$root" && rt staticlib planner_c)
+    (cd "$root/crates/planner_c" && rt lib)
 fi
 if [ -f "$library" ]; then
     program port "$here/port/main.rs" -L "native=$(dirname "$library")" -l static=planner_c
 else
-    echo "no port: $library isn't there (rt staticlib planner_c writes it)" >&2
+    echo "no port: $library isn't there (rt lib in crates/planner_c writes it)" >&2
     missing=1
 fi
 exit $missing

@@ -1,8 +1,8 @@
-//! Links libplanner_c.a: from the folder that PLANNER_LIB names, or from the one that `rt staticlib planner_c` writes to.
+//! Links libplanner_c.a: from the folder that PLANNER_LIB names, or from the one that `rt lib` in crates/planner_c writes to.
 use std::env::{var, var_os};
 use std::path::{Path, PathBuf};
 
-const WRITTEN_TO: &str = "../../target/staticlib";
+const WRITTEN_TO: &str = "../../crates/planner_c/out";
 
 fn main() {
     println!("cargo::rerun-if-env-changed=PLANNER_LIB");
@@ -27,7 +27,7 @@ fn library_folder() -> Result<PathBuf, String> {
     if !folder.join("libplanner_c.a").is_file() {
         let remedy = match lent {
             Some(_) => "PLANNER_LIB has to name the folder that libplanner_c.a is in",
-            None => "run `rt staticlib planner_c` at the top of the repository first, or name its folder by PLANNER_LIB",
+            None => "run `rt lib` in crates/planner_c first, or name its folder by PLANNER_LIB",
         };
         return Err(format!("there is no libplanner_c.a in {}: {remedy}", folder.display()));
     }

@@ -1,4 +1,4 @@
-//! The planner of visit lists in safe Rust, over its static library (`rt staticlib planner_c`). Nothing is allocated or copied:
+//! The planner of visit lists in safe Rust, over its static library (`rt lib` in crates/planner_c). Nothing is allocated or copied:
 //! columns, tables and lists stay the caller's, and an engine changes the lists in place.
 //!
 //! Functions have u-routing's names, and its arguments in its order, where they can be kept: the route or solution first (here

@@ -1,5 +1,4 @@
 -- `edits::exchange_outer` meets its contract: its four reversals make the exchange.
-use borrow.Author.Rules.{rules}
 use Rattle.edits.proofs.Turns.{outer_by_reversals}
 use Rattle.edits.proofs.exchange_outer.Goals as goal
 

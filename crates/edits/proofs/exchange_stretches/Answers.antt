@@ -1,6 +1,5 @@
 -- `edits::exchange_stretches` meets its contract: outer stretches with nothing between them are neighbours.
 use mathlib.Core.Path.{◌∙◌}
-use borrow.Author.Rules.{rules}
 use Rattle.edits.proofs.Turns.{outer_none}
 use Rattle.edits.proofs.exchange_stretches.Goals as goal
 

@@ -1,12 +1,10 @@
 -- `edits::reverse` meets its contract. The invariant: the list is what is wanted but for a middle of `left` visits between i and j, which is still
 -- to be reversed. A turn swaps its ends. The measure is `left`.
-use mathlib.Core.Path.{◌≡◌, refl, ap, ◌∙◌}
-use Prim.Native.Nat.{◌+◌, ◌≤◌}
+use mathlib.Core.Path.{refl, ap, ◌∙◌}
 use native.Mathlib.Omega.{arith}
 use borrow.Author.Rules.{rules}
 use lib.ListN.{length}
-use Rattle.edits.specs.Edits.{reversed}
-use Rattle.edits.proofs.Middle.{Mid, mid_start, mid_done, mid_step, length-swapped}
+use Rattle.edits.proofs.Middle.{mid_start, mid_done, mid_step, length-swapped}
 use Rattle.edits.proofs.reverse.Goals as goal
 
 pub loop-left-init : goal.loop-left-init

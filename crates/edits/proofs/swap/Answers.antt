@@ -1,6 +1,5 @@
 -- `edits::swap` meets its contract: its two stores are the definition.
 use mathlib.Core.Path.{refl}
-use borrow.Author.Rules.{rules}
 use Rattle.edits.specs.Edits.{swapped}
 use Rattle.edits.proofs.swap.Goals as goal
 
