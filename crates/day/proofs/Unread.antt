@@ -1,20 +1,19 @@
 -- 'A value whose flag is off is never read': days and vans that differ only in such values meet the same tests and have the same windows and limits,
 -- because each definition asks the flag before the value.
 use Prim.Native.Nat.{ℕ, zero, suc}
-use mathlib.Core.Path.{◌≡◌, refl, sym, ap, ◌∙◌}
+use mathlib.Core.Path.{◌≡◌, refl, ap}
 use mathlib.Core.List.{List}
 use mathlib.Core.Bool.{Bool, true, false, not, cond, ◌&&◌, ◌||◌}
-use lib.IntN.{ℤ, pos}
-use lib.Dec.{leb}
-use lib.ListN.{length, get_or}
-use lib.Ieee.{Float, nan}
+use lib.IntN.{ℤ}
+use lib.ListN.{get_or}
+use lib.Ieee.{Float}
 use Rattle.numbers.specs.Plain.{plain}
 use Rattle.tests.specs.All.{all_below}
-use Rattle.day.specs.Day.{Day, day_of, bit0, bit1, bit2}
+use Rattle.day.specs.Day.{day_of, bit0, bit1, bit2}
 use Rattle.day.specs.Customer.{window_at}
 use Rattle.day.specs.Vehicle.{break_of, limits_of}
 use Rattle.day.specs.Refusal.{lengths_ok, present_ok, penalty_ok, location_ok, locations_ok, span_ok, window_ok, windows_ok, break_ok, limits_ok}
-use Rattle.day.specs.Unread.{Agree, SameColumns, SameVan}
+use Rattle.day.specs.Unread.{SameColumns, SameVan}
 use Rattle.day.specs.declared.vehicle.Van.{Van}
 use Rattle.day.specs.declared.vehicle.Limit.TheVariants.{Unlimited, AtMost}
 use Rattle.day.specs.declared.vehicle.Rest.TheVariants.{NoBreak, Break}

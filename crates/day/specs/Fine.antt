@@ -1,9 +1,9 @@
 -- What a day whose tables have the right lengths tells its callers. Assumes nothing.
-use Rattle.std.specs.Prelude.{ℕ, zero, suc, ◌*◌, ◌<◌, ◌≤◌, max, ◌≡◌, refl, List, [], ◌∷◌, Bool, true, false, cond, ◌&&◌, ◌||◌, eqb, leb, ltb, length, Float}
-use Rattle.std.proofs.Common.{zero-le, suc-le-suc, arith, sym, subst, ◌∙◌, true≢false, eqb-true, leb-true, ltb-true, ne_eqb}
+use Rattle.std.specs.Prelude.{ℕ, suc, ◌*◌, ◌<◌, ◌≤◌, ◌≡◌, List, [], ◌∷◌, Bool, true, false, cond, ◌&&◌, ◌||◌, eqb, leb, ltb, length, Float}
+use Rattle.std.proofs.Common.{zero-le, suc-le-suc, arith, true≢false, eqb-true, leb-true, ltb-true, ne_eqb}
 use Rattle.tests.specs.All.{and_first, and_second}
 use Rattle.day.specs.Day.{Day, bit0}
-use Rattle.day.specs.Matrix.{Square, Tables}
+use Rattle.day.specs.Matrix.{Tables}
 use Rattle.day.specs.Customer.{leading, num_depots}
 use Rattle.day.specs.Refusal.{size_ok, column_ok, tables_ok, lengths_ok}
 

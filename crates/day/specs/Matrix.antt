@@ -1,5 +1,5 @@
 -- distance/matrix.rs: the distance and the travel time from a location to a location, the scale and the symmetry of the table. Assumes nothing.
-use Rattle.std.specs.Prelude.{ℕ, suc, ◌+◌, ◌*◌, ◌<◌, ◌≤◌, ◌≡◌, refl, List, Bool, true, false, not, cond, eqb, length, get_or, drop, Float}
+use Rattle.std.specs.Prelude.{ℕ, ◌+◌, ◌*◌, ◌<◌, ◌≤◌, ◌≡◌, refl, List, Bool, true, false, not, cond, eqb, length, get_or, drop, Float}
 use Rattle.std.proofs.Common.{suc-mul, mul-le-mul_right, arith, sym, ◌∙◌, drop_of_length-le, add-one}
 use Rattle.std.proofs.lemmas.Bool.{not-true}
 use Rattle.std.proofs.Math.Seq.{drop-cons}

@@ -1,5 +1,5 @@
 -- The tests of refusals 1 to 7, line by line as document 01's table has them: each says what is right. Their order is in day_refusals. Assumes nothing.
-use Rattle.std.specs.Prelude.{ℕ, zero, suc, ◌+◌, ◌-◌, ◌*◌, List, Bool, true, false, not, ◌&&◌, ◌||◌, eqb, leb, ltb, ℤ, pos, negsuc, length, get_or, Float}
+use Rattle.std.specs.Prelude.{ℕ, ◌+◌, ◌-◌, ◌*◌, List, Bool, false, not, ◌&&◌, ◌||◌, eqb, leb, ltb, ℤ, pos, negsuc, length, get_or, Float}
 use Rattle.std.specs.Int.Signed.{le_z}
 use Rattle.std.specs.Float.{nan, fin}
 use Rattle.std.specs.Float.Ieee.{lt, le, eq}

@@ -1,9 +1,6 @@
 -- `buffers::append` meets its contract. The invariant: the first i visits of the part stand behind the first `count`.
-use Prim.Native.Nat.{◌-◌}
 use mathlib.Core.Path.{refl}
-use borrow.Author.Rules.{rules}
-use lib.ListN.{length}
-use Rattle.edits.proofs.Chain.{Storing, storing_none, storing_more, storing_all}
+use Rattle.edits.proofs.Chain.{storing_none, storing_more, storing_all}
 use Rattle.buffers.proofs.append.Goals as goal
 
 pub loop-i-init : goal.loop-i-init

@@ -1,9 +1,7 @@
 -- `buffers::append` meets its contract. The invariant: the first i visits of the part stand behind the first `count`.
 use Prim.Native.Nat.{◌-◌}
-use mathlib.Core.Path.{refl}
-use borrow.Author.Rules.{rules}
 use lib.ListN.{length}
-use Rattle.edits.proofs.Chain.{Storing, storing_none, storing_more, storing_all}
+use Rattle.edits.proofs.Chain.{Storing}
 use Rattle.buffers.proofs.append.Given as goal
 
 abbrev pub invariant-loop-i : goal.invariant-loop-i

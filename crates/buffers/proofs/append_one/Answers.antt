@@ -1,5 +1,4 @@
 -- `buffers::append_one` meets its contract: a store at the end of what is in use.
-use borrow.Author.Rules.{rules}
 use Rattle.edits.proofs.Chain.{stored_one}
 use Rattle.buffers.proofs.append_one.Goals as goal
 

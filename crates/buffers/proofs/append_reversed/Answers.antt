@@ -1,10 +1,7 @@
 -- `buffers::append_reversed` meets its contract. The invariant: the first i visits of the reversed part stand behind the first `count`.
 use native.Mathlib.Omega.{arith}
-use Prim.Native.Nat.{◌-◌}
-use mathlib.Core.List.{reverse}
-use borrow.Author.Rules.{rules}
-use lib.ListN.{length, length-reverse}
-use Rattle.edits.proofs.Chain.{Storing, storing_none, storing_more, storing_all, get_or-reverse}
+use lib.ListN.{length-reverse}
+use Rattle.edits.proofs.Chain.{storing_none, storing_more, storing_all, get_or-reverse}
 use Rattle.buffers.proofs.append_reversed.Goals as goal
 
 pub loop-i-init : goal.loop-i-init

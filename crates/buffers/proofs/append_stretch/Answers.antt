@@ -1,6 +1,5 @@
 -- `buffers::append_stretch` meets its contract: the part that it lends is the stretch.
 use mathlib.Core.Path.{refl}
-use borrow.Author.Rules.{rules}
 use Rattle.edits.proofs.Chain.{stretch}
 use Rattle.buffers.proofs.append_stretch.Goals as goal
 

@@ -1,7 +1,6 @@
 -- `buffers::append_stretch_reversed` meets its contract: the part that it lends is the stretch.
 use mathlib.Core.List.{reverse}
 use lib.ListN.{length-reverse}
-use borrow.Author.Rules.{rules}
 use Rattle.edits.proofs.Chain.{stretch}
 use Rattle.buffers.proofs.append_stretch_reversed.Goals as goal
 

@@ -1,7 +1,6 @@
 -- `lists::length_of` meets its contract: a u16 is below 65,536. Assumes nothing.
 use mathlib.Core.Path.{refl}
 use native.Mathlib.Omega.{arith}
-use borrow.Author.Rules.{rules}
 use Rattle.lists.proofs.length_of.Goals as goal
 
 pub overflow_cast-result : goal.overflow_cast-result

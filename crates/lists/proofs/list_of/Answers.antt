@@ -2,7 +2,6 @@
 use mathlib.Core.Path.{ap₂}
 use Prim.Native.Nat.{◌+◌}
 use native.Mathlib.Omega.{arith}
-use borrow.Author.Rules.{rules}
 use Rattle.lists.proofs.Tables.{list_within, part_is}
 use Rattle.lists.proofs.list_of.Goals as goal
 

@@ -1,9 +1,7 @@
 -- `lists::place_of` meets its contract: the place is behind the lists passed, each of which is shorter than 65,536. Assumes nothing.
-use Prim.Native.Nat.{◌≤◌, ◌-◌, ◌+◌, ◌*◌}
 use mathlib.Core.Path.{◌≡◌}
 use native.Mathlib.Omega.{arith}
 use borrow.Author.Rules.{rules}
-use Rattle.lists.specs.Table.{start_of}
 use Rattle.lists.proofs.Tables.{start_none, start_more}
 use Rattle.lists.proofs.place_of.Goals as goal
 
@@ -20,8 +18,7 @@ overflow_add-place c =
     omega (arith, c.shared_slice_known-1.given c.loop-i.i)
 
 pub loop-i-preserved : goal.loop-i-preserved
-loop-i-preserved c =
-    (
+loop-i-preserved c = (
   search rules,
   omega (arith, c.shared_slice_known-1.given c.loop-i.i),
   omega (arith, start_more c.args.lengths.now c.loop-i.i),

@@ -1,10 +1,7 @@
 -- `lists::place_of` meets its contract: the place is behind the lists passed, each of which is shorter than 65,536. Assumes nothing.
 use Prim.Native.Nat.{◌≤◌, ◌-◌, ◌+◌, ◌*◌}
 use mathlib.Core.Path.{◌≡◌}
-use native.Mathlib.Omega.{arith}
-use borrow.Author.Rules.{rules}
 use Rattle.lists.specs.Table.{start_of}
-use Rattle.lists.proofs.Tables.{start_none, start_more}
 use Rattle.lists.proofs.place_of.Given as goal
 
 abbrev pub invariant-loop-i : goal.invariant-loop-i

@@ -1,5 +1,5 @@
 -- `sample_bytes::same` is safe: what equals a number is no NaN.
-use Rattle.std.proofs.Common.{T, sym, subst, rules}
+use Rattle.std.proofs.Common.{T, sym, subst}
 use Rattle.numbers.proofs.Total.{le_left, le_right, eq→le}
 use Rattle.sample_bytes.proofs.same.Goals as goal
 

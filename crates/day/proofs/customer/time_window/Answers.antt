@@ -1,5 +1,4 @@
 -- `time_window`: one return for each case of the two bits.
-use borrow.Author.Rules.{rules}
 use mathlib.Core.Path.{refl, sym, ◌∙◌}
 use Rattle.tests.specs.All.{no, yes}
 use Rattle.tests.specs.Pick.{picked, other}

@@ -1,5 +1,4 @@
 -- `is_no_limit`: one arm for each case of the limit.
-use borrow.Author.Rules.{rules}
 use Rattle.day.specs.Vehicle.{no_limit}
 use Rattle.day.proofs.vehicle.is_no_limit.Goals as goal
 

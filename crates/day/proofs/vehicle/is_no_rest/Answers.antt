@@ -1,5 +1,4 @@
 -- `is_no_rest`: one arm for each case of the break.
-use borrow.Author.Rules.{rules}
 use Rattle.day.specs.Vehicle.{no_rest}
 use Rattle.day.proofs.vehicle.is_no_rest.Goals as goal
 

@@ -1,5 +1,4 @@
 -- `keeps_limit`: one arm for each case of the limit.
-use borrow.Author.Rules.{rules}
 use Rattle.day.specs.Vehicle.{keeps}
 use Rattle.day.proofs.vehicle.keeps_limit.Goals as goal
 

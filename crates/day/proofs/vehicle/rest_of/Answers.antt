@@ -1,5 +1,4 @@
 -- `rest_of`: one return for each case of the flag.
-use borrow.Author.Rules.{rules}
 use mathlib.Core.Path.{refl, sym, ◌∙◌}
 use Rattle.tests.specs.Pick.{picked, other}
 use Rattle.day.proofs.vehicle.rest_of.Goals as goal

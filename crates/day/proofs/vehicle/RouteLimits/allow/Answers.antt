@@ -1,5 +1,4 @@
 -- `allow`: the callees join the definition's two tests.
-use borrow.Author.Rules.{rules}
 use Rattle.day.specs.Vehicle.{allows}
 use Rattle.day.proofs.vehicle.RouteLimits.allow.Goals as goal
 

@@ -1,5 +1,4 @@
 -- `is_unlimited`: the callees join the definition's three tests.
-use borrow.Author.Rules.{rules}
 use Rattle.day.specs.Vehicle.{is_unlimited}
 use Rattle.day.proofs.vehicle.RouteLimits.is_unlimited.Goals as goal
 

@@ -1,5 +1,4 @@
 -- `RouteLimits::of`: field by field, what the callees ensure.
-use borrow.Author.Rules.{rules}
 use Rattle.day.specs.Vehicle.{limits_of}
 use Rattle.day.proofs.vehicle.RouteLimits.of.Goals as goal
 
