@@ -1,14 +1,8 @@
 -- `way_of`: each arm is an entry of the seven, by the number that the arm tests.
--- from n on, and not n
 use mathlib.Core.Path.{◌≡◌}
-use Prim.Native.Nat.{ℕ, suc, ◌≤◌}
-use native.Mathlib.Nat.{le_antisymm, le_of_suc-le-suc}
 use native.Mathlib.Omega.{arith}
 use Rattle.layouts.specs.Layout.{way_of}
 use Rattle.layouts.proofs.way_of.Goals as goal
-
-past : (n p : ℕ) → n ≤ p → (p ≡ n → ⊥) → suc n ≤ p
-past n p h other = omega arith
 
 pub returns-in-0 : goal.returns-in-0
 unfolding way_of
@@ -48,9 +42,5 @@ returns-in-6 c =
 pub returns-in_default : goal.returns-in_default
 unfolding way_of
 returns-in_default c =
-    let p : ℕ = c.args.pattern in
-    let from-seven : 7 ≤ p =
-    past 6 p (past 5 p (past 4 p (past 3 p (past 2 p (past 1 p (past 0 p (omega arith)
-    c.in-0.rest.0.0.0.0.0.0.1) c.in-0.rest.0.0.0.0.0.1) c.in-0.rest.0.0.0.0.1) c.in-0.rest.0.0.0.1) c.in-0.rest.0.0.1) c.in-0.rest.0.1) c.in-0.rest.1 in
-    let seventh : p ≡ 7 = le_antisymm (le_of_suc-le-suc c.requires) from-seven in
+    let seventh : c.args.pattern ≡ 7 = omega arith in
     rw seventh
