@@ -163,7 +163,12 @@ pub cut-first : (n i : ℕ) → i + 2 < n
 unfolding rest onward InsideAny Inside
 cut-first n i h =
     let two : i + 2 ≡ suc (suc i) = omega arith in
-    (rw (add-one, two, first-cut n i (omega arith)), (omega arith, omega arith, h, omega arith))
+    (
+      ap (λ j. map reconnection (reconnections_from n i j (i + 2) 0)) (add-one i)
+          ∙ ap (λ k. map reconnection (reconnections_from n i (suc i) k 0)) two
+          ∙ rw (first-cut n i (omega arith)),
+      (omega arith, omega arith, h, omega arith),
+    )
 
 pub cut_none : (n i : ℕ) → n ≤ i + 2 → (rest n Nothing ≡ map reconnection (each (firsts_from n i) ways)) × InsideAny n Nothing
 unfolding rest InsideAny
@@ -196,7 +201,10 @@ module _ (n i j k way : ℕ) (w : Inside n (Reconnected i j k way)) where
   cut-row h l m =
       let two : j + 2 ≡ suc (suc j) = omega arith in
       record {
-        same = ap (map reconnection) (last-way h) ∙ rw (next_row l m, add-one j, two);
+        same = ap (map reconnection) (last-way h)
+            ∙ (rw (next_row l m))
+            ∙ ap (λ t. meant (Reconnected i j k way) ∷ map reconnection (reconnections_from n i (suc j) t 0)) (sym two)
+            ∙ ap (λ o. meant (Reconnected i j k way) ∷ map reconnection (reconnections_from n i o (j + 2) 0)) (sym (add-one j));
         inside = (omega arith, omega arith, m, omega arith);
       }
 
