@@ -25,7 +25,7 @@ laid_passes-laid-requires-clause-depot_lt_l c =
 
 pub laid_passes-laid-requires-clause-driven : goal.laid_passes-laid-requires-clause-driven
 laid_passes-laid-requires-clause-driven c =
-    ((c.requires.shared.0, rw c.reversal-turned.ensures c.requires.shared.1), c.requires.rest_value)
+    (c.requires.shared.0, rw c.reversal-turned.ensures c.requires.shared.1)
 
 pub reverse-requires-clause-from_le_to : goal.reverse-requires-clause-from_le_to
 reverse-requires-clause-from_le_to c =
