@@ -20,7 +20,7 @@ use Rattle.or_opt.proofs.or_opt_improve.Given as goal
 abbrev pub invariant-loop-change : goal.invariant-loop-change
 invariant-loop-change l =
     let c = columns l.terms.l l.flags l.service l.ready l.due l.penalty l.distances l.times in
-    Going (next (search_of c l.terms) (judge_of c l.terms)) l.limit (record { now = l.initial.list; l.ahead = [] }) l.moves (record { now = l.list; l.ahead = range l.ahead 4 })
+    Going (next (search_of c l.terms) (judge_of c l.terms)) l.limit (record { now = l.initial.list; ahead = [] }) l.moves (record { now = l.list; ahead = range l.ahead 4 })
     × Asked c l.terms l.list
     × (length l.list ≡ length l.initial.list)
 
