@@ -17,11 +17,23 @@ loop-place-init c =
 
 pub head_up_to-head-requires : goal.head_up_to-head-requires
 head_up_to-head-requires c =
-    rw c.loop-place.invariant.0 (c.requires.worked.0.formed, ((c.requires.worked.0.depot_there, c.requires.worked.1, omega (arith, c.loop-place.invariant.1, c.loop-place-test.true, c.loop-place.invariant.2.ordered)), c.loop-place.invariant.3.0))
+    rw c.loop-place.invariant.0 (record {
+      formed = c.requires.worked.0.formed;
+      depot_lt_l = (
+        c.requires.worked.0.depot_there,
+        c.requires.worked.1,
+        omega (arith, c.loop-place.invariant.1, c.loop-place-test.true, c.loop-place.invariant.2.ordered),
+      );
+      driven = c.loop-place.invariant.3.0;
+    })
 
 pub try_reversal-requires : goal.try_reversal-requires
 try_reversal-requires c =
-    rw c.loop-place.invariant.0 (c.requires.worked, ((c.loop-place.invariant.2.ordered, c.loop-place-test.true), rw c.loop-place.invariant.0 at c.head_up_to-head.ensures.TAIL:driven_2|visits_le_to))
+    rw c.loop-place.invariant.0 (record {
+      worked = c.requires.worked;
+      first_lt_last = (c.loop-place.invariant.2.ordered, c.loop-place-test.true);
+      shared = (rw c.loop-place.invariant.0 at c.head_up_to-head.ensures.driven_2, c.head_up_to-head.ensures.visits_le_to);
+    })
 
 pub returns-then-try_reversal : goal.returns-then-try_reversal
 returns-then-try_reversal c =
@@ -42,8 +54,8 @@ loop-place-preserved c =
     let rest =
     not_here _ _ _ _ _ _ c.loop-place.invariant.0 c.loop-place.invariant.2.ordered c.loop-place-test.true c.loop-place.invariant.3.1 _ c.try_reversal.ensures.value
     c.try_reversal.ensures.list_after c.if-try_reversal.false in
-    let near = rw c.loop-place.invariant.0 at c.head_up_to-head.ensures.TAIL:driven_2|visits_le_to in
-    rw c.place_after-place.ensures (rest.0, refl, still_in _ _ c.loop-place.invariant.2.ordered c.loop-place-test.true, ((near.0, still_behind _ _ _ near.1), rest.1))
+    let near = rw c.loop-place.invariant.0 at c.head_up_to-head.ensures.driven_2 in
+    rw c.place_after-place.ensures (rest.0, refl, still_in _ _ c.loop-place.invariant.2.ordered c.loop-place-test.true, ((near, still_behind _ _ _ c.head_up_to-head.ensures.visits_le_to), rest.1))
 
 pub returns : goal.returns
 unfolding leaves Inside
