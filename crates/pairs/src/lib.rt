@@ -6,7 +6,7 @@
 
 ghost use Rattle.std.specs.Prelude.{◌≡◌, ◌≤◌, ◌<◌};
 ghost use Rattle.pairs.specs.Pairs.{in_order, less_then, earlier, as_move, ahead, first_of, first_among};
-ghost use Rattle.pairs.specs.Pairs.{found_if, table_at, Sized, entry, narrowed, put, row_from, least_entry};
+ghost use Rattle.pairs.specs.Pairs.{found_if, table, table_at, Sized, entry, narrowed, put, row_from, least_entry};
 
 use edits::wide;
 
@@ -137,9 +137,9 @@ pub fn put_pair(
     to: usize,
     choice: Choice,
 )
-    requires sized { Sized (table_at deltas positions places) }
+    requires sized { Sized (table deltas.old positions.old places.old) }
     requires from_bound { (from < 16) × (to < 16) }
-    ensures { table_at deltas.exit positions.exit places.exit ≡ put (table_at deltas.entry positions.entry places.entry) from to choice }
+    ensures { table deltas.new positions.new places.new ≡ put (table deltas.old positions.old places.old) from to choice }
 {
     let slot = 16 * from + to;
     let position = narrow(choice.position);

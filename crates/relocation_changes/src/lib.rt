@@ -9,7 +9,7 @@ ghost use Rattle.lists.specs.Table.{Laid, lists, list_of};
 ghost use Rattle.list_changes.specs.Edits.{Edited, Relocates, relocated};
 ghost use Rattle.labels.specs.Columns.{columns_at};
 ghost use Rattle.deltas.specs.Deltas.{insertion_delta};
-ghost use Rattle.pairs.specs.Pairs.{table_at};
+ghost use Rattle.pairs.specs.Pairs.{table};
 ghost use Rattle.insertions.specs.Cache.{Known};
 ghost use Rattle.loads.specs.Loads.{Loaded, Held};
 ghost use Rattle.places.specs.Places.{Prepared};
@@ -127,14 +127,14 @@ pub fn move_and_search(
     requires cached { Cached (columns_at setup.l flags service ready due penalty distances times) setup (lists visits.old lengths.old)
         figures.old places.old }
     requires pairs_right { PairsRight (columns_at setup.l flags service ready due penalty distances times) demand.now setup
-        (lists visits.old lengths.old) (length lengths.old) (Every) (table_at deltas positions to_places) }
+        (lists visits.old lengths.old) (length lengths.old) (Every) (table deltas.old positions.old to_places.old) }
     requires relocates { Relocates visits.old lengths.old best.from best.position best.to best.place }
     ensures edited { Edited visits.old lengths.old visits.new lengths.new
         (relocated (lists visits.old lengths.old) best.from best.position best.to best.place) }
     ensures fact { let c = columns_at setup.l flags.entry service.entry ready.entry due.entry penalty.entry distances.entry times.entry in
         let ls = lists visits.new lengths.new
         in PairsRight c demand.now setup ls (length lengths.new) (Every)
-        (table_at deltas.exit positions.exit to_places.exit)
+        (table deltas.new positions.new to_places.new)
         × Cached c setup ls figures.new places.new }
 {
     make_move(

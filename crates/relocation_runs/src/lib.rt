@@ -11,7 +11,7 @@ ghost use Rattle.descent.specs.Permitted.{relocate};
 ghost use Rattle.descent.specs.Engines.{run_of};
 ghost use Rattle.deltas.specs.Judged.{float_judge};
 ghost use Rattle.engine.specs.Engine.{checks_of, map_of, ended_as};
-ghost use Rattle.pairs.specs.Pairs.{table_at};
+ghost use Rattle.pairs.specs.Pairs.{table};
 ghost use Rattle.loads.specs.Loads.{measure_of, Loaded, Held};
 ghost use Rattle.places.specs.Places.{Prepared};
 ghost use Rattle.offers.specs.Offers.{Cached};
@@ -49,7 +49,7 @@ pub fn make_moves(
     requires cached { Cached (columns_at setup.l flags service ready due penalty distances times) setup (lists visits.old lengths.old)
         figures.old places.old }
     requires pairs_right { PairsRight (columns_at setup.l flags service ready due penalty distances times) demand.now setup
-        (lists visits.old lengths.old) (length lengths.old) (Every) (table_at deltas positions to_places) }
+        (lists visits.old lengths.old) (length lengths.old) (Every) (table deltas.old positions.old to_places.old) }
     ensures { let c = columns_at setup.l flags.entry service.entry ready.entry due.entry penalty.entry distances.entry times.entry in
         let run = run_of (relocate false) (checks_of (measure_of demand.now setup.capacity ∷ []) c setup.limits setup.depot)
         (float_judge (relocate false) (map_of setup.l distances.now setup.depot setup.fixed)) limit

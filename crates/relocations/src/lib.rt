@@ -8,7 +8,7 @@ ghost use Rattle.std.specs.Prelude.{◌+◌, ◌<◌, ◌≤◌, length};
 ghost use Rattle.lists.specs.Table.{lists};
 ghost use Rattle.labels.specs.Columns.{columns_at};
 ghost use Rattle.loads.specs.Loads.{Loaded, Held};
-ghost use Rattle.pairs.specs.Pairs.{Sized, Before, Renewed, table_at};
+ghost use Rattle.pairs.specs.Pairs.{Sized, Before, Renewed, table};
 ghost use Rattle.places.specs.Places.{Prepared};
 ghost use Rattle.offers.specs.Offers.{Cached};
 ghost use Rattle.relocations.specs.Relocations.{Searched, SearchedBoth, PairsRight, Every};
@@ -46,11 +46,11 @@ fn search_pair(
     requires loaded { Loaded setup.l demand.now × Held setup.l visits.now lengths.now × (64 ≤ length buffer.old) }
     requires cached { Cached (columns_at setup.l flags service ready due penalty distances times) setup (lists visits.now lengths.now)
         figures.old places.old }
-    requires sized { Sized (table_at deltas positions to_places) × (from < length lengths.now) × (to < length lengths.now) }
+    requires sized { Sized (table deltas.old positions.old to_places.old) × (from < length lengths.now) × (to < length lengths.now) }
     ensures { let c = columns_at setup.l flags.entry service.entry ready.entry due.entry penalty.entry distances.entry times.entry in
         let ls = lists visits.now lengths.now
-        in Searched c demand.now setup ls from to (table_at deltas.entry positions.entry to_places.entry)
-        (table_at deltas.exit positions.exit to_places.exit)
+        in Searched c demand.now setup ls from to (table deltas.old positions.old to_places.old)
+        (table deltas.new positions.new to_places.new)
         × Cached c setup ls figures.new places.new }
 {
     let best = best_between(
@@ -89,12 +89,12 @@ fn search_row(
     requires cached { Cached (columns_at setup.l flags service ready due penalty distances times) setup (lists visits.now lengths.now)
         figures.old places.old }
     requires pairs_right { PairsRight (columns_at setup.l flags service ready due penalty distances times) demand.now setup
-        (lists visits.now lengths.now) (length lengths.now) (Before from 0) (table_at deltas positions to_places) }
+        (lists visits.now lengths.now) (length lengths.now) (Before from 0) (table deltas.old positions.old to_places.old) }
     requires from_in_bounds { from < length lengths.now }
     ensures { let c = columns_at setup.l flags.entry service.entry ready.entry due.entry penalty.entry distances.entry times.entry in
         let ls = lists visits.now lengths.now
         in PairsRight c demand.now setup ls (length lengths.now) (Before (from + 1) 0)
-        (table_at deltas.exit positions.exit to_places.exit)
+        (table deltas.new positions.new to_places.new)
         × Cached c setup ls figures.new places.new }
 {
     let mut to = 0;
@@ -132,11 +132,11 @@ pub fn search_all(
     requires loaded { Loaded setup.l demand.now × Held setup.l visits.now lengths.now × (64 ≤ length buffer.old) }
     requires cached { Cached (columns_at setup.l flags service ready due penalty distances times) setup (lists visits.now lengths.now)
         figures.old places.old }
-    requires sized { Sized (table_at deltas positions to_places) }
+    requires sized { Sized (table deltas.old positions.old to_places.old) }
     ensures { let c = columns_at setup.l flags.entry service.entry ready.entry due.entry penalty.entry distances.entry times.entry in
         let ls = lists visits.now lengths.now
         in PairsRight c demand.now setup ls (length lengths.now) (Every)
-        (table_at deltas.exit positions.exit to_places.exit)
+        (table deltas.new positions.new to_places.new)
         × Cached c setup ls figures.new places.new }
 {
     let mut from = 0;
@@ -178,11 +178,11 @@ fn search_both(
     requires loaded { Loaded setup.l demand.now × Held setup.l visits.now lengths.now × (64 ≤ length buffer.old) }
     requires cached { Cached (columns_at setup.l flags service ready due penalty distances times) setup (lists visits.now lengths.now)
         figures.old places.old }
-    requires sized { Sized (table_at deltas positions to_places) × (r < length lengths.now) × (other < length lengths.now) }
+    requires sized { Sized (table deltas.old positions.old to_places.old) × (r < length lengths.now) × (other < length lengths.now) }
     ensures { let c = columns_at setup.l flags.entry service.entry ready.entry due.entry penalty.entry distances.entry times.entry in
         let ls = lists visits.now lengths.now
-        in SearchedBoth c demand.now setup ls r other (table_at deltas.entry positions.entry to_places.entry)
-        (table_at deltas.exit positions.exit to_places.exit)
+        in SearchedBoth c demand.now setup ls r other (table deltas.old positions.old to_places.old)
+        (table deltas.new positions.new to_places.new)
         × Cached c setup ls figures.new places.new }
 {
     search_pair(
@@ -223,12 +223,12 @@ pub fn search_changed(
     requires cached { Cached (columns_at setup.l flags service ready due penalty distances times) setup (lists visits.now lengths.now)
         figures.old places.old }
     requires pairs_right { PairsRight (columns_at setup.l flags service ready due penalty distances times) demand.now setup
-        (lists visits.now lengths.now) (length lengths.now) (Renewed a b 0) (table_at deltas positions to_places) }
+        (lists visits.now lengths.now) (length lengths.now) (Renewed a b 0) (table deltas.old positions.old to_places.old) }
     requires a_in_bounds { (a < length lengths.now) × (b < length lengths.now) }
     ensures { let c = columns_at setup.l flags.entry service.entry ready.entry due.entry penalty.entry distances.entry times.entry in
         let ls = lists visits.now lengths.now
         in PairsRight c demand.now setup ls (length lengths.now) (Every)
-        (table_at deltas.exit positions.exit to_places.exit)
+        (table deltas.new positions.new to_places.new)
         × Cached c setup ls figures.new places.new }
 {
     let mut other = 0;

@@ -15,7 +15,7 @@ ghost use Rattle.list_changes.specs.Edits.{Edited};
 ghost use Rattle.labels.specs.Columns.{columns_at, Formed};
 ghost use Rattle.engine.specs.Engine.{ended_as};
 ghost use Rattle.loads.specs.Loads.{Loaded, Held};
-ghost use Rattle.pairs.specs.Pairs.{table_at, Sized};
+ghost use Rattle.pairs.specs.Pairs.{table, Sized};
 ghost use Rattle.soft_relocate.specs.SoftRelocate.{soft_relocate_run};
 ghost use Rattle.soft_places.specs.Places.{Prepared};
 ghost use Rattle.soft_relocations.specs.Relocations.{AllRight};
@@ -51,7 +51,7 @@ fn descend(
 ) -> Ended
     requires prepared { Prepared setup (columns_at setup.l flags service ready due penalty distances times) }
     requires loaded { Loaded setup.l demand.now × Held setup.l visits.old lengths.old }
-    requires in_bounds { (64 ≤ length buffer.old) × Sized (table_at deltas positions places) }
+    requires in_bounds { (64 ≤ length buffer.old) × Sized (table deltas.old positions.old places.old) }
     ensures { let c = columns_at setup.l flags.entry service.entry ready.entry due.entry penalty.entry distances.entry times.entry in
         let run = run_from c demand.now setup limit (lists visits.old lengths.old)
         in Edited visits.old lengths.old visits.new lengths.new run.last.now

@@ -6,7 +6,7 @@
 ghost use Rattle.std.specs.Prelude.{◌+◌, ◌<◌, ◌≤◌, length};
 ghost use Rattle.labels.specs.Columns.{columns_at};
 ghost use Rattle.loads.specs.Loads.{Loaded, Held};
-ghost use Rattle.pairs.specs.Pairs.{table_at, Sized, Before, Renewed};
+ghost use Rattle.pairs.specs.Pairs.{table, Sized, Before, Renewed};
 ghost use Rattle.soft_places.specs.Places.{Prepared};
 ghost use Rattle.soft_relocations.specs.Relocations.{StoredOf, StoredBothOf, RightOf, AllRight};
 
@@ -37,10 +37,10 @@ fn search_pair(
     requires prepared { Prepared setup (columns_at setup.l flags service ready due penalty distances times) }
     requires loaded { Loaded setup.l demand.now × Held setup.l visits.now lengths.now }
     requires in_bounds { 64 ≤ length buffer.old }
-    requires sized { Sized (table_at deltas positions places) × (from < length lengths.now) × (to < length lengths.now) }
+    requires sized { Sized (table deltas.old positions.old places.old) × (from < length lengths.now) × (to < length lengths.now) }
     ensures { StoredOf (columns_at setup.l flags.entry service.entry ready.entry due.entry penalty.entry distances.entry times.entry)
         demand.now setup visits.now lengths.now from to
-        (table_at deltas.entry positions.entry places.entry) (table_at deltas.exit positions.exit places.exit) }
+        (table deltas.old positions.old places.old) (table deltas.new positions.new places.new) }
 {
     let best = best_between(
         setup, flags, service, ready, due, penalty, distances, times, demand, visits, lengths,
@@ -72,11 +72,11 @@ fn search_row(
     requires loaded { Loaded setup.l demand.now × Held setup.l visits.now lengths.now }
     requires in_bounds { 64 ≤ length buffer.old }
     requires right_of { RightOf (columns_at setup.l flags service ready due penalty distances times) demand.now setup visits.now lengths.now (Before from 0)
-        (table_at deltas positions places)
+        (table deltas.old positions.old places.old)
         × (from < length lengths.now) }
     ensures { RightOf (columns_at setup.l flags.entry service.entry ready.entry due.entry penalty.entry distances.entry times.entry)
         demand.now setup visits.now lengths.now (Before (from + 1) 0)
-        (table_at deltas.exit positions.exit places.exit) }
+        (table deltas.new positions.new places.new) }
 {
     let mut to = 0;
     while to < lengths.len() {
@@ -109,9 +109,9 @@ pub fn search_all(
     requires prepared { Prepared setup (columns_at setup.l flags service ready due penalty distances times) }
     requires loaded { Loaded setup.l demand.now × Held setup.l visits.now lengths.now }
     requires in_bounds { 64 ≤ length buffer.old }
-    requires sized { Sized (table_at deltas positions places) }
+    requires sized { Sized (table deltas.old positions.old places.old) }
     ensures { AllRight (columns_at setup.l flags.entry service.entry ready.entry due.entry penalty.entry distances.entry times.entry)
-        demand.now setup visits.now lengths.now (table_at deltas.exit positions.exit places.exit) }
+        demand.now setup visits.now lengths.now (table deltas.new positions.new places.new) }
 {
     let mut from = 0;
     while from < lengths.len() {
@@ -146,10 +146,10 @@ fn search_both(
     requires prepared { Prepared setup (columns_at setup.l flags service ready due penalty distances times) }
     requires loaded { Loaded setup.l demand.now × Held setup.l visits.now lengths.now }
     requires in_bounds { 64 ≤ length buffer.old }
-    requires sized { Sized (table_at deltas positions places) × (r < length lengths.now) × (other < length lengths.now) }
+    requires sized { Sized (table deltas.old positions.old places.old) × (r < length lengths.now) × (other < length lengths.now) }
     ensures { StoredBothOf (columns_at setup.l flags.entry service.entry ready.entry due.entry penalty.entry distances.entry times.entry)
         demand.now setup visits.now lengths.now r other
-        (table_at deltas.entry positions.entry places.entry) (table_at deltas.exit positions.exit places.exit) }
+        (table deltas.old positions.old places.old) (table deltas.new positions.new places.new) }
 {
     search_pair(
         setup, flags, service, ready, due, penalty, distances, times, demand, visits, lengths,
@@ -185,10 +185,10 @@ pub fn search_again(
     requires loaded { Loaded setup.l demand.now × Held setup.l visits.now lengths.now }
     requires in_bounds { 64 ≤ length buffer.old }
     requires right_of { RightOf (columns_at setup.l flags service ready due penalty distances times) demand.now setup visits.now lengths.now
-        (Renewed a b 0) (table_at deltas positions places) }
+        (Renewed a b 0) (table deltas.old positions.old places.old) }
     requires a_in_bounds { (a < length lengths.now) × (b < length lengths.now) }
     ensures { AllRight (columns_at setup.l flags.entry service.entry ready.entry due.entry penalty.entry distances.entry times.entry)
-        demand.now setup visits.now lengths.now (table_at deltas.exit positions.exit places.exit) }
+        demand.now setup visits.now lengths.now (table deltas.new positions.new places.new) }
 {
     let mut other = 0;
     while other < lengths.len() {

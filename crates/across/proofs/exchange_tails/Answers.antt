@@ -5,12 +5,6 @@ use mir.Syntax.{w32}
 use Rattle.across.specs.Across.{exchange_ran, hard_exchange}
 use Rattle.across.proofs.exchange_tails.Goals as goal
 
-pub improve-requires : goal.improve-requires
-improve-requires c =
-    rw (to_z-of_z w32 c.args.capacity
-    c.ranges.capacity)
-    c.requires.TAIL:formed|capacity_value
-
 pub returns-then-has_soft_windows : goal.returns-then-has_soft_windows
 unfolding exchange_ran
 returns-then-has_soft_windows c =
@@ -19,12 +13,6 @@ returns-then-has_soft_windows c =
       c.if-has_soft_windows.true,
     ) (rw (to_z-of_z w32
     c.args.capacity c.ranges.capacity) at c.improve.ensures)
-
-pub exchange_improve-requires : goal.exchange_improve-requires
-exchange_improve-requires c =
-    rw (to_z-of_z w32 c.args.capacity
-    c.ranges.capacity)
-    c.requires.TAIL:formed|capacity_value
 
 pub returns : goal.returns
 unfolding exchange_ran hard_exchange

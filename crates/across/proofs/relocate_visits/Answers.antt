@@ -5,23 +5,6 @@ use mir.ValLaws.{to_z-of_z}
 use mir.Syntax.{w32}
 use Rattle.across.proofs.relocate_visits.Goals as goal
 
-pub improve-requires : goal.improve-requires
-improve-requires c =
-    rw (to_z-of_z w32 c.args.capacity
-    c.ranges.capacity) (
-      c.requires.formed.0,
-      (
-        (
-          c.requires.formed.1,
-          c.requires.capacity_value.0,
-        ),
-        (
-          c.requires.capacity_value.1,
-          c.requires.capacity_value.2,
-        ),
-      ),
-    )
-
 pub returns-then-has_soft_windows : goal.returns-then-has_soft_windows
 unfolding relocate_ran
 returns-then-has_soft_windows c =
@@ -30,23 +13,6 @@ returns-then-has_soft_windows c =
       c.if-has_soft_windows.true,
     ) (rw (to_z-of_z w32
     c.args.capacity c.ranges.capacity) at c.improve.ensures)
-
-pub relocate_improve-requires : goal.relocate_improve-requires
-relocate_improve-requires c =
-    rw (to_z-of_z w32 c.args.capacity
-    c.ranges.capacity) (
-      c.requires.formed.0,
-      (
-        (
-          c.requires.formed.1,
-          c.requires.capacity_value.0,
-        ),
-        (
-          c.requires.capacity_value.1,
-          c.requires.capacity_value.2,
-        ),
-      ),
-    )
 
 pub returns : goal.returns
 unfolding relocate_ran hard_relocate

@@ -29,8 +29,8 @@ use Rattle.soft_exchange.proofs.run_moves.Given as goal
 abbrev pub invariant-loop-terms : goal.invariant-loop-terms
 invariant-loop-terms l =
     let c = columns l.terms.l l.flags l.service l.ready l.due l.penalty l.distances l.times in
-    Going (next_of c l.demand l.terms) l.limit (record { now = lists l.initial.visits l.initial.lengths; l.ahead = [] }) l.moves
-    (record { now = lists l.visits l.lengths; l.ahead = from (length l.lengths) l.ahead })
+    Going (next_of c l.demand l.terms) l.limit (record { now = lists l.initial.visits l.initial.lengths; ahead = [] }) l.moves
+    (record { now = lists l.visits l.lengths; ahead = from (length l.lengths) l.ahead })
     × Edited l.initial.visits l.initial.lengths l.visits l.lengths (lists l.visits l.lengths)
     × Held l.terms.l l.visits l.lengths
     × InSweep (length l.lengths) l.ahead

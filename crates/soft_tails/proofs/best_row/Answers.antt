@@ -1,7 +1,4 @@
 -- `best_row`: the best so far and the cuts still ahead choose what all cuts do; the load of the second head is kept running, and the head is driven on.
--- the function's entry
--- the second head is part of the list
--- and so is the first
 use borrow.Author.Rules.{rules}
 use mathlib.Core.Path.{◌≡◌, refl, sym, ◌∙◌}
 use Prim.Native.Nat.{suc, ◌+◌, ◌-◌, ◌≤◌}
@@ -22,25 +19,6 @@ use Rattle.soft_tails.specs.Parts.{best_row}
 use Rattle.tail_prices.proofs.Behind.{second_visits}
 use Rattle.soft_tails.proofs.best_row.Goals as goal
 
-head2-small : (c : tie.After-boxes-at invariant-loop decreases-loop) →
-    let load = total (boxes_of (start c).args.demand.now) (start c).args.other.now in
-    (c.before.before.loop.head2 + c.boxes-at.result ≤ load) × (load ≤ 63000000)
-head2-small c =
-    let two = (start c).requires.1.0.0 in
-    sum_small _ _ _ (start c).requires.0.loaded two.other_below (omega (arith, two.few)) _ _ _ c.before.loop-test.true
-    c.before.before.loop.invariant.1
-    c.boxes-at.ensures
-
-head1-small : (c : tie.After-boxes-at invariant-loop decreases-loop) → (start c).args.head1 ≤ total (boxes_of (start c).args.demand.now) (start c).args.one.now
-head1-small c =
-    head_small (boxes_of (start c).args.demand.now) (start c).args.cut1 (start c).args.one.now (start c).args.head1 (start c).requires.1.1.1.1.0
-
-one-small : (c : tie.After-boxes-at invariant-loop decreases-loop) → total (boxes_of (start c).args.demand.now) (start c).args.one.now ≤ 63000000
-one-small c =
-    let two = (start c).requires.1.0.0 in
-    load_small (start c).args.terms.l (start c).args.demand.now (start c).args.one.now (start c).requires.0.loaded two.one_below
-    (omega (arith, two.few))
-
 pub loop-last-init : goal.loop-last-init
 unfolding row_by
 loop-last-init c =
@@ -52,7 +30,10 @@ boxes_at-head2-requires c =
 
 pub overflow_add-head2 : goal.overflow_add-head2
 overflow_add-head2 c =
-    let small = head2-small c in
+    let two = c.requires.two.0 in
+    -- the second head is part of the list
+    let small = sum_small _ _ _ c.requires.asked.loaded two.other_below (omega (arith, two.few)) _ _ _ c.loop-last-test.true c.loop-last.invariant.1
+      c.boxes_at-head2.ensures in
     omega (arith, small.0, small.1)
 
 pub overflow_add-cut2 : goal.overflow_add-cut2
@@ -73,25 +54,36 @@ reach-driven2-requires-clause-driven c =
 
 pub overflow_sub-new1 : goal.overflow_sub-new1
 overflow_sub-new1 c =
-    let small = head2-small c in
+    let two = c.requires.two.0 in
+    -- the second head is part of the list
+    let small = sum_small _ _ _ c.requires.asked.loaded two.other_below (omega (arith, two.few)) _ _ _ c.loop-last-test.true c.loop-last.invariant.1
+      c.boxes_at-head2.ensures in
     omega (arith, small.0, c.requires.figured.second_load)
 
 pub overflow_add-new1 : goal.overflow_add-new1
 overflow_add-new1 c =
-    let small = head2-small c in
-    let head = head1-small c in
-    let most = one-small c in
+    let two = c.requires.two.0 in
+    -- the second head is part of the list
+    let small = sum_small _ _ _ c.requires.asked.loaded two.other_below (omega (arith, two.few)) _ _ _ c.loop-last-test.true c.loop-last.invariant.1
+      c.boxes_at-head2.ensures in
+    -- the first head is part of its list
+    let head = head_small (boxes_of c.args.demand.now) c.args.cut1 c.args.one.now c.args.head1 c.requires.head1_value in
+    let most = load_small c.args.terms.l c.args.demand.now c.args.one.now c.requires.asked.loaded c.requires.two.0.one_below (omega (arith, c.requires.two.0.few)) in
     omega (arith, small.1, head, most, c.requires.figured.second_load)
 
 pub overflow_sub-new2 : goal.overflow_sub-new2
 overflow_sub-new2 c =
-    let head = head1-small c in
+    -- the first head is part of its list
+    let head = head_small (boxes_of c.args.demand.now) c.args.cut1 c.args.one.now c.args.head1 c.requires.head1_value in
     omega (arith, head, c.requires.figured.first_load)
 
 pub overflow_add-new2 : goal.overflow_add-new2
 overflow_add-new2 c =
-    let small = head2-small c in
-    let most = one-small c in
+    let two = c.requires.two.0 in
+    -- the second head is part of the list
+    let small = sum_small _ _ _ c.requires.asked.loaded two.other_below (omega (arith, two.few)) _ _ _ c.loop-last-test.true c.loop-last.invariant.1
+      c.boxes_at-head2.ensures in
+    let most = load_small c.args.terms.l c.args.demand.now c.args.one.now c.requires.asked.loaded c.requires.two.0.one_below (omega (arith, c.requires.two.0.few)) in
     omega (arith, small.0, small.1, most, c.requires.figured.first_load)
 
 pub consider-found-requires-clause-asked : goal.consider-found-requires-clause-asked

@@ -1,7 +1,4 @@
 -- `best_row`: the best so far and the cuts still ahead choose what the best at the start and all cuts do; the second head's load is kept running.
--- the function's entry
--- the second head is part of the list
--- and so is the first
 use mathlib.Core.Path.{◌≡◌, refl, sym, ◌∙◌}
 use Prim.Native.Nat.{suc, ◌+◌, ◌-◌, ◌≤◌}
 use native.Mathlib.Omega.{arith}
@@ -17,23 +14,6 @@ use Rattle.tails.proofs.Turns.{cut_turn}
 use Rattle.loads.proofs.Boxes.{load_small, load_more, load_joined, sum_small, head_small}
 use Rattle.tails.proofs.best_row.Goals as goal
 
-head2-small : (c : tie.After-boxes-at invariant-loop decreases-loop) →
-    let load = total (boxes_of (start c).args.demand.now) (start c).args.other.now in
-    (c.before.before.loop.head2 + c.boxes-at.result ≤ load) × (load ≤ 63000000)
-head2-small c =
-    let two = (start c).requires.1.0.0 in
-    sum_small _ _ _ (start c).requires.0.loaded two.other_below (omega (arith, two.few)) _ _ _ c.before.loop-test.true c.before.before.loop.invariant.1
-    c.boxes-at.ensures
-
-head1-small : (c : tie.After-boxes-at invariant-loop decreases-loop) → (start c).args.head1 ≤ total (boxes_of (start c).args.demand.now) (start c).args.one.now
-head1-small c = head_small (boxes_of (start c).args.demand.now) (start c).args.cut1 (start c).args.one.now (start c).args.head1 (start c).requires.1.1.0
-
-one-small : (c : tie.After-boxes-at invariant-loop decreases-loop) → total (boxes_of (start c).args.demand.now) (start c).args.one.now ≤ 63000000
-one-small c =
-    let two = (start c).requires.1.0.0 in
-    load_small (start c).args.terms.l (start c).args.demand.now (start c).args.one.now (start c).requires.0.loaded two.one_below
-    (omega (arith, two.few))
-
 pub loop-last-init : goal.loop-last-init
 unfolding row_by
 loop-last-init c =
@@ -45,61 +25,75 @@ boxes_at-head2-requires c =
 
 pub overflow_add-head2 : goal.overflow_add-head2
 overflow_add-head2 c =
-    let small = head2-small c in
+    let two = c.requires.two.0 in
+    -- the second head is part of the list
+    let small = sum_small _ _ _ c.requires.asked.loaded two.other_below (omega (arith, two.few)) _ _ _ c.loop-last-test.true c.loop-last.invariant.1
+      c.boxes_at-head2.ensures in
     omega (arith, small.0, small.1)
 
 pub overflow_add-cut2 : goal.overflow_add-cut2
 overflow_add-cut2 c =
-    omega (arith, c.loop-last-test.true, (start c).requires.1.0.0.few)
+    omega (arith, c.loop-last-test.true, c.requires.two.0.few)
 
 pub overflow_sub-new1 : goal.overflow_sub-new1
 overflow_sub-new1 c =
-    let small = head2-small c in
-    omega (arith, small.0, (start c).requires.1.1.2)
+    let two = c.requires.two.0 in
+    -- the second head is part of the list
+    let small = sum_small _ _ _ c.requires.asked.loaded two.other_below (omega (arith, two.few)) _ _ _ c.loop-last-test.true c.loop-last.invariant.1
+      c.boxes_at-head2.ensures in
+    omega (arith, small.0, c.requires.head1_value.2)
 
 pub overflow_add-new1 : goal.overflow_add-new1
 overflow_add-new1 c =
-    let small = head2-small c in
-    let head = head1-small c in
-    let most = one-small c in
-    omega (arith, small.1, head, most, (start c).requires.1.1.2)
+    let two = c.requires.two.0 in
+    -- the second head is part of the list
+    let small = sum_small _ _ _ c.requires.asked.loaded two.other_below (omega (arith, two.few)) _ _ _ c.loop-last-test.true c.loop-last.invariant.1
+      c.boxes_at-head2.ensures in
+    -- the first head is part of its list
+    let head = head_small (boxes_of c.args.demand.now) c.args.cut1 c.args.one.now c.args.head1 c.requires.head1_value.0 in
+    let most = load_small c.args.terms.l c.args.demand.now c.args.one.now c.requires.asked.loaded c.requires.two.0.one_below (omega (arith, c.requires.two.0.few)) in
+    omega (arith, small.1, head, most, c.requires.head1_value.2)
 
 pub overflow_sub-new2 : goal.overflow_sub-new2
 overflow_sub-new2 c =
-    let head = head1-small c in
-    omega (arith, head, (start c).requires.1.1.1)
+    -- the first head is part of its list
+    let head = head_small (boxes_of c.args.demand.now) c.args.cut1 c.args.one.now c.args.head1 c.requires.head1_value.0 in
+    omega (arith, head, c.requires.head1_value.1)
 
 pub overflow_add-new2 : goal.overflow_add-new2
 overflow_add-new2 c =
-    let small = head2-small c in
-    let most = one-small c in
-    omega (arith, small.0, small.1, most, (start c).requires.1.1.1)
+    let two = c.requires.two.0 in
+    -- the second head is part of the list
+    let small = sum_small _ _ _ c.requires.asked.loaded two.other_below (omega (arith, two.few)) _ _ _ c.loop-last-test.true c.loop-last.invariant.1
+      c.boxes_at-head2.ensures in
+    let most = load_small c.args.terms.l c.args.demand.now c.args.one.now c.requires.asked.loaded c.requires.two.0.one_below (omega (arith, c.requires.two.0.few)) in
+    omega (arith, small.0, small.1, most, c.requires.head1_value.1)
 
 pub consider-found-requires-clause-asked : goal.consider-found-requires-clause-asked
 consider-found-requires-clause-asked c =
-    (start c).requires.0
+    c.requires.asked
 
 pub consider-found-requires-clause-two : goal.consider-found-requires-clause-two
 consider-found-requires-clause-two c =
-    let boxes = boxes_of (start c).args.demand.now in
-    let one = (start c).args.one.now in
-    let other = (start c).args.other.now in
-    let loads = (start c).requires.1.1 in
+    let boxes = boxes_of c.args.demand.now in
+    let one = c.args.one.now in
+    let other = c.args.other.now in
+    let loads = c.requires.head1_value in
     let cut2 = c.loop-last.last + 1 in
     let head2 = load_more _ _ _ _ _ c.loop-last-test.true c.loop-last.invariant.1 c.boxes_at-head2.ensures in
-    ((start c).requires.1.0.0, (start c).requires.1.0.1, omega (arith, c.loop-last-test.true))
+    (c.requires.two.0, c.requires.two.1, omega (arith, c.loop-last-test.true))
 
 pub consider-found-requires-clause-load1_value : goal.consider-found-requires-clause-load1_value
 consider-found-requires-clause-load1_value c =
-    let boxes = boxes_of (start c).args.demand.now in
-    let one = (start c).args.one.now in
-    let other = (start c).args.other.now in
-    let loads = (start c).requires.1.1 in
+    let boxes = boxes_of c.args.demand.now in
+    let one = c.args.one.now in
+    let other = c.args.other.now in
+    let loads = c.requires.head1_value in
     let cut2 = c.loop-last.last + 1 in
     let head2 = load_more _ _ _ _ _ c.loop-last-test.true c.loop-last.invariant.1 c.boxes_at-head2.ensures in
     (
-          load_joined boxes one other (start c).args.cut1 cut2 _ _ _ loads.0 head2 loads.2,
-          load_joined boxes other one cut2 (start c).args.cut1 _ _ _ head2 loads.0 loads.1,
+          load_joined boxes one other c.args.cut1 cut2 _ _ _ loads.0 head2 loads.2,
+          load_joined boxes other one cut2 c.args.cut1 _ _ _ head2 loads.0 loads.1,
         )
 
 pub overflow_add-last : goal.overflow_add-last
