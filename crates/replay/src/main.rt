@@ -1,6 +1,7 @@
 // The stored sample of the published Rust's answers (oracle/README.md, 'The stored sample'), replayed through the planner's entries and compared bit for bit.
 // It prints how many runs of each kind agree and how many differ, or only `malformed` where the file isn't of that form. Each kind has its own pass over
 // the file, so that a pass carries two counts and nothing else.
+
 #![tactic(auto)]
 
 mod improve; // the kinds of run that change one list

@@ -1,6 +1,7 @@
 // Document 01's worked days, run: places 0 to 4 at 0, 10, 20, 30, 40 on a line, depot 0, distance the gap, no times, demand 1, service 0.
 // Then one input for each refusal, the line but for what the printed words name. One line a run. The line's columns are lent as flags,
 // demand, zeros (service, ready, due and penalty), gaps and times.
+
 #![tactic(auto)]
 
 mod line; // the distances and the van
