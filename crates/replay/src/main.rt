@@ -1,53 +1,62 @@
 // The stored sample of the published Rust's answers (oracle/README.md, 'The stored sample'), replayed through the planner's entries and compared bit for bit.
 // It prints how many runs of each kind agree and how many differ, or only `malformed` where the file isn't of that form. Each kind has its own pass over
 // the file, so that a pass carries two counts and nothing else.
+
+#![tactic(auto)]
+
 mod improve; // the kinds of run that change one list
 mod rearrange; // the kinds of run that change all lists
 mod cross; // the kind of run that has a fleet
 mod runs; // one function for each kind of run
 mod score; // how many runs of a kind agree
 
-ghost use Rattle.std.specs.Prelude.{◌≡◌, length};
+ghost use Rattle.std.specs.Prelude.{◌≡◌, ◌≤◌, IfOk, length};
 
 use sample::whole::file_is_whole;
+use std::io;
+use std::io::Read;
 
-fn line(kind: &[u8], data: &[u8], tag: u8) {
+fn line(rt: &impl Print, kind: &[u8], data: &[u8], tag: u8) -> io::Result<()> {
     let score = score::of_file(data, tag);
-    io::write_all(1, kind);
-    io::print_decimal(1, score.agree);
-    io::write_all(1, b" agree, ");
-    io::print_decimal(1, score.differ);
-    io::write_all(1, b" differ\n");
+    rt.write_all(kind)?;
+    rt.print(score.agree)?;
+    rt.write_all(b" agree, ")?;
+    rt.print(score.differ)?;
+    rt.write_all(b" differ\n")
 }
 
-fn checks(data: &[u8]) {
-    line(b"feasible ", data, runs::FEASIBLE);
-    line(b"eval ", data, runs::EVAL);
-    line(b"schedule ", data, runs::SCHEDULE);
-    line(b"distance ", data, runs::DISTANCE);
+fn checks(rt: &impl Print, data: &[u8]) -> io::Result<()> {
+    line(rt, b"feasible ", data, runs::FEASIBLE)?;
+    line(rt, b"eval ", data, runs::EVAL)?;
+    line(rt, b"schedule ", data, runs::SCHEDULE)?;
+    line(rt, b"distance ", data, runs::DISTANCE)
 }
 
-fn engines_of_a_list(data: &[u8]) {
-    line(b"two_opt ", data, improve::TWO_OPT);
-    line(b"or_opt ", data, improve::OR_OPT);
-    line(b"three_opt ", data, improve::THREE_OPT);
+fn engines_of_a_list(rt: &impl Print, data: &[u8]) -> io::Result<()> {
+    line(rt, b"two_opt ", data, improve::TWO_OPT)?;
+    line(rt, b"or_opt ", data, improve::OR_OPT)?;
+    line(rt, b"three_opt ", data, improve::THREE_OPT)
 }
 
-fn engines_of_all_lists(data: &[u8]) {
-    line(b"relocate ", data, rearrange::RELOCATE);
-    line(b"relocate_np ", data, rearrange::RELOCATE_WITHOUT_PRUNING);
-    line(b"exchange ", data, rearrange::EXCHANGE);
-    line(b"cross ", data, cross::CROSS);
+fn engines_of_all_lists(rt: &impl Print, data: &[u8]) -> io::Result<()> {
+    line(rt, b"relocate ", data, rearrange::RELOCATE)?;
+    line(
+        rt,
+        b"relocate_np ",
+        data,
+        rearrange::RELOCATE_WITHOUT_PRUNING,
+    )?;
+    line(rt, b"exchange ", data, rearrange::EXCHANGE)?;
+    line(rt, b"cross ", data, cross::CROSS)
 }
 
-fn replay(data: &[u8]) {
+fn replay(rt: &impl Print, data: &[u8]) -> io::Result<()> {
     if !file_is_whole(data) {
-        io::write_all(1, b"malformed\n");
-        return;
+        return rt.write_all(b"malformed\n");
     }
-    checks(data);
-    engines_of_a_list(data);
-    engines_of_all_lists(data);
+    checks(rt, data)?;
+    engines_of_a_list(rt, data)?;
+    engines_of_all_lists(rt, data)
 }
 
 // Room for the file, 524,288 bytes.
@@ -57,8 +66,23 @@ fn room() -> [u8; 524288]
     [0; 524288]
 }
 
-fn main() {
+// Reads until the buffer is full or the input ends, and says how many bytes came.
+fn read_full(input: &mut impl Read, buffer: &mut [u8]) -> io::Result<usize>
+    ensures { IfOk result (λ n. n ≤ length buffer.new) }
+{
+    let mut at = 0;
+    while at < buffer.len() {
+        let n = input.read(&mut buffer[at..])?;
+        if n == 0 {
+            return Ok(at);
+        }
+        at += n;
+    }
+    Ok(at)
+}
+
+fn main(rt: HostRuntime) -> io::Result<()> {
     let mut buffer = room();
-    let n = io::read_full(0, &mut buffer);
-    replay(&buffer[..n]);
+    let n = read_full(&mut rt.stdin(), &mut buffer)?;
+    replay(&rt, &buffer[..n])
 }

@@ -2,6 +2,7 @@
 use crate::print::{number, text};
 use crate::{line, print};
 use planner::improve::Improved;
+use std::io;
 
 #[derive(Clone, Copy)]
 enum Engine {
@@ -18,31 +19,25 @@ const SOFT: u8 = 6;
 // More moves than any list here takes.
 const ENOUGH: u32 = 1000;
 
-fn ended(distance: f64, moves: u32, word: &[u8]) {
-    text(b", distance ");
-    number(distance);
-    text(b", moves ");
-    io::print_decimal(1, moves as u64);
-    text(word);
+fn ended(rt: &impl Print, distance: f64, moves: u32, word: &[u8]) -> io::Result<()> {
+    text(rt, b", distance ")?;
+    number(rt, distance)?;
+    text(rt, b", moves ")?;
+    rt.print(moves as u64)?;
+    text(rt, word)
 }
 
-fn improved(answer: Improved) {
+fn improved(rt: &impl Print, answer: Improved) -> io::Result<()> {
     match answer {
-        Improved::Refused(_) => {
-            text(b", refused\n");
-        }
+        Improved::Refused(_) => text(rt, b", refused\n"),
         Improved::Settled {
             moves: a,
             distance: b,
-        } => {
-            ended(b, a, b", settled\n");
-        }
+        } => ended(rt, b, a, b", settled\n"),
         Improved::Stopped {
             moves: a,
             distance: b,
-        } => {
-            ended(b, a, b", stopped\n");
-        }
+        } => ended(rt, b, a, b", stopped\n"),
     }
 }
 
@@ -101,121 +96,139 @@ fn improve(engine: Engine, flag: u8, visits: &mut [u16], length: u16, limit: u32
 }
 
 // The visits of a list, or that it has none.
-fn list(visits: &[u16]) {
+fn list(rt: &impl Print, visits: &[u16]) -> io::Result<()> {
     if visits.len() == 0 {
-        text(b" none");
-        return;
+        return text(rt, b" none");
     }
-    print::visits(visits);
+    print::visits(rt, visits)
 }
 
 // One day: the list handed back, and how the run ended.
-fn day(words: &[u8], engine: Engine, flag: u8, visits: &mut [u16], length: u16, limit: u32) {
+fn day(
+    rt: &impl Print,
+    words: &[u8],
+    engine: Engine,
+    flag: u8,
+    visits: &mut [u16],
+    length: u16,
+    limit: u32,
+) -> io::Result<()> {
     let answer = improve(engine, flag, visits, length, limit);
-    text(words);
-    list(visits);
-    improved(answer);
+    text(rt, words)?;
+    list(rt, visits)?;
+    improved(rt, answer)
 }
 
-fn two_opt() {
+fn two_opt(rt: &impl Print) -> io::Result<()> {
     day(
+        rt,
         b"2-opt of 2,1,3:",
         Engine::TwoOpt,
         OPEN,
         &mut [2u16, 1, 3],
         3,
         ENOUGH,
-    );
+    )?;
     day(
+        rt,
         b"2-opt of 2,1,3, limit 0:",
         Engine::TwoOpt,
         OPEN,
         &mut [2u16, 1, 3],
         3,
         0,
-    );
+    )?;
     day(
+        rt,
         b"2-opt of 3,1,2, place 2 due 20, penalty 3:",
         Engine::TwoOpt,
         SOFT,
         &mut [3u16, 1, 2],
         3,
         ENOUGH,
-    );
+    )?;
     day(
+        rt,
         b"2-opt of the empty list:",
         Engine::TwoOpt,
         OPEN,
         &mut [],
         0,
         ENOUGH,
-    );
+    )
 }
 
-fn or_opt() {
+fn or_opt(rt: &impl Print) -> io::Result<()> {
     day(
+        rt,
         b"Or-opt of 3,1,2:",
         Engine::OrOpt,
         OPEN,
         &mut [3u16, 1, 2],
         3,
         ENOUGH,
-    );
+    )?;
     day(
+        rt,
         b"Or-opt of 3,1,2, place 2 due 20, penalty 3:",
         Engine::OrOpt,
         SOFT,
         &mut [3u16, 1, 2],
         3,
         ENOUGH,
-    );
+    )?;
     day(
+        rt,
         b"Or-opt of the empty list:",
         Engine::OrOpt,
         OPEN,
         &mut [],
         0,
         ENOUGH,
-    );
+    )
 }
 
-fn three_opt() {
+fn three_opt(rt: &impl Print) -> io::Result<()> {
     day(
+        rt,
         b"3-opt of 2,1,3:",
         Engine::ThreeOpt,
         OPEN,
         &mut [2u16, 1, 3],
         3,
         ENOUGH,
-    );
+    )?;
     day(
+        rt,
         b"3-opt of 1,3,2,4:",
         Engine::ThreeOpt,
         OPEN,
         &mut [1u16, 3, 2, 4],
         4,
         ENOUGH,
-    );
+    )?;
     day(
+        rt,
         b"3-opt of 2,4,1,3, place 2 due 20, penalty 3:",
         Engine::ThreeOpt,
         SOFT,
         &mut [2u16, 4, 1, 3],
         4,
         ENOUGH,
-    );
+    )?;
     day(
+        rt,
         b"3-opt of the empty list:",
         Engine::ThreeOpt,
         OPEN,
         &mut [],
         0,
         ENOUGH,
-    );
+    )
 }
 
-pub fn days() {
-    two_opt();
-    or_opt();
-    three_opt();
+pub fn days(rt: &impl Print) -> io::Result<()> {
+    two_opt(rt)?;
+    or_opt(rt)?;
+    three_opt(rt)
 }

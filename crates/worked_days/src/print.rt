@@ -1,4 +1,5 @@
 // Lines and numbers on the standard output.
+use std::io;
 
 // The whole part of a number from 0 to 2^64, and 0 of any other.
 fn whole_part_or_zero(x: f64) -> u64 {
@@ -10,44 +11,45 @@ fn whole_part_or_zero(x: f64) -> u64 {
     0
 }
 
-pub fn text(words: &[u8]) {
-    io::write_all(1, words);
+pub fn text(rt: &impl Print, words: &[u8]) -> io::Result<()> {
+    rt.write_all(words)
 }
 
 // A whole number in decimal; of another it says that it isn't whole.
-pub fn number(x: f64) {
+pub fn number(rt: &impl Print, x: f64) -> io::Result<()> {
     let n = whole_part_or_zero(x);
     if std::num::nearest_u64_to_f64(n) == x {
-        io::print_decimal(1, n);
-        return;
+        return rt.print(n);
     }
-    text(b"not whole");
+    text(rt, b"not whole")
 }
 
-fn visit(place: u16) {
-    text(b" ");
-    io::print_decimal(1, place as u64);
+fn visit(rt: &impl Print, place: u16) -> io::Result<()> {
+    text(rt, b" ")?;
+    rt.print(place as u64)
 }
 
 // The visits of a list, each behind a blank.
-pub fn visits(list: &[u16]) {
+pub fn visits(rt: &impl Print, list: &[u16]) -> io::Result<()> {
     let mut i = 0;
     while i < list.len() {
-        visit(list[i]);
+        visit(rt, list[i])?;
         i += 1;
     }
+    Ok(())
 }
 
-fn id(id: u32) {
-    text(b" ");
-    io::print_decimal(1, id as u64);
+fn id(rt: &impl Print, id: u32) -> io::Result<()> {
+    text(rt, b" ")?;
+    rt.print(id as u64)
 }
 
 // The ids of vans, each behind a blank.
-pub fn ids(column: &[u32]) {
+pub fn ids(rt: &impl Print, column: &[u32]) -> io::Result<()> {
     let mut i = 0;
     while i < column.len() {
-        id(column[i]);
+        id(rt, column[i])?;
         i += 1;
     }
+    Ok(())
 }

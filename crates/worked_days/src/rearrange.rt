@@ -2,49 +2,51 @@
 use crate::print::text;
 use crate::{line, print};
 use planner::rearrange::Rearranged;
+use std::io;
 
 // More moves than any lists here take.
 const ENOUGH: u32 = 1000;
 
-fn ended(moves: u32, remaining: usize, word: &[u8]) {
-    text(b", lists ");
-    io::print_decimal(1, remaining as u64);
-    text(b", moves ");
-    io::print_decimal(1, moves as u64);
-    text(word);
+fn ended(rt: &impl Print, moves: u32, remaining: usize, word: &[u8]) -> io::Result<()> {
+    text(rt, b", lists ")?;
+    rt.print(remaining as u64)?;
+    text(rt, b", moves ")?;
+    rt.print(moves as u64)?;
+    text(rt, word)
 }
 
 // How a run over all lists ended.
-pub fn rearranged(answer: Rearranged) {
+pub fn rearranged(rt: &impl Print, answer: Rearranged) -> io::Result<()> {
     match answer {
-        Rearranged::Refused(_) => {
-            text(b", refused\n");
-        }
+        Rearranged::Refused(_) => text(rt, b", refused\n"),
         Rearranged::Settled {
             moves: a,
             remaining: b,
-        } => {
-            ended(a, b, b", settled\n");
-        }
+        } => ended(rt, a, b, b", settled\n"),
         Rearranged::Stopped {
             moves: a,
             remaining: b,
-        } => {
-            ended(a, b, b", stopped\n");
-        }
+        } => ended(rt, a, b, b", stopped\n"),
     }
 }
 
 // One day: all visits handed back, the length of each list behind them, and how the run ended.
-fn day(words: &[u8], visits: &[u16], lengths: &[u16], answer: Rearranged) {
-    text(words);
-    print::visits(visits);
-    text(b", lengths");
-    print::visits(lengths);
-    rearranged(answer);
+fn day(
+    rt: &impl Print,
+    words: &[u8],
+    visits: &[u16],
+    lengths: &[u16],
+    answer: Rearranged,
+) -> io::Result<()> {
+    text(rt, words)?;
+    print::visits(rt, visits)?;
+    text(rt, b", lengths")?;
+    print::visits(rt, lengths)?;
+    rearranged(rt, answer)
 }
 
 fn relocate(
+    rt: &impl Print,
     words: &[u8],
     flags: &[u8],
     demand: &[i32],
@@ -53,7 +55,7 @@ fn relocate(
     times: &[f64],
     visits: &mut [u16],
     lengths: &mut [u16],
-) {
+) -> io::Result<()> {
     let answer = planner::rearrange::relocate_improve(
         5,
         flags,
@@ -70,11 +72,12 @@ fn relocate(
         ENOUGH,
         true,
     );
-    day(words, visits, lengths, answer);
+    day(rt, words, visits, lengths, answer)
 }
 
 // With a van of capacity 2.
 fn exchange(
+    rt: &impl Print,
     words: &[u8],
     flags: &[u8],
     demand: &[i32],
@@ -83,17 +86,25 @@ fn exchange(
     times: &[f64],
     visits: &mut [u16],
     lengths: &mut [u16],
-) {
+) -> io::Result<()> {
     let mut van = line::van();
     van.capacity = 2;
     let answer = planner::rearrange::exchange_improve(
         5, flags, demand, zeros, zeros, zeros, zeros, gaps, times, van, visits, lengths, ENOUGH,
     );
-    day(words, visits, lengths, answer);
+    day(rt, words, visits, lengths, answer)
 }
 
-pub fn days(flags: &[u8], demand: &[i32], zeros: &[f64], gaps: &[f64], times: &[f64]) {
+pub fn days(
+    rt: &impl Print,
+    flags: &[u8],
+    demand: &[i32],
+    zeros: &[f64],
+    gaps: &[f64],
+    times: &[f64],
+) -> io::Result<()> {
     relocate(
+        rt,
         b"relocate of 1,3 and 2:",
         flags,
         demand,
@@ -102,8 +113,9 @@ pub fn days(flags: &[u8], demand: &[i32], zeros: &[f64], gaps: &[f64], times: &[
         times,
         &mut [1u16, 3, 2],
         &mut [2u16, 1],
-    );
+    )?;
     relocate(
+        rt,
         b"relocate of 2,1 alone:",
         flags,
         demand,
@@ -112,8 +124,9 @@ pub fn days(flags: &[u8], demand: &[i32], zeros: &[f64], gaps: &[f64], times: &[
         times,
         &mut [2u16, 1],
         &mut [2u16],
-    );
+    )?;
     exchange(
+        rt,
         b"tail exchange of 3,1 and 2,4, capacity 2:",
         flags,
         demand,
@@ -122,5 +135,5 @@ pub fn days(flags: &[u8], demand: &[i32], zeros: &[f64], gaps: &[f64], times: &[
         times,
         &mut [3u16, 1, 2, 4],
         &mut [2u16, 2],
-    );
+    )
 }

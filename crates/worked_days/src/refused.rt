@@ -2,6 +2,7 @@
 use crate::line;
 use crate::print::text;
 use day::vehicle::Van;
+use std::io;
 
 pub fn wide(number: u8) -> u64 {
     number as u64
@@ -9,6 +10,7 @@ pub fn wide(number: u8) -> u64 {
 
 // The refusal of the line but for what is passed.
 fn refused(
+    rt: &impl Print,
     words: &[u8],
     l: usize,
     flags: &[u8],
@@ -20,17 +22,18 @@ fn refused(
     van: Van,
     visits: &[u16],
     lengths: &[u16],
-) {
+) -> io::Result<()> {
     let number = planner::refusal::refusal_of(
         l, flags, demand, zeros, ready, zeros, zeros, distances, times, van, visits, lengths, 0,
     );
-    text(b"refused ");
-    io::print_decimal(1, wide(number));
-    text(words);
+    text(rt, b"refused ")?;
+    rt.print(wide(number))?;
+    text(rt, words)
 }
 
 // With list 2,1,3 of a plain van.
 fn of_day(
+    rt: &impl Print,
     words: &[u8],
     l: usize,
     flags: &[u8],
@@ -39,8 +42,9 @@ fn of_day(
     ready: &[f64],
     distances: &[f64],
     times: &[f64],
-) {
+) -> io::Result<()> {
     refused(
+        rt,
         words,
         l,
         flags,
@@ -52,11 +56,19 @@ fn of_day(
         line::van(),
         &[2u16, 1, 3],
         &[3u16],
-    );
+    )
 }
 
-fn by_size(flags: &[u8], demand: &[i32], zeros: &[f64], gaps: &[f64], times: &[f64]) {
+fn by_size(
+    rt: &impl Print,
+    flags: &[u8],
+    demand: &[i32],
+    zeros: &[f64],
+    gaps: &[f64],
+    times: &[f64],
+) -> io::Result<()> {
     of_day(
+        rt,
         b": nothing, the line as it is\n",
         5,
         flags,
@@ -65,8 +77,9 @@ fn by_size(flags: &[u8], demand: &[i32], zeros: &[f64], gaps: &[f64], times: &[f
         zeros,
         gaps,
         times,
-    );
+    )?;
     of_day(
+        rt,
         b": no locations\n",
         0,
         flags,
@@ -75,8 +88,9 @@ fn by_size(flags: &[u8], demand: &[i32], zeros: &[f64], gaps: &[f64], times: &[f
         zeros,
         gaps,
         times,
-    );
+    )?;
     of_day(
+        rt,
         b": 4 locations, 5 flags\n",
         4,
         flags,
@@ -85,12 +99,19 @@ fn by_size(flags: &[u8], demand: &[i32], zeros: &[f64], gaps: &[f64], times: &[f
         zeros,
         gaps,
         times,
-    );
+    )
 }
 
-fn by_numbers(demand: &[i32], zeros: &[f64], gaps: &[f64], times: &[f64]) {
+fn by_numbers(
+    rt: &impl Print,
+    demand: &[i32],
+    zeros: &[f64],
+    gaps: &[f64],
+    times: &[f64],
+) -> io::Result<()> {
     let flags = [1u8, 2, 0, 0, 0];
     of_day(
+        rt,
         b": distances of -1\n",
         5,
         &flags,
@@ -99,8 +120,9 @@ fn by_numbers(demand: &[i32], zeros: &[f64], gaps: &[f64], times: &[f64]) {
         zeros,
         &[-1.0f64; 25],
         times,
-    );
+    )?;
     of_day(
+        rt,
         b": demands of -1\n",
         5,
         &flags,
@@ -109,8 +131,9 @@ fn by_numbers(demand: &[i32], zeros: &[f64], gaps: &[f64], times: &[f64]) {
         zeros,
         gaps,
         times,
-    );
+    )?;
     of_day(
+        rt,
         b": place 1 ready at 1, due at 0\n",
         5,
         &flags,
@@ -119,10 +142,11 @@ fn by_numbers(demand: &[i32], zeros: &[f64], gaps: &[f64], times: &[f64]) {
         &[1.0f64; 5],
         gaps,
         times,
-    );
+    )
 }
 
 fn of_van(
+    rt: &impl Print,
     words: &[u8],
     flags: &[u8],
     demand: &[i32],
@@ -130,8 +154,9 @@ fn of_van(
     gaps: &[f64],
     times: &[f64],
     van: Van,
-) {
+) -> io::Result<()> {
     refused(
+        rt,
         words,
         5,
         flags,
@@ -143,13 +168,21 @@ fn of_van(
         van,
         &[2u16, 1, 3],
         &[3u16],
-    );
+    )
 }
 
-fn by_van(flags: &[u8], demand: &[i32], zeros: &[f64], gaps: &[f64], times: &[f64]) {
+fn by_van(
+    rt: &impl Print,
+    flags: &[u8],
+    demand: &[i32],
+    zeros: &[f64],
+    gaps: &[f64],
+    times: &[f64],
+) -> io::Result<()> {
     let mut elsewhere = line::van();
     elsewhere.depot = 1;
     of_van(
+        rt,
         b": the van's depot is place 1\n",
         flags,
         demand,
@@ -157,8 +190,9 @@ fn by_van(flags: &[u8], demand: &[i32], zeros: &[f64], gaps: &[f64], times: &[f6
         gaps,
         times,
         elsewhere,
-    );
+    )?;
     of_van(
+        rt,
         b": break from 20 to 19\n",
         flags,
         demand,
@@ -166,10 +200,11 @@ fn by_van(flags: &[u8], demand: &[i32], zeros: &[f64], gaps: &[f64], times: &[f6
         gaps,
         times,
         line::van_with_break(20.0, 19.0, 30.0),
-    );
+    )
 }
 
 fn of_lists(
+    rt: &impl Print,
     words: &[u8],
     flags: &[u8],
     demand: &[i32],
@@ -178,8 +213,9 @@ fn of_lists(
     times: &[f64],
     visits: [u16; 3],
     length: u16,
-) {
+) -> io::Result<()> {
     refused(
+        rt,
         words,
         5,
         flags,
@@ -191,11 +227,19 @@ fn of_lists(
         line::van(),
         &visits,
         &[length],
-    );
+    )
 }
 
-fn by_lists(flags: &[u8], demand: &[i32], zeros: &[f64], gaps: &[f64], times: &[f64]) {
+fn by_lists(
+    rt: &impl Print,
+    flags: &[u8],
+    demand: &[i32],
+    zeros: &[f64],
+    gaps: &[f64],
+    times: &[f64],
+) -> io::Result<()> {
     of_lists(
+        rt,
         b": 3 visits, a list of 2\n",
         flags,
         demand,
@@ -204,8 +248,9 @@ fn by_lists(flags: &[u8], demand: &[i32], zeros: &[f64], gaps: &[f64], times: &[
         times,
         [2, 1, 3],
         2,
-    );
+    )?;
     of_lists(
+        rt,
         b": visit 5\n",
         flags,
         demand,
@@ -214,8 +259,9 @@ fn by_lists(flags: &[u8], demand: &[i32], zeros: &[f64], gaps: &[f64], times: &[
         times,
         [2, 1, 5],
         3,
-    );
+    )?;
     of_lists(
+        rt,
         b": office 1 twice\n",
         flags,
         demand,
@@ -224,12 +270,19 @@ fn by_lists(flags: &[u8], demand: &[i32], zeros: &[f64], gaps: &[f64], times: &[
         times,
         [2, 1, 1],
         3,
-    );
+    )
 }
 
-pub fn days(flags: &[u8], demand: &[i32], zeros: &[f64], gaps: &[f64], times: &[f64]) {
-    by_size(flags, demand, zeros, gaps, times);
-    by_numbers(demand, zeros, gaps, times);
-    by_van(flags, demand, zeros, gaps, times);
-    by_lists(flags, demand, zeros, gaps, times);
+pub fn days(
+    rt: &impl Print,
+    flags: &[u8],
+    demand: &[i32],
+    zeros: &[f64],
+    gaps: &[f64],
+    times: &[f64],
+) -> io::Result<()> {
+    by_size(rt, flags, demand, zeros, gaps, times)?;
+    by_numbers(rt, demand, zeros, gaps, times)?;
+    by_van(rt, flags, demand, zeros, gaps, times)?;
+    by_lists(rt, flags, demand, zeros, gaps, times)
 }

@@ -2,49 +2,58 @@
 use crate::line;
 use crate::print::{number, text};
 use planner::table::Table;
+use std::io;
 
-fn symmetry(same: bool) {
+fn symmetry(rt: &impl Print, same: bool) -> io::Result<()> {
     if same {
-        text(b", the same both ways");
-        return;
+        return text(rt, b", the same both ways");
     }
-    text(b", not the same both ways");
+    text(rt, b", not the same both ways")
 }
 
-fn known(scale: f64, symmetric: bool, fixed: f64, depots: usize) {
-    text(b"largest distance ");
-    number(scale);
-    symmetry(symmetric);
-    text(b", fixed cost ");
-    number(fixed);
-    text(b" in distance, depots ");
-    io::print_decimal(1, depots as u64);
-    text(b"\n");
+fn known(
+    rt: &impl Print,
+    scale: f64,
+    symmetric: bool,
+    fixed: f64,
+    depots: usize,
+) -> io::Result<()> {
+    text(rt, b"largest distance ")?;
+    number(rt, scale)?;
+    symmetry(rt, symmetric)?;
+    text(rt, b", fixed cost ")?;
+    number(rt, fixed)?;
+    text(rt, b" in distance, depots ")?;
+    rt.print(depots as u64)?;
+    text(rt, b"\n")
 }
 
-fn answered(answer: Table) {
+fn answered(rt: &impl Print, answer: Table) -> io::Result<()> {
     match answer {
-        Table::Refused(_) => {
-            text(b"refused\n");
-        }
+        Table::Refused(_) => text(rt, b"refused\n"),
         Table::Known {
             scale: a,
             floor: _,
             symmetric: b,
             fixed: c,
             depots: d,
-        } => {
-            known(a, b, c, d);
-        }
+        } => known(rt, a, b, c, d),
     }
 }
 
-pub fn table(flags: &[u8], demand: &[i32], zeros: &[f64], gaps: &[f64], times: &[f64]) {
+pub fn table(
+    rt: &impl Print,
+    flags: &[u8],
+    demand: &[i32],
+    zeros: &[f64],
+    gaps: &[f64],
+    times: &[f64],
+) -> io::Result<()> {
     let mut van = line::van();
     van.cost_per_distance = 2.0;
     van.fixed_cost = 10.0;
     let answer = planner::table::table_of(
         5, flags, demand, zeros, zeros, zeros, zeros, gaps, times, van,
     );
-    answered(answer);
+    answered(rt, answer)
 }
