@@ -1,5 +1,4 @@
 -- `run_moves`: the moves made and the rest of the run make the whole run. The measure is what is left of the limit.
--- the function's entry
 use borrow.Author.Rules.{rules}
 use native.Mathlib.Omega.{arith}
 use Prim.Native.Nat.{◌-◌}
@@ -15,17 +14,17 @@ use Rattle.two_opt.proofs.run_moves.Goals as goal
 
 pub overflow_add-ahead : goal.overflow_add-ahead
 overflow_add-ahead c =
-    omega (arith, (start c).requires.1.few)
+    omega (arith, c.requires.1.few)
 
 pub loop-place-init : goal.loop-place-init
 loop-place-init c =
-    let n = length (start c).args.list.now in
+    let n = length c.args.list.now in
     let nothing = from_end n _ (none_ahead n) (omega arith) in
-    (refl, refl, (start c).requires.1, none_ahead n, turning_starts _ _ _ _ _ nothing)
+    (refl, refl, c.requires.1, none_ahead n, turning_starts _ _ _ _ _ nothing)
 
 pub next_move-found-requires-clause-worked : goal.next_move-found-requires-clause-worked
 next_move-found-requires-clause-worked c =
-    ((start c).pre.0, c.loop-place.invariant.2)
+    (c.requires.0, c.loop-place.invariant.2)
 
 pub next_move-found-requires-clause-in_sweep : goal.next_move-found-requires-clause-in_sweep
 next_move-found-requires-clause-in_sweep c =
@@ -62,7 +61,7 @@ place_after-ahead-requires c =
 
 pub overflow_add-moves : goal.overflow_add-moves
 overflow_add-moves c =
-    omega (arith, c.if-limit-moves.false, (start c).fits.limit)
+    omega (arith, c.if-limit-moves.false, c.ranges.limit)
 
 pub loop-place-smaller : goal.loop-place-smaller
 loop-place-smaller c =
