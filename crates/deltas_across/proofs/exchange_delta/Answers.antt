@@ -5,8 +5,7 @@ use borrow.Author.Rules.{rules}
 use Rattle.deltas_across.proofs.exchange_delta.Goals as goal
 
 pub tails_change-requires : goal.tails_change-requires
-tails_change-requires c =
-    (
+tails_change-requires c = (
   c.requires.square.0,
   rw c.around-edge1.ensures
       (around_placed _ _ _ c.requires.square.1 _ _),

@@ -5,8 +5,7 @@ use borrow.Author.Rules.{rules}
 use Rattle.deltas_across.proofs.insertion_cost.Goals as goal
 
 pub detour-requires : goal.detour-requires
-detour-requires c =
-    (
+detour-requires c = (
   c.requires.0,
   rw c.around-stops.ensures
       (around_placed _ _ _ c.requires.1 _ _),

@@ -5,8 +5,7 @@ use borrow.Author.Rules.{rules}
 use Rattle.deltas_across.proofs.removal_delta.Goals as goal
 
 pub removal_cost-requires : goal.removal_cost-requires
-removal_cost-requires c =
-    (
+removal_cost-requires c = (
   c.requires.0,
   rw c.around-stops.ensures
       (around_placed _ _ _ c.requires.1 _ _),

@@ -69,8 +69,7 @@ loop-terms-smaller c =
 
 pub loop-terms-preserved : goal.loop-terms-preserved
 loop-terms-preserved c =
-    let cuts = c.next_move-found.ensures.1 c.if-found-eq0.false in
-    (
+    let cuts = c.next_move-found.ensures.1 c.if-found-eq0.false in (
       rw (c.place_after-ahead.ensures, c.loop-terms.invariant.4)
           (moved_on _ _ _ _ _ _ _ _ _ _ _ c.loop-terms.invariant.0 c.if-limit-moves.false c.next_move-found.ensures.0
           c.if-found-eq0.false c.exchange_tails.ensures),

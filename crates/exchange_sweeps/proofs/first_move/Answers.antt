@@ -23,12 +23,11 @@ best_at-best-requires-clause-held c =
     (c.requires.held.0, c.loop-place.invariant.1.ordered, c.loop-place-test.true)
 
 pub returns-then-best-ne0 : goal.returns-then-best-ne0
-returns-then-best-ne0 c =
-    (
-      found_here _ _ _ _ (length-lists _ _) _ _ _ c.loop-place.invariant.1.ordered c.loop-place-test.true c.best_at-best.ensures
-          c.if-best-ne0.true ∙ c.loop-place.invariant.2,
-      apt _ _ _ _ _ _ _ _ c.requires.held.0 c.loop-place.invariant.1.ordered c.loop-place-test.true c.best_at-best.ensures,
-    )
+returns-then-best-ne0 c = (
+  found_here _ _ _ _ (length-lists _ _) _ _ _ c.loop-place.invariant.1.ordered c.loop-place-test.true c.best_at-best.ensures
+      c.if-best-ne0.true ∙ c.loop-place.invariant.2,
+  apt _ _ _ _ _ _ _ _ c.requires.held.0 c.loop-place.invariant.1.ordered c.loop-place-test.true c.best_at-best.ensures,
+)
 
 pub place_after-place-requires : goal.place_after-place-requires
 place_after-place-requires c =

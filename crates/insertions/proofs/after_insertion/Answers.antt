@@ -29,8 +29,7 @@ pub loop-visit-preserved : goal.loop-visit-preserved
 unfolding came_at
 loop-visit-preserved c =
     let f = column_read _ _ _ _ _ nan c.loop-visit.invariant.1 in
-    let p = column_read _ _ _ _ _ 0 c.loop-visit.invariant.2 in
-    (
+    let p = column_read _ _ _ _ _ 0 c.loop-visit.invariant.2 in (
       omega (arith, c.loop-visit-test.true),
       column_turn _ _ _ _ _ _ c.loop-visit.invariant.1 (rw (c.least_came-came.ensures, f, p)),
       column_turn _ _ _ _ _ _ c.loop-visit.invariant.2 (rw (c.least_came-came.ensures, f, p)),

@@ -34,12 +34,11 @@ loop-r-smaller c =
     omega (arith, c.loop-r-test.true)
 
 pub loop-r-preserved : goal.loop-r-preserved
-loop-r-preserved c =
-    (
-      omega (arith, c.loop-r-test.true),
-      kept_more _ _ c.args.terms _ _ _ _ _ _ c.loop-r.invariant.1 (omega (arith, c.loop-r-test.true, c.requires.held.laid.few))
-          c.figure_list.ensures.0 c.figure_list.ensures.1,
-    )
+loop-r-preserved c = (
+  omega (arith, c.loop-r-test.true),
+  kept_more _ _ c.args.terms _ _ _ _ _ _ c.loop-r.invariant.1 (omega (arith, c.loop-r-test.true, c.requires.held.laid.few))
+      c.figure_list.ensures.0 c.figure_list.ensures.1,
+)
 
 pub returns : goal.returns
 returns c =

@@ -26,11 +26,10 @@ figure_list-requires-2-clause-held c =
     (c.requires.held.0, omega (arith, c.requires.held.1, c.requires.held.2))
 
 pub figure_list-requires-2-clause-costs_len : goal.figure_list-requires-2-clause-costs_len
-figure_list-requires-2-clause-costs_len c =
-    (
-          c.figure_list.auto.costs ∙ c.requires.costs_len.0,
-          c.figure_list.auto.loads ∙ c.requires.costs_len.1,
-        )
+figure_list-requires-2-clause-costs_len c = (
+  c.figure_list.auto.costs ∙ c.requires.costs_len.0,
+  c.figure_list.auto.loads ∙ c.requires.costs_len.1,
+)
 
 pub returns : goal.returns
 returns c =

@@ -19,12 +19,11 @@ length_of-requires c =
     c.requires.in_bounds.1
 
 pub returns-then-length_of-eq0 : goal.returns-then-length_of-eq0
-returns-then-length_of-eq0 c =
-    (
-      pair_empty _ _ c.args.setup _ _ _ _ c.requires.prepared c.requires.loaded.1 _ _ refl refl _ refl _ _ c.requires.cached c.if-from-to.false
-          (sym c.length_of.ensures.0 ∙ c.if-length_of-eq0.true),
-      c.requires.cached,
-    )
+returns-then-length_of-eq0 c = (
+  pair_empty _ _ c.args.setup _ _ _ _ c.requires.prepared c.requires.loaded.1 _ _ refl refl _ refl _ _ c.requires.cached c.if-from-to.false
+      (sym c.length_of.ensures.0 ∙ c.if-length_of-eq0.true),
+  c.requires.cached,
+)
 
 pub list_of-giver-requires : goal.list_of-giver-requires
 list_of-giver-requires c =
@@ -41,14 +40,13 @@ load_of-load-requires c =
     (c.requires.loaded.0, search rules)
 
 pub loop-position-init : goal.loop-position-init
-loop-position-init c =
-    (
-      pairing_start _ _ c.args.setup _ _ _ _ c.requires.prepared c.requires.loaded.1 _ _ c.list_of-giver.ensures
-          c.list_of-receiver.ensures _ refl _ _ c.requires.cached,
-      refl,
-      refl,
-      refl,
-    )
+loop-position-init c = (
+  pairing_start _ _ c.args.setup _ _ _ _ c.requires.prepared c.requires.loaded.1 _ _ c.list_of-giver.ensures
+      c.list_of-receiver.ensures _ refl _ _ c.requires.cached,
+  refl,
+  refl,
+  refl,
+)
 
 pub offer_visit-best-requires-clause-prepared : goal.offer_visit-best-requires-clause-prepared
 offer_visit-best-requires-clause-prepared c =
@@ -83,13 +81,12 @@ offer_visit-best-requires-clause-figures_len c =
     let long = ap length c.list_of-giver.ensures ∙ length_list _ _ c.requires.loaded.1.laid.add_up c.args.from in
     let wide = ap length c.list_of-receiver.ensures ∙ length_list _ _ c.requires.loaded.1.laid.add_up c.args.to in
     let room = one_more _ _ _ c.requires.loaded.1 c.args.from c.args.to c.if-from-to.false
-    (omega (arith, c.loop-position-test.true, long)) in
-    (
-              c.loop-position.invariant.0.cached.figures_long,
-              c.loop-position.invariant.0.cached.places_long,
-              omega
-                  (arith, c.requires.in_bounds.2, c.requires.loaded.1.laid.few),
-            )
+    (omega (arith, c.loop-position-test.true, long)) in (
+      c.loop-position.invariant.0.cached.figures_long,
+      c.loop-position.invariant.0.cached.places_long,
+      omega
+          (arith, c.requires.in_bounds.2, c.requires.loaded.1.laid.few),
+    )
 
 pub overflow_add-position : goal.overflow_add-position
 overflow_add-position c =
@@ -101,21 +98,19 @@ loop-position-smaller c =
     omega (arith, c.loop-position-test.true)
 
 pub loop-position-preserved : goal.loop-position-preserved
-loop-position-preserved c =
-    (
-      pairing_turn _ _ c.args.setup _ _ _ _ c.requires.prepared c.requires.loaded.1 _ _ c.list_of-giver.ensures
-          c.list_of-receiver.ensures _ c.load_of-load.ensures.0 c.requires.in_bounds.2 _ _ _ _ _ _
-          c.loop-position.invariant.0 c.loop-position-test.true _ _ _ c.offer_visit-best.ensures.0
-          c.offer_visit-best.ensures.1 c.offer_visit-best.ensures.2,
-      c.offer_visit-best.auto.buffer ∙ c.loop-position.invariant.1,
-      c.offer_visit-best.auto.figures ∙ c.loop-position.invariant.2,
-      c.offer_visit-best.auto.places ∙ c.loop-position.invariant.3,
-    )
+loop-position-preserved c = (
+  pairing_turn _ _ c.args.setup _ _ _ _ c.requires.prepared c.requires.loaded.1 _ _ c.list_of-giver.ensures
+      c.list_of-receiver.ensures _ c.load_of-load.ensures.0 c.requires.in_bounds.2 _ _ _ _ _ _
+      c.loop-position.invariant.0 c.loop-position-test.true _ _ _ c.offer_visit-best.ensures.0
+      c.offer_visit-best.ensures.1 c.offer_visit-best.ensures.2,
+  c.offer_visit-best.auto.buffer ∙ c.loop-position.invariant.1,
+  c.offer_visit-best.auto.figures ∙ c.loop-position.invariant.2,
+  c.offer_visit-best.auto.places ∙ c.loop-position.invariant.3,
+)
 
 pub returns : goal.returns
-returns c =
-    (
-      pairing_end _ _ c.args.setup _ _ _ _ c.requires.prepared c.requires.loaded.1 _ _ c.list_of-giver.ensures
-          c.list_of-receiver.ensures _ _ _ _ _ c.loop-position.invariant.0 c.if-from-to.false c.loop-position-test.false,
-      c.loop-position.invariant.0.cached,
-    )
+returns c = (
+  pairing_end _ _ c.args.setup _ _ _ _ c.requires.prepared c.requires.loaded.1 _ _ c.list_of-giver.ensures
+      c.list_of-receiver.ensures _ _ _ _ _ c.loop-position.invariant.0 c.if-from-to.false c.loop-position-test.false,
+  c.loop-position.invariant.0.cached,
+)

@@ -19,13 +19,12 @@ loop-setup-init c =
     (refl, least_start _ _ c.infinite.ensures.answer, omega arith, refl)
 
 pub insertion_delta-insertion-requires : goal.insertion_delta-insertion-requires
-insertion_delta-insertion-requires c =
-    (
-      c.requires.prepared.formed.tables.of_distances,
-      record { depot_there = c.requires.prepared.depot_there; visits = c.requires.visits.0.below },
-      rw c.wide-visit.ensures c.requires.visits.2,
-      omega (arith, c.loop-setup-test.true, c.wide.ensures, c.wide-at.ensures),
-    )
+insertion_delta-insertion-requires c = (
+  c.requires.prepared.formed.tables.of_distances,
+  record { depot_there = c.requires.prepared.depot_there; visits = c.requires.visits.0.below },
+  rw c.wide-visit.ensures c.requires.visits.2,
+  omega (arith, c.loop-setup-test.true, c.wide.ensures, c.wide-at.ensures),
+)
 
 pub better_of-after-requires-clause-prepared : goal.better_of-after-requires-clause-prepared
 better_of-after-requires-clause-prepared c =
@@ -36,14 +35,13 @@ better_of-after-requires-clause-in_bounds c =
     omega (arith, c.loop-setup.invariant.3, c.requires.in_bounds)
 
 pub better_of-after-requires-clause-visits : goal.better_of-after-requires-clause-visits
-better_of-after-requires-clause-visits c =
-    (
-            c.requires.visits.0,
-            c.requires.visits.1,
-            c.requires.visits.2,
-            omega
-                (arith, c.loop-setup-test.true, c.wide.ensures, c.wide-at.ensures),
-          )
+better_of-after-requires-clause-visits c = (
+  c.requires.visits.0,
+  c.requires.visits.1,
+  c.requires.visits.2,
+  omega
+      (arith, c.loop-setup-test.true, c.wide.ensures, c.wide-at.ensures),
+)
 
 pub better_of-after-requires-clause-insertion_value : goal.better_of-after-requires-clause-insertion_value
 better_of-after-requires-clause-insertion_value c =
@@ -58,15 +56,14 @@ loop-setup-smaller c =
     omega (arith, c.loop-setup-test.true, c.wide.ensures)
 
 pub loop-setup-preserved : goal.loop-setup-preserved
-loop-setup-preserved c =
-    (
-      rw (c.better_of-after.ensures, c.wide-at.ensures)
-          (among_turn _ c.args.setup _ _ _ _ (omega (arith, c.loop-setup-test.true, c.wide.ensures)) ∙ c.loop-setup.invariant.0),
-      least_turn _ _ _ _ _ c.loop-setup.invariant.1 (c.insertion_delta-insertion.ensures ∙ rw (c.wide-visit.ensures, c.wide-at.ensures))
-          c.lesser_of-least.ensures,
-      omega (arith, c.loop-setup-test.true, c.wide.ensures),
-      c.better_of-after.auto.buffer ∙ c.loop-setup.invariant.3,
-    )
+loop-setup-preserved c = (
+  rw (c.better_of-after.ensures, c.wide-at.ensures)
+      (among_turn _ c.args.setup _ _ _ _ (omega (arith, c.loop-setup-test.true, c.wide.ensures)) ∙ c.loop-setup.invariant.0),
+  least_turn _ _ _ _ _ c.loop-setup.invariant.1 (c.insertion_delta-insertion.ensures ∙ rw (c.wide-visit.ensures, c.wide-at.ensures))
+      c.lesser_of-least.ensures,
+  omega (arith, c.loop-setup-test.true, c.wide.ensures),
+  c.better_of-after.auto.buffer ∙ c.loop-setup.invariant.3,
+)
 
 pub returns-clause-best_value : goal.returns-clause-best_value
 returns-clause-best_value c =

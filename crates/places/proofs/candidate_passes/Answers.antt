@@ -27,13 +27,12 @@ passes-requires-clause-formed c =
     c.requires.prepared.formed
 
 pub passes-requires-clause-depot_lt_l : goal.passes-requires-clause-depot_lt_l
-passes-requires-clause-depot_lt_l c =
-    (
-        c.requires.prepared.depot_there,
-        rw (front c.inserted_into-end.result c.inserted_into-end.new.buffer _ c.inserted_into-end.ensures.buffer_after)
-            (visits_inserted _ c.args.list.now c.args.visit c.args.place c.requires.visits.0 c.requires.visits.1
-            c.requires.visits.2),
-      )
+passes-requires-clause-depot_lt_l c = (
+  c.requires.prepared.depot_there,
+  rw (front c.inserted_into-end.result c.inserted_into-end.new.buffer _ c.inserted_into-end.ensures.buffer_after)
+      (visits_inserted _ c.args.list.now c.args.visit c.args.place c.requires.visits.0 c.requires.visits.1
+      c.requires.visits.2),
+)
 
 pub returns : goal.returns
 returns c =

@@ -17,14 +17,14 @@ append_one-middle-requires c =
 pub returns-clause-value : goal.returns-clause-value
 returns-clause-value c =
     omega (
-        arith,
-        c.append_stretch-head.ensures.value,
-        c.append_one-middle.ensures.ends,
-        c.append_stretch.ensures.value,
-        c.requires.0,
-      )
+      arith,
+      c.append_stretch-head.ensures.value,
+      c.append_one-middle.ensures.ends,
+      c.append_stretch.ensures.value,
+      c.requires.0,
+    )
 
 pub returns-clause-buffer_after : goal.returns-clause-buffer_after
 returns-clause-buffer_after c =
     built c.args.list.now c.args.visit c.args.place c.append_stretch-head.ensures.appended.filled
-          c.append_one-middle.ensures.filled c.append_stretch.ensures.appended.filled
+    c.append_one-middle.ensures.filled c.append_stretch.ensures.appended.filled

@@ -24,13 +24,12 @@ make_moves-requires-clause-prepared c =
     c.requires.prepared
 
 pub make_moves-requires-clause-loaded : goal.make_moves-requires-clause-loaded
-make_moves-requires-clause-loaded c =
-    (
-          c.requires.loaded.0,
-          c.requires.loaded.1,
-          omega
-              (arith, c.search_all.auto.buffer, c.requires.loaded.2),
-        )
+make_moves-requires-clause-loaded c = (
+  c.requires.loaded.0,
+  c.requires.loaded.1,
+  omega
+      (arith, c.search_all.auto.buffer, c.requires.loaded.2),
+)
 
 pub make_moves-requires-clause-cached : goal.make_moves-requires-clause-cached
 make_moves-requires-clause-cached c =

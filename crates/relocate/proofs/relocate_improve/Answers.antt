@@ -19,11 +19,11 @@ overflow_cast-setup c =
 pub descend-requires-clause-prepared : goal.descend-requires-clause-prepared
 descend-requires-clause-prepared c =
     record {
-        formed = c.requires.formed;
-        depot_there = c.requires.depot_lt_l.0;
-        floor = c.gain_floor-floor.ensures.answer ∙ ap gain_floor c.scale.ensures;
-        needed = c.route_checks_needed-needed.ensures;
-      }
+      formed = c.requires.formed;
+      depot_there = c.requires.depot_lt_l.0;
+      floor = c.gain_floor-floor.ensures.answer ∙ ap gain_floor c.scale.ensures;
+      needed = c.route_checks_needed-needed.ensures;
+    }
 
 pub descend-requires-clause-loaded : goal.descend-requires-clause-loaded
 descend-requires-clause-loaded c =

@@ -15,8 +15,7 @@ move_visit-requires c =
 
 pub forget_at-requires : goal.forget_at-requires
 forget_at-requires c =
-    let below = visit_below _ _ _ c.requires.square.2 c.args.from c.args.position c.requires.relocates.visit_there in
-    (
+    let below = visit_below _ _ _ c.requires.square.2 c.args.from c.args.position c.requires.relocates.visit_there in (
       c.requires.known.figures_long,
       omega (arith, c.visit_of-visit.ensures, below, c.requires.known.few),
       omega
@@ -25,8 +24,7 @@ forget_at-requires c =
 
 pub forget_at-requires-2 : goal.forget_at-requires-2
 forget_at-requires-2 c =
-    let below = visit_below _ _ _ c.requires.square.2 c.args.from c.args.position c.requires.relocates.visit_there in
-    (
+    let below = visit_below _ _ _ c.requires.square.2 c.args.from c.args.position c.requires.relocates.visit_there in (
       c.forget_at.auto.figures ∙ c.requires.known.figures_long,
       omega (arith, c.visit_of-visit.ensures, below, c.requires.known.few),
       omega (arith, c.requires.relocates.takes, c.requires.relocates.laid.few),
@@ -44,15 +42,14 @@ pub after_removal-requires-clause-square : goal.after_removal-requires-clause-sq
 after_removal-requires-clause-square c =
     let then = still_held _ _ _ _ _ _ c.move_visit.ensures c.requires.square.2 in
     let room = giver_room _ _ _ _ _ _ _ _ _ c.requires.square.2 c.requires.relocates c.move_visit.ensures _ _
-    c.list_of-giver.ensures c.narrow-left.ensures in
-    (
-        c.requires.square.0,
-        record {
-          depot_there = c.requires.square.1;
-          visits = rw c.list_of-giver.ensures
-              (list_visits _ _ _ then c.args.from).below;
-        },
-      )
+    c.list_of-giver.ensures c.narrow-left.ensures in (
+      c.requires.square.0,
+      record {
+        depot_there = c.requires.square.1;
+        visits = rw c.list_of-giver.ensures
+            (list_visits _ _ _ then c.args.from).below;
+      },
+    )
 
 pub after_removal-requires-clause-r_bound : goal.after_removal-requires-clause-r_bound
 after_removal-requires-clause-r_bound c =
@@ -77,15 +74,14 @@ pub after_insertion-requires-clause-square : goal.after_insertion-requires-claus
 after_insertion-requires-clause-square c =
     let then = still_held _ _ _ _ _ _ c.move_visit.ensures c.requires.square.2 in
     let room = receiver_room _ _ _ _ _ _ _ _ _ c.requires.square.2 c.requires.relocates c.move_visit.ensures _ _
-    c.list_of-receiver.ensures c.narrow-came.ensures in
-    (
-        c.requires.square.0,
-        record {
-          depot_there = c.requires.square.1;
-          visits = rw c.list_of-receiver.ensures
-              (list_visits _ _ _ then c.args.to).below;
-        },
-      )
+    c.list_of-receiver.ensures c.narrow-came.ensures in (
+      c.requires.square.0,
+      record {
+        depot_there = c.requires.square.1;
+        visits = rw c.list_of-receiver.ensures
+            (list_visits _ _ _ then c.args.to).below;
+      },
+    )
 
 pub after_insertion-requires-clause-r_bound : goal.after_insertion-requires-clause-r_bound
 after_insertion-requires-clause-r_bound c =
@@ -95,18 +91,17 @@ after_insertion-requires-clause-r_bound c =
     (omega (arith, c.requires.relocates.takes, c.requires.relocates.laid.few), room.0, room.1)
 
 pub after_insertion-requires-clause-figures_len : goal.after_insertion-requires-clause-figures_len
-after_insertion-requires-clause-figures_len c =
-    (
-            c.after_removal.auto.figures ∙ c.forget_at-2.auto.figures ∙ c.forget_at.auto.figures
-                ∙ c.requires.known.figures_long,
-            c.after_removal.auto.places ∙ c.requires.known.places_long,
-          )
+after_insertion-requires-clause-figures_len c = (
+  c.after_removal.auto.figures ∙ c.forget_at-2.auto.figures ∙ c.forget_at.auto.figures
+      ∙ c.requires.known.figures_long,
+  c.after_removal.auto.places ∙ c.requires.known.places_long,
+)
 
 pub after_insertion-requires-clause-by_index : goal.after_insertion-requires-clause-by_index
 after_insertion-requires-clause-by_index c =
     place_low _ _ _ _ _ _ _ _ _ c.requires.square.2 c.requires.relocates c.move_visit.ensures _ _ _ _ _ c.requires.known _ _ _ _
-              _ _ _ c.narrow-left.ensures c.list_of-giver.ensures c.forget_at.ensures
-              c.forget_at-2.ensures c.after_removal.ensures.0 c.after_removal.ensures.1
+    _ _ _ c.narrow-left.ensures c.list_of-giver.ensures c.forget_at.ensures
+    c.forget_at-2.ensures c.after_removal.ensures.0 c.after_removal.ensures.1
 
 pub returns-clause-edited : goal.returns-clause-edited
 returns-clause-edited c =
@@ -115,7 +110,7 @@ returns-clause-edited c =
 pub returns-clause-known_2 : goal.returns-clause-known_2
 returns-clause-known_2 c =
     known_after _ _ _ _ _ _ _ _ _ c.requires.square.2 c.requires.relocates c.move_visit.ensures _ _
-          _ _ _ c.requires.known _ _ _ _ _ _ _ c.narrow-left.ensures c.list_of-giver.ensures c.forget_at.ensures
-          c.forget_at-2.ensures c.after_removal.ensures.0 c.after_removal.ensures.1 _ _ _ _
-          c.narrow-came.ensures c.list_of-receiver.ensures c.after_insertion.ensures.0
-          c.after_insertion.ensures.1
+    _ _ _ c.requires.known _ _ _ _ _ _ _ c.narrow-left.ensures c.list_of-giver.ensures c.forget_at.ensures
+    c.forget_at-2.ensures c.after_removal.ensures.0 c.after_removal.ensures.1 _ _ _ _
+    c.narrow-came.ensures c.list_of-receiver.ensures c.after_insertion.ensures.0
+    c.after_insertion.ensures.1

@@ -34,11 +34,10 @@ search_changed-requires-clause-pairs_right c =
     moved_right _ _ c.args.setup _ _ _ _ _ _ _ _ _ c.make_move.ensures.edited c.requires.pairs_right
 
 pub search_changed-requires-clause-a_in_bounds : goal.search_changed-requires-clause-a_in_bounds
-search_changed-requires-clause-a_in_bounds c =
-    (
-              omega (arith, c.make_move.ensures.edited.number, c.requires.relocates.gives),
-              omega (arith, c.make_move.ensures.edited.number, c.requires.relocates.takes),
-            )
+search_changed-requires-clause-a_in_bounds c = (
+  omega (arith, c.make_move.ensures.edited.number, c.requires.relocates.gives),
+  omega (arith, c.make_move.ensures.edited.number, c.requires.relocates.takes),
+)
 
 pub returns-clause-edited : goal.returns-clause-edited
 returns-clause-edited c =

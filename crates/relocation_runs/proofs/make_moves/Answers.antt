@@ -21,22 +21,21 @@ use Rattle.loads.proofs.Tables.{still_held}
 use Rattle.relocation_runs.proofs.make_moves.Goals as goal
 
 pub loop-setup-init : goal.loop-setup-init
-loop-setup-init c =
-    (
-      going_starts _ _ _,
-      edited_none _ _ c.requires.loaded.1.laid,
-      c.requires.loaded.1,
-      c.requires.cached,
-      c.requires.pairs_right,
-      refl,
-      refl,
-      refl,
-      refl,
-      refl,
-      refl,
-      refl,
-      refl,
-    )
+loop-setup-init c = (
+  going_starts _ _ _,
+  edited_none _ _ c.requires.loaded.1.laid,
+  c.requires.loaded.1,
+  c.requires.cached,
+  c.requires.pairs_right,
+  refl,
+  refl,
+  refl,
+  refl,
+  refl,
+  refl,
+  refl,
+  refl,
+)
 
 pub best_pair-best-requires : goal.best_pair-best-requires
 best_pair-best-requires c =
@@ -73,8 +72,8 @@ move_and_search-requires-clause-pairs_right c =
 pub move_and_search-requires-clause-relocates : goal.move_and_search-requires-clause-relocates
 move_and_search-requires-clause-relocates c =
     relocates _ _ c.loop-setup.invariant.2.laid _ _ _ _ (choice-there _ _ c.args.setup _ _
-                (table-choice _ _ c.args.setup _ c.requires.prepared _ _ (sym (length-lists _ _)) c.loop-setup.invariant.4 _
-                c.best_pair-best.ensures) (is_some _ c.if-best-eq0.false))
+    (table-choice _ _ c.args.setup _ c.requires.prepared _ _ (sym (length-lists _ _)) c.loop-setup.invariant.4 _
+    c.best_pair-best.ensures) (is_some _ c.if-best-eq0.false))
 
 pub overflow_add-moves : goal.overflow_add-moves
 overflow_add-moves c =
@@ -85,21 +84,20 @@ loop-setup-smaller c =
     omega (arith, c.if-limit-moves.false)
 
 pub loop-setup-preserved : goal.loop-setup-preserved
-loop-setup-preserved c =
-    (
-      goes_on _ _ c.args.setup _ _ _ _ c.loop-setup.invariant.0 _
-          (table-choice _ _ c.args.setup _ c.requires.prepared _ _ (sym (length-lists _ _)) c.loop-setup.invariant.4 _
-          c.best_pair-best.ensures) (is_some _ c.if-best-eq0.false) c.if-limit-moves.false _ c.move_and_search.ensures.edited.holds,
-      edited_again _ _ _ _ _ _ _ c.loop-setup.invariant.1 c.move_and_search.ensures.edited,
-      still_held _ _ _ _ _ _ c.move_and_search.ensures.edited c.loop-setup.invariant.2,
-      c.move_and_search.ensures.fact.1,
-      c.move_and_search.ensures.fact.0,
-      c.move_and_search.auto.visits ∙ c.loop-setup.invariant.5,
-      c.move_and_search.auto.lengths ∙ c.loop-setup.invariant.6,
-      c.move_and_search.auto.buffer ∙ c.loop-setup.invariant.7,
-      c.move_and_search.auto.figures ∙ c.loop-setup.invariant.8,
-      c.move_and_search.auto.places ∙ c.loop-setup.invariant.9,
-      c.move_and_search.auto.deltas ∙ c.loop-setup.invariant.10,
-      c.move_and_search.auto.positions ∙ c.loop-setup.invariant.11,
-      c.move_and_search.auto.to_places ∙ c.loop-setup.invariant.12,
-    )
+loop-setup-preserved c = (
+  goes_on _ _ c.args.setup _ _ _ _ c.loop-setup.invariant.0 _
+      (table-choice _ _ c.args.setup _ c.requires.prepared _ _ (sym (length-lists _ _)) c.loop-setup.invariant.4 _
+      c.best_pair-best.ensures) (is_some _ c.if-best-eq0.false) c.if-limit-moves.false _ c.move_and_search.ensures.edited.holds,
+  edited_again _ _ _ _ _ _ _ c.loop-setup.invariant.1 c.move_and_search.ensures.edited,
+  still_held _ _ _ _ _ _ c.move_and_search.ensures.edited c.loop-setup.invariant.2,
+  c.move_and_search.ensures.fact.1,
+  c.move_and_search.ensures.fact.0,
+  c.move_and_search.auto.visits ∙ c.loop-setup.invariant.5,
+  c.move_and_search.auto.lengths ∙ c.loop-setup.invariant.6,
+  c.move_and_search.auto.buffer ∙ c.loop-setup.invariant.7,
+  c.move_and_search.auto.figures ∙ c.loop-setup.invariant.8,
+  c.move_and_search.auto.places ∙ c.loop-setup.invariant.9,
+  c.move_and_search.auto.deltas ∙ c.loop-setup.invariant.10,
+  c.move_and_search.auto.positions ∙ c.loop-setup.invariant.11,
+  c.move_and_search.auto.to_places ∙ c.loop-setup.invariant.12,
+)

@@ -12,18 +12,17 @@ use Rattle.relocations.proofs.Searching.{rows_start, rows_end}
 use Rattle.relocations.proofs.search_all.Goals as goal
 
 pub loop-from-init : goal.loop-from-init
-loop-from-init c =
-    (
-      rows_start _ _ c.args.setup _ _ c.requires.loaded.1 _ c.requires.sized,
-      c.requires.cached,
-      omega arith,
-      refl,
-      refl,
-      refl,
-      refl,
-      refl,
-      refl,
-    )
+loop-from-init c = (
+  rows_start _ _ c.args.setup _ _ c.requires.loaded.1 _ c.requires.sized,
+  c.requires.cached,
+  omega arith,
+  refl,
+  refl,
+  refl,
+  refl,
+  refl,
+  refl,
+)
 
 pub search_row-requires-clause-prepared : goal.search_row-requires-clause-prepared
 search_row-requires-clause-prepared c =
@@ -54,18 +53,17 @@ loop-from-smaller c =
     omega (arith, c.loop-from-test.true)
 
 pub loop-from-preserved : goal.loop-from-preserved
-loop-from-preserved c =
-    (
-      c.search_row.ensures.0,
-      c.search_row.ensures.1,
-      omega (arith, c.loop-from-test.true),
-      c.search_row.auto.buffer ∙ c.loop-from.invariant.3,
-      c.search_row.auto.figures ∙ c.loop-from.invariant.4,
-      c.search_row.auto.places ∙ c.loop-from.invariant.5,
-      c.search_row.auto.deltas ∙ c.loop-from.invariant.6,
-      c.search_row.auto.positions ∙ c.loop-from.invariant.7,
-      c.search_row.auto.to_places ∙ c.loop-from.invariant.8,
-    )
+loop-from-preserved c = (
+  c.search_row.ensures.0,
+  c.search_row.ensures.1,
+  omega (arith, c.loop-from-test.true),
+  c.search_row.auto.buffer ∙ c.loop-from.invariant.3,
+  c.search_row.auto.figures ∙ c.loop-from.invariant.4,
+  c.search_row.auto.places ∙ c.loop-from.invariant.5,
+  c.search_row.auto.deltas ∙ c.loop-from.invariant.6,
+  c.search_row.auto.positions ∙ c.loop-from.invariant.7,
+  c.search_row.auto.to_places ∙ c.loop-from.invariant.8,
+)
 
 pub returns : goal.returns
 returns c =

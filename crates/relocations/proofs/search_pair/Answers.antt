@@ -27,8 +27,7 @@ put_pair-requires-clause-from_bound c =
     (omega (arith, c.requires.sized.1, c.requires.loaded.1.laid.few), omega (arith, c.requires.sized.2, c.requires.loaded.1.laid.few))
 
 pub returns : goal.returns
-returns c =
-    (
-      record { choice = _; is_best = c.best_between-best.ensures.0; is_put = c.put_pair.ensures },
-      c.best_between-best.ensures.1,
-    )
+returns c = (
+  record { choice = _; is_best = c.best_between-best.ensures.0; is_put = c.put_pair.ensures },
+  c.best_between-best.ensures.1,
+)

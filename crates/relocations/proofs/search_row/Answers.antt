@@ -40,24 +40,22 @@ loop-to-smaller c =
     omega (arith, c.loop-to-test.true)
 
 pub loop-to-preserved : goal.loop-to-preserved
-loop-to-preserved c =
-    (
-      row_turn _ _ c.args.setup _ _ c.requires.loaded.1 _ _ _ _ c.requires.from_in_bounds c.loop-to-test.true
-          c.loop-to.invariant.0 c.search_pair.ensures.0,
-      c.search_pair.ensures.1,
-      omega (arith, c.loop-to-test.true),
-      c.search_pair.auto.buffer ∙ c.loop-to.invariant.3,
-      c.search_pair.auto.figures ∙ c.loop-to.invariant.4,
-      c.search_pair.auto.places ∙ c.loop-to.invariant.5,
-      c.search_pair.auto.deltas ∙ c.loop-to.invariant.6,
-      c.search_pair.auto.positions ∙ c.loop-to.invariant.7,
-      c.search_pair.auto.to_places ∙ c.loop-to.invariant.8,
-    )
+loop-to-preserved c = (
+  row_turn _ _ c.args.setup _ _ c.requires.loaded.1 _ _ _ _ c.requires.from_in_bounds c.loop-to-test.true
+      c.loop-to.invariant.0 c.search_pair.ensures.0,
+  c.search_pair.ensures.1,
+  omega (arith, c.loop-to-test.true),
+  c.search_pair.auto.buffer ∙ c.loop-to.invariant.3,
+  c.search_pair.auto.figures ∙ c.loop-to.invariant.4,
+  c.search_pair.auto.places ∙ c.loop-to.invariant.5,
+  c.search_pair.auto.deltas ∙ c.loop-to.invariant.6,
+  c.search_pair.auto.positions ∙ c.loop-to.invariant.7,
+  c.search_pair.auto.to_places ∙ c.loop-to.invariant.8,
+)
 
 pub returns : goal.returns
-returns c =
-    (
-      row_end _ _ c.args.setup _ _ c.requires.loaded.1 _ _ _ (omega (arith, c.loop-to-test.false, c.loop-to.invariant.2))
-          c.loop-to.invariant.0,
-      c.loop-to.invariant.1,
-    )
+returns c = (
+  row_end _ _ c.args.setup _ _ c.requires.loaded.1 _ _ _ (omega (arith, c.loop-to-test.false, c.loop-to.invariant.2))
+      c.loop-to.invariant.0,
+  c.loop-to.invariant.1,
+)

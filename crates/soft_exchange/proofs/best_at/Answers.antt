@@ -14,13 +14,12 @@ list_of-other-requires c =
     (c.requires.held.0.laid, c.requires.held.2)
 
 pub figures_at-figures-requires : goal.figures_at-figures-requires
-figures_at-figures-requires c =
-    (
-      c.requires.kept_figures.costs_long,
-      c.requires.kept_figures.loads_long,
-      omega (arith, c.requires.held.1, c.requires.held.2, c.requires.held.0.laid.few),
-      omega (arith, c.requires.held.2, c.requires.held.0.laid.few),
-    )
+figures_at-figures-requires c = (
+  c.requires.kept_figures.costs_long,
+  c.requires.kept_figures.loads_long,
+  omega (arith, c.requires.held.1, c.requires.held.2, c.requires.held.0.laid.few),
+  omega (arith, c.requires.held.2, c.requires.held.0.laid.few),
+)
 
 pub best_exchange_of-requires-clause-asked : goal.best_exchange_of-requires-clause-asked
 best_exchange_of-requires-clause-asked c =
@@ -33,7 +32,7 @@ best_exchange_of-requires-clause-two c =
 pub best_exchange_of-requires-clause-figured : goal.best_exchange_of-requires-clause-figured
 best_exchange_of-requires-clause-figured c =
     kept_figured _ _ c.args.terms _ _ _ _ _ _ _ _ _ _ c.list_of-one.ensures c.list_of-other.ensures c.requires.kept_figures
-            (omega (arith, c.requires.held.1, c.requires.held.2)) c.requires.held.2 c.figures_at-figures.ensures
+    (omega (arith, c.requires.held.1, c.requires.held.2)) c.requires.held.2 c.figures_at-figures.ensures
 
 pub returns : goal.returns
 returns c =

@@ -43,15 +43,14 @@ overflow_add-ahead c =
     omega (arith, c.requires.held.laid.few)
 
 pub loop-terms-init : goal.loop-terms-init
-loop-terms-init c =
-    (
-      rw (nothing_ahead _) (going_starts _ _ _),
-      edited_none _ _ c.requires.held.laid,
-      c.requires.held,
-      none_ahead _,
-      refl,
-      c.figure_lists.ensures,
-    )
+loop-terms-init c = (
+  rw (nothing_ahead _) (going_starts _ _ _),
+  edited_none _ _ c.requires.held.laid,
+  c.requires.held,
+  none_ahead _,
+  refl,
+  c.figure_lists.ensures,
+)
 
 pub next_move-found-requires-clause-asked : goal.next_move-found-requires-clause-asked
 next_move-found-requires-clause-asked c =
@@ -87,12 +86,11 @@ figure_two-requires-clause-asked c =
 
 pub figure_two-requires-clause-held : goal.figure_two-requires-clause-held
 figure_two-requires-clause-held c =
-    let cuts = c.next_move-found.ensures.1 c.if-found-eq0.false in
-    (
-          still_held _ _ _ _ _ _ c.exchange_tails.ensures c.loop-terms.invariant.2,
-          omega (arith, cuts.before, cuts.there, c.exchange_tails.ensures.number),
-          omega (arith, cuts.there, c.exchange_tails.ensures.number),
-        )
+    let cuts = c.next_move-found.ensures.1 c.if-found-eq0.false in (
+      still_held _ _ _ _ _ _ c.exchange_tails.ensures c.loop-terms.invariant.2,
+      omega (arith, cuts.before, cuts.there, c.exchange_tails.ensures.number),
+      omega (arith, cuts.there, c.exchange_tails.ensures.number),
+    )
 
 pub figure_two-requires-clause-costs_len : goal.figure_two-requires-clause-costs_len
 figure_two-requires-clause-costs_len c =
@@ -113,8 +111,7 @@ loop-terms-smaller c =
 
 pub loop-terms-preserved : goal.loop-terms-preserved
 loop-terms-preserved c =
-    let cuts = c.next_move-found.ensures.1 c.if-found-eq0.false in
-    (
+    let cuts = c.next_move-found.ensures.1 c.if-found-eq0.false in (
       rw (c.place_after-ahead.ensures, c.loop-terms.invariant.4)
           (moved_on _ _ _ _ _ _ _ _ _ _ _ c.loop-terms.invariant.0 c.if-limit-moves.false c.next_move-found.ensures.0 c.if-found-eq0.false c.exchange_tails.ensures),
       subst (Edited _ _ _ _) (sym c.exchange_tails.ensures.holds) (edited_on _ _ _ _ _ _ _ _ c.loop-terms.invariant.1 c.exchange_tails.ensures),

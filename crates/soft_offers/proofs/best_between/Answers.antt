@@ -44,10 +44,10 @@ best_priced-requires-clause-two_of c =
     let long = ap length c.list_of-receiver.ensures ∙ length_list _ _ c.requires.loaded.1.laid.add_up c.args.to in
     let some-room = one_more _ _ _ c.requires.loaded.1 _ _ c.if-from-to.false (omega (arith, c.if-length_of-eq0.false, c.length_of.ensures.0)) in
     record {
-          gives = rw c.list_of-giver.ensures (list_visits _ _ _ c.requires.loaded.1 c.args.from);
-          takes = rw c.list_of-receiver.ensures (list_visits _ _ _ c.requires.loaded.1 c.args.to);
-          room_there = omega (arith, long, some-room);
-        }
+      gives = rw c.list_of-giver.ensures (list_visits _ _ _ c.requires.loaded.1 c.args.from);
+      takes = rw c.list_of-receiver.ensures (list_visits _ _ _ c.requires.loaded.1 c.args.to);
+      room_there = omega (arith, long, some-room);
+    }
 
 pub returns : goal.returns
 returns c =

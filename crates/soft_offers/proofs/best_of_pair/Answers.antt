@@ -58,16 +58,15 @@ loop-position-smaller c =
     omega (arith, c.loop-position-test.true)
 
 pub loop-position-preserved : goal.loop-position-preserved
-loop-position-preserved c =
-    (
-      rw c.offer_visit-best.ensures
-          (offers_turn _ _ c.args.setup c.args.giver.now c.args.receiver.now c.args.pair c.loop-position.best
-          c.loop-position.position c.loop-position-test.true)
-          ∙ c.loop-position.invariant.0,
-      omega (arith, c.loop-position-test.true),
-      c.offer_visit-best.auto.buffer ∙ c.loop-position.invariant.2,
-      c.reach-head.ensures.driven_2,
-    )
+loop-position-preserved c = (
+  rw c.offer_visit-best.ensures
+      (offers_turn _ _ c.args.setup c.args.giver.now c.args.receiver.now c.args.pair c.loop-position.best
+      c.loop-position.position c.loop-position-test.true)
+      ∙ c.loop-position.invariant.0,
+  omega (arith, c.loop-position-test.true),
+  c.offer_visit-best.auto.buffer ∙ c.loop-position.invariant.2,
+  c.reach-head.ensures.driven_2,
+)
 
 pub returns : goal.returns
 returns c =

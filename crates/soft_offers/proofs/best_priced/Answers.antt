@@ -47,17 +47,16 @@ best_of_pair-requires-clause-two_of c =
 
 pub best_of_pair-requires-clause-known : goal.best_of_pair-requires-clause-known
 best_of_pair-requires-clause-known c =
-    let told = and_parts _ _ (sym c.both.ensures ∙ c.if-not-both.false) in
-    (
-            record {
-              price_from = c.price_of-old_from.ensures;
-              price_to = c.price_of-old_to.ensures;
-              finite_from = sym c.is_finite.ensures.answer ∙ told.0;
-              finite_to = sym c.is_finite-2.ensures.answer ∙ told.1;
-              load = c.load_of-load.ensures.0;
-            },
-            c.load_of-load.ensures.1,
-          )
+    let told = and_parts _ _ (sym c.both.ensures ∙ c.if-not-both.false) in (
+      record {
+        price_from = c.price_of-old_from.ensures;
+        price_to = c.price_of-old_to.ensures;
+        finite_from = sym c.is_finite.ensures.answer ∙ told.0;
+        finite_to = sym c.is_finite-2.ensures.answer ∙ told.1;
+        load = c.load_of-load.ensures.0;
+      },
+      c.load_of-load.ensures.1,
+    )
 
 pub returns : goal.returns
 returns c =

@@ -64,13 +64,12 @@ price_from-new-requires-clause-formed c =
 
 pub price_from-new-requires-clause-depot_lt_l : goal.price_from-new-requires-clause-depot_lt_l
 price_from-new-requires-clause-depot_lt_l c =
-    let all = visits_inserted _ c.args.list.now c.args.offer.visit c.loop-place.place c.requires.visits.0 c.requires.visits.1 c.requires.visits.2 in
-    (
-        c.requires.prepared.depot_there,
-        c.reach-head.ensures.driven_2.placed,
-        part_visits _ c.reach-head.result.visits c.inserted_first-end.result c.loop-place.buffer _
-            (omega (arith, c.reach-head.ensures.visits_le_to, c.loop-place.invariant.2, c.inserted_first-end.ensures.value)) c.loop-place.invariant.1 all,
-      )
+    let all = visits_inserted _ c.args.list.now c.args.offer.visit c.loop-place.place c.requires.visits.0 c.requires.visits.1 c.requires.visits.2 in (
+      c.requires.prepared.depot_there,
+      c.reach-head.ensures.driven_2.placed,
+      part_visits _ c.reach-head.result.visits c.inserted_first-end.result c.loop-place.buffer _
+          (omega (arith, c.reach-head.ensures.visits_le_to, c.loop-place.invariant.2, c.inserted_first-end.ensures.value)) c.loop-place.invariant.1 all,
+    )
 
 pub returns-then-place-list : goal.returns-then-place-list
 returns-then-place-list c =
@@ -81,19 +80,18 @@ returns-then-place-list c =
     sym (among_end _ c.args.list.now c.args.offer _ (c.loop-place.place + 1) (omega (arith, c.if-place-list.true))) ∙ turn ∙ c.loop-place.invariant.0
 
 pub step_on-requires : goal.step_on-requires
-step_on-requires c =
-    (
-      omega (
-        arith,
-        c.if-place-list.false,
-        c.loop-place.invariant.2,
-        c.loop-place.invariant.3,
-        c.inserted_first-end.auto.buffer,
-        c.requires.in_bounds,
-        c.requires.visits.1,
-      ),
-      omega (arith, c.loop-place.invariant.2, c.requires.visits.1),
-    )
+step_on-requires c = (
+  omega (
+    arith,
+    c.if-place-list.false,
+    c.loop-place.invariant.2,
+    c.loop-place.invariant.3,
+    c.inserted_first-end.auto.buffer,
+    c.requires.in_bounds,
+    c.requires.visits.1,
+  ),
+  omega (arith, c.loop-place.invariant.2, c.requires.visits.1),
+)
 
 pub overflow_add-place : goal.overflow_add-place
 overflow_add-place c =
@@ -111,8 +109,7 @@ loop-place-preserved c =
     let turn = among_turn _ c.args.list.now c.args.offer c.loop-place.after c.loop-place.place _ _ c.loop-place.invariant.2 new c.better_of-after.ensures in
     let on = stepped c.args.list.now c.args.offer.visit c.loop-place.place c.inserted_first-end.result c.loop-place.buffer
     (omega (arith, c.if-place-list.false, c.loop-place.invariant.2))
-    (omega (arith, c.inserted_first-end.ensures.value)) c.loop-place.invariant.1 in
-    (
+    (omega (arith, c.inserted_first-end.ensures.value)) c.loop-place.invariant.1 in (
       turn ∙ c.loop-place.invariant.0,
       ap (take c.inserted_first-end.result) c.step_on.ensures ∙ on,
       omega (arith, c.if-place-list.false, c.loop-place.invariant.2),

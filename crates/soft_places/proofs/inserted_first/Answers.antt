@@ -13,4 +13,4 @@ returns-clause-value c =
 pub returns-clause-buffer_after : goal.returns-clause-buffer_after
 returns-clause-buffer_after c =
     c.append.ensures.filled
-          ∙ ap (λ (head : List ℕ). head ++ c.args.list.now) c.append_one-head.ensures.filled
+    ∙ ap (λ (head : List ℕ). head ++ c.args.list.now) c.append_one-head.ensures.filled

@@ -27,7 +27,7 @@ price_of-requires-clause-prepared c =
 pub price_of-requires-clause-visits : goal.price_of-requires-clause-visits
 price_of-requires-clause-visits c =
     rw (front c.removed_into-end.result c.removed_into-end.new.buffer _ c.removed_into-end.ensures.buffer_after)
-          (visits_without _ c.args.list.now c.args.position c.requires.in_bounds.1 c.requires.in_bounds.2)
+    (visits_without _ c.args.list.now c.args.position c.requires.in_bounds.1 c.requires.in_bounds.2)
 
 pub returns : goal.returns
 returns c =

@@ -11,4 +11,4 @@ returns-clause-value c =
 pub returns-clause-buffer_after : goal.returns-clause-buffer_after
 returns-clause-buffer_after c =
     removed c.args.list.now c.args.position c.append_stretch-head.ensures.appended.filled
-          c.append_stretch.ensures.appended.filled
+    c.append_stretch.ensures.appended.filled

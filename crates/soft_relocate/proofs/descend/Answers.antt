@@ -34,19 +34,18 @@ search_all-requires-clause-sized c =
     c.requires.in_bounds.1
 
 pub loop-setup-init : goal.loop-setup-init
-loop-setup-init c =
-    (
-      going_starts _ _ _,
-      edited_none _ _ c.requires.loaded.1.laid,
-      c.requires.loaded.1,
-      c.search_all.ensures,
-      refl,
-      refl,
-      refl,
-      refl,
-      refl,
-      refl,
-    )
+loop-setup-init c = (
+  going_starts _ _ _,
+  edited_none _ _ c.requires.loaded.1.laid,
+  c.requires.loaded.1,
+  c.search_all.ensures,
+  refl,
+  refl,
+  refl,
+  refl,
+  refl,
+  refl,
+)
 
 pub best_pair-best-requires : goal.best_pair-best-requires
 best_pair-best-requires c =
@@ -102,18 +101,17 @@ loop-setup-smaller c =
     omega (arith, c.if-limit-moves.false)
 
 pub loop-setup-preserved : goal.loop-setup-preserved
-loop-setup-preserved c =
-    (
-      goes_on _ _ c.args.setup _ _ _ _ c.loop-setup.invariant.0 _
-          (least-taken _ _ c.args.setup _ _ _ _ c.loop-setup.invariant.3 c.best_pair-best.ensures) (is_some _ c.if-best-eq0.false)
-          c.if-limit-moves.false _ c.move_visit.ensures.holds,
-      edited_again _ _ _ _ _ _ _ c.loop-setup.invariant.1 c.move_visit.ensures,
-      still_held _ _ _ _ _ _ c.move_visit.ensures c.loop-setup.invariant.2,
-      c.search_again.ensures,
-      c.move_visit.auto.visits ∙ c.loop-setup.invariant.4,
-      c.move_visit.auto.lengths ∙ c.loop-setup.invariant.5,
-      c.search_again.auto.buffer ∙ c.loop-setup.invariant.6,
-      c.search_again.auto.deltas ∙ c.loop-setup.invariant.7,
-      c.search_again.auto.positions ∙ c.loop-setup.invariant.8,
-      c.search_again.auto.places ∙ c.loop-setup.invariant.9,
-    )
+loop-setup-preserved c = (
+  goes_on _ _ c.args.setup _ _ _ _ c.loop-setup.invariant.0 _
+      (least-taken _ _ c.args.setup _ _ _ _ c.loop-setup.invariant.3 c.best_pair-best.ensures) (is_some _ c.if-best-eq0.false)
+      c.if-limit-moves.false _ c.move_visit.ensures.holds,
+  edited_again _ _ _ _ _ _ _ c.loop-setup.invariant.1 c.move_visit.ensures,
+  still_held _ _ _ _ _ _ c.move_visit.ensures c.loop-setup.invariant.2,
+  c.search_again.ensures,
+  c.move_visit.auto.visits ∙ c.loop-setup.invariant.4,
+  c.move_visit.auto.lengths ∙ c.loop-setup.invariant.5,
+  c.search_again.auto.buffer ∙ c.loop-setup.invariant.6,
+  c.search_again.auto.deltas ∙ c.loop-setup.invariant.7,
+  c.search_again.auto.positions ∙ c.loop-setup.invariant.8,
+  c.search_again.auto.places ∙ c.loop-setup.invariant.9,
+)

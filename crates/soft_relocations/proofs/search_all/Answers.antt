@@ -38,14 +38,13 @@ loop-from-smaller c =
     omega (arith, c.loop-from-test.true)
 
 pub loop-from-preserved : goal.loop-from-preserved
-loop-from-preserved c =
-    (
-      c.search_row.ensures,
-      c.search_row.auto.buffer ∙ c.loop-from.invariant.1,
-      c.search_row.auto.deltas ∙ c.loop-from.invariant.2,
-      c.search_row.auto.positions ∙ c.loop-from.invariant.3,
-      c.search_row.auto.places ∙ c.loop-from.invariant.4,
-    )
+loop-from-preserved c = (
+  c.search_row.ensures,
+  c.search_row.auto.buffer ∙ c.loop-from.invariant.1,
+  c.search_row.auto.deltas ∙ c.loop-from.invariant.2,
+  c.search_row.auto.positions ∙ c.loop-from.invariant.3,
+  c.search_row.auto.places ∙ c.loop-from.invariant.4,
+)
 
 pub returns : goal.returns
 returns c =

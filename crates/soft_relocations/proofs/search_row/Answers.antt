@@ -39,15 +39,14 @@ loop-to-smaller c =
     omega (arith, c.loop-to-test.true)
 
 pub loop-to-preserved : goal.loop-to-preserved
-loop-to-preserved c =
-    (
-      right_turn _ _ _ _ (short-lists _ _ c.requires.loaded.1.laid) _ _ _ _ _ c.requires.loaded.1.laid.few c.requires.right_of.1
-          c.loop-to-test.true c.loop-to.invariant.0 c.search_pair.ensures,
-      c.search_pair.auto.buffer ∙ c.loop-to.invariant.1,
-      c.search_pair.auto.deltas ∙ c.loop-to.invariant.2,
-      c.search_pair.auto.positions ∙ c.loop-to.invariant.3,
-      c.search_pair.auto.places ∙ c.loop-to.invariant.4,
-    )
+loop-to-preserved c = (
+  right_turn _ _ _ _ (short-lists _ _ c.requires.loaded.1.laid) _ _ _ _ _ c.requires.loaded.1.laid.few c.requires.right_of.1
+      c.loop-to-test.true c.loop-to.invariant.0 c.search_pair.ensures,
+  c.search_pair.auto.buffer ∙ c.loop-to.invariant.1,
+  c.search_pair.auto.deltas ∙ c.loop-to.invariant.2,
+  c.search_pair.auto.positions ∙ c.loop-to.invariant.3,
+  c.search_pair.auto.places ∙ c.loop-to.invariant.4,
+)
 
 pub returns : goal.returns
 returns c =

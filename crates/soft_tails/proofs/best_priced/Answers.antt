@@ -86,13 +86,12 @@ loop-last-smaller c =
     omega (arith, c.loop-last-test.true)
 
 pub loop-last-preserved : goal.loop-last-preserved
-loop-last-preserved c =
-    (
-      omega (arith, c.loop-last-test.true),
-      load_more _ _ _ _ _ c.loop-last-test.true c.loop-last.invariant.1 c.boxes_at-head1.ensures,
-      cut_turn _ _ _ _ _ (omega (arith, c.loop-last-test.true)) c.best_row-best.ensures ∙ c.loop-last.invariant.2,
-      c.reach-driven1.ensures.driven_2,
-    )
+loop-last-preserved c = (
+  omega (arith, c.loop-last-test.true),
+  load_more _ _ _ _ _ c.loop-last-test.true c.loop-last.invariant.1 c.boxes_at-head1.ensures,
+  cut_turn _ _ _ _ _ (omega (arith, c.loop-last-test.true)) c.best_row-best.ensures ∙ c.loop-last.invariant.2,
+  c.reach-driven1.ensures.driven_2,
+)
 
 pub returns : goal.returns
 returns c =

@@ -33,7 +33,7 @@ overflow_add-head2 c =
     let two = c.requires.two.0 in
     -- the second head is part of the list
     let small = sum_small _ _ _ c.requires.asked.loaded two.other_below (omega (arith, two.few)) _ _ _ c.loop-last-test.true c.loop-last.invariant.1
-      c.boxes_at-head2.ensures in
+    c.boxes_at-head2.ensures in
     omega (arith, small.0, small.1)
 
 pub overflow_add-cut2 : goal.overflow_add-cut2
@@ -57,7 +57,7 @@ overflow_sub-new1 c =
     let two = c.requires.two.0 in
     -- the second head is part of the list
     let small = sum_small _ _ _ c.requires.asked.loaded two.other_below (omega (arith, two.few)) _ _ _ c.loop-last-test.true c.loop-last.invariant.1
-      c.boxes_at-head2.ensures in
+    c.boxes_at-head2.ensures in
     omega (arith, small.0, c.requires.figured.second_load)
 
 pub overflow_add-new1 : goal.overflow_add-new1
@@ -65,7 +65,7 @@ overflow_add-new1 c =
     let two = c.requires.two.0 in
     -- the second head is part of the list
     let small = sum_small _ _ _ c.requires.asked.loaded two.other_below (omega (arith, two.few)) _ _ _ c.loop-last-test.true c.loop-last.invariant.1
-      c.boxes_at-head2.ensures in
+    c.boxes_at-head2.ensures in
     -- the first head is part of its list
     let head = head_small (boxes_of c.args.demand.now) c.args.cut1 c.args.one.now c.args.head1 c.requires.head1_value in
     let most = load_small c.args.terms.l c.args.demand.now c.args.one.now c.requires.asked.loaded c.requires.two.0.one_below (omega (arith, c.requires.two.0.few)) in
@@ -82,7 +82,7 @@ overflow_add-new2 c =
     let two = c.requires.two.0 in
     -- the second head is part of the list
     let small = sum_small _ _ _ c.requires.asked.loaded two.other_below (omega (arith, two.few)) _ _ _ c.loop-last-test.true c.loop-last.invariant.1
-      c.boxes_at-head2.ensures in
+    c.boxes_at-head2.ensures in
     let most = load_small c.args.terms.l c.args.demand.now c.args.one.now c.requires.asked.loaded c.requires.two.0.one_below (omega (arith, c.requires.two.0.few)) in
     omega (arith, small.0, small.1, most, c.requires.figured.first_load)
 
@@ -109,11 +109,10 @@ pub consider-found-requires-clause-load1_value : goal.consider-found-requires-cl
 consider-found-requires-clause-load1_value c =
     let boxes = boxes_of c.args.demand.now in
     let cut2 = c.loop-last.last + 1 in
-    let head2 = load_more _ _ _ _ _ c.loop-last-test.true c.loop-last.invariant.1 c.boxes_at-head2.ensures in
-    (
-                load_joined boxes c.args.one.now c.args.other.now c.args.cut1 cut2 _ _ _ c.requires.head1_value head2 c.requires.figured.second_load,
-                load_joined boxes c.args.other.now c.args.one.now cut2 c.args.cut1 _ _ _ head2 c.requires.head1_value c.requires.figured.first_load,
-              )
+    let head2 = load_more _ _ _ _ _ c.loop-last-test.true c.loop-last.invariant.1 c.boxes_at-head2.ensures in (
+      load_joined boxes c.args.one.now c.args.other.now c.args.cut1 cut2 _ _ _ c.requires.head1_value head2 c.requires.figured.second_load,
+      load_joined boxes c.args.other.now c.args.one.now cut2 c.args.cut1 _ _ _ head2 c.requires.head1_value c.requires.figured.first_load,
+    )
 
 pub consider-found-requires-clause-driven_by : goal.consider-found-requires-clause-driven_by
 consider-found-requires-clause-driven_by c =
@@ -128,13 +127,12 @@ loop-last-smaller c =
     omega (arith, c.loop-last-test.true)
 
 pub loop-last-preserved : goal.loop-last-preserved
-loop-last-preserved c =
-    (
-      omega (arith, c.loop-last-test.true),
-      load_more _ _ _ _ _ c.loop-last-test.true c.loop-last.invariant.1 c.boxes_at-head2.ensures,
-      cut_turn _ _ _ _ _ (omega (arith, c.loop-last-test.true)) c.consider-found.ensures ∙ c.loop-last.invariant.2,
-      c.reach-driven2.ensures.driven_2,
-    )
+loop-last-preserved c = (
+  omega (arith, c.loop-last-test.true),
+  load_more _ _ _ _ _ c.loop-last-test.true c.loop-last.invariant.1 c.boxes_at-head2.ensures,
+  cut_turn _ _ _ _ _ (omega (arith, c.loop-last-test.true)) c.consider-found.ensures ∙ c.loop-last.invariant.2,
+  c.reach-driven2.ensures.driven_2,
+)
 
 pub returns : goal.returns
 returns c =

@@ -14,12 +14,11 @@ returns-then-load2-terms c =
     stays_second_load _ _ c.args.terms c.requires.asked _ _ _ _ _ _ c.requires.load1_value.1 c.if-load2-terms.true
 
 pub exchange_delta-delta-requires-clause-square : goal.exchange_delta-delta-requires-clause-square
-exchange_delta-delta-requires-clause-square c =
-    (
-        c.requires.asked.formed.tables.of_distances,
-        record { depot_there = c.requires.asked.depot_there; visits = c.requires.two.0.one_below },
-        record { depot_there = c.requires.asked.depot_there; visits = c.requires.two.0.other_below },
-      )
+exchange_delta-delta-requires-clause-square c = (
+  c.requires.asked.formed.tables.of_distances,
+  record { depot_there = c.requires.asked.depot_there; visits = c.requires.two.0.one_below },
+  record { depot_there = c.requires.asked.depot_there; visits = c.requires.two.0.other_below },
+)
 
 pub exchange_delta-delta-requires-clause-cut1_in_bounds : goal.exchange_delta-delta-requires-clause-cut1_in_bounds
 exchange_delta-delta-requires-clause-cut1_in_bounds c =

@@ -49,12 +49,11 @@ best_row-best-requires-clause-two c =
     (c.requires.two, omega (arith, c.loop-last-test.true))
 
 pub best_row-best-requires-clause-head1_value : goal.best_row-best-requires-clause-head1_value
-best_row-best-requires-clause-head1_value c =
-    (
-          load_more _ _ _ _ _ c.loop-last-test.true c.loop-last.invariant.1 c.boxes_at-head1.ensures,
-          c.load_of-load1.ensures.0,
-          c.load_of-load2.ensures.0,
-        )
+best_row-best-requires-clause-head1_value c = (
+  load_more _ _ _ _ _ c.loop-last-test.true c.loop-last.invariant.1 c.boxes_at-head1.ensures,
+  c.load_of-load1.ensures.0,
+  c.load_of-load2.ensures.0,
+)
 
 pub overflow_add-last-in-loop-last : goal.overflow_add-last-in-loop-last
 overflow_add-last-in-loop-last c =
@@ -65,12 +64,11 @@ loop-last-smaller c =
     omega (arith, c.loop-last-test.true)
 
 pub loop-last-preserved : goal.loop-last-preserved
-loop-last-preserved c =
-    (
-      omega (arith, c.loop-last-test.true),
-      load_more _ _ _ _ _ c.loop-last-test.true c.loop-last.invariant.1 c.boxes_at-head1.ensures,
-      cut_turn _ _ _ _ _ (omega (arith, c.loop-last-test.true)) c.best_row-best.ensures ∙ c.loop-last.invariant.2,
-    )
+loop-last-preserved c = (
+  omega (arith, c.loop-last-test.true),
+  load_more _ _ _ _ _ c.loop-last-test.true c.loop-last.invariant.1 c.boxes_at-head1.ensures,
+  cut_turn _ _ _ _ _ (omega (arith, c.loop-last-test.true)) c.best_row-best.ensures ∙ c.loop-last.invariant.2,
+)
 
 pub returns : goal.returns
 returns c =

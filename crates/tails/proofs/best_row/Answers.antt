@@ -28,7 +28,7 @@ overflow_add-head2 c =
     let two = c.requires.two.0 in
     -- the second head is part of the list
     let small = sum_small _ _ _ c.requires.asked.loaded two.other_below (omega (arith, two.few)) _ _ _ c.loop-last-test.true c.loop-last.invariant.1
-      c.boxes_at-head2.ensures in
+    c.boxes_at-head2.ensures in
     omega (arith, small.0, small.1)
 
 pub overflow_add-cut2 : goal.overflow_add-cut2
@@ -40,7 +40,7 @@ overflow_sub-new1 c =
     let two = c.requires.two.0 in
     -- the second head is part of the list
     let small = sum_small _ _ _ c.requires.asked.loaded two.other_below (omega (arith, two.few)) _ _ _ c.loop-last-test.true c.loop-last.invariant.1
-      c.boxes_at-head2.ensures in
+    c.boxes_at-head2.ensures in
     omega (arith, small.0, c.requires.head1_value.2)
 
 pub overflow_add-new1 : goal.overflow_add-new1
@@ -48,7 +48,7 @@ overflow_add-new1 c =
     let two = c.requires.two.0 in
     -- the second head is part of the list
     let small = sum_small _ _ _ c.requires.asked.loaded two.other_below (omega (arith, two.few)) _ _ _ c.loop-last-test.true c.loop-last.invariant.1
-      c.boxes_at-head2.ensures in
+    c.boxes_at-head2.ensures in
     -- the first head is part of its list
     let head = head_small (boxes_of c.args.demand.now) c.args.cut1 c.args.one.now c.args.head1 c.requires.head1_value.0 in
     let most = load_small c.args.terms.l c.args.demand.now c.args.one.now c.requires.asked.loaded c.requires.two.0.one_below (omega (arith, c.requires.two.0.few)) in
@@ -65,7 +65,7 @@ overflow_add-new2 c =
     let two = c.requires.two.0 in
     -- the second head is part of the list
     let small = sum_small _ _ _ c.requires.asked.loaded two.other_below (omega (arith, two.few)) _ _ _ c.loop-last-test.true c.loop-last.invariant.1
-      c.boxes_at-head2.ensures in
+    c.boxes_at-head2.ensures in
     let most = load_small c.args.terms.l c.args.demand.now c.args.one.now c.requires.asked.loaded c.requires.two.0.one_below (omega (arith, c.requires.two.0.few)) in
     omega (arith, small.0, small.1, most, c.requires.head1_value.1)
 
@@ -90,11 +90,10 @@ consider-found-requires-clause-load1_value c =
     let other = c.args.other.now in
     let loads = c.requires.head1_value in
     let cut2 = c.loop-last.last + 1 in
-    let head2 = load_more _ _ _ _ _ c.loop-last-test.true c.loop-last.invariant.1 c.boxes_at-head2.ensures in
-    (
-          load_joined boxes one other c.args.cut1 cut2 _ _ _ loads.0 head2 loads.2,
-          load_joined boxes other one cut2 c.args.cut1 _ _ _ head2 loads.0 loads.1,
-        )
+    let head2 = load_more _ _ _ _ _ c.loop-last-test.true c.loop-last.invariant.1 c.boxes_at-head2.ensures in (
+      load_joined boxes one other c.args.cut1 cut2 _ _ _ loads.0 head2 loads.2,
+      load_joined boxes other one cut2 c.args.cut1 _ _ _ head2 loads.0 loads.1,
+    )
 
 pub overflow_add-last : goal.overflow_add-last
 overflow_add-last c =
@@ -105,12 +104,11 @@ loop-last-smaller c =
     omega (arith, c.loop-last-test.true)
 
 pub loop-last-preserved : goal.loop-last-preserved
-loop-last-preserved c =
-    (
-      omega (arith, c.loop-last-test.true),
-      load_more _ _ _ _ _ c.loop-last-test.true c.loop-last.invariant.1 c.boxes_at-head2.ensures,
-      cut_turn _ _ _ _ _ (omega (arith, c.loop-last-test.true)) c.consider-found.ensures ∙ c.loop-last.invariant.2,
-    )
+loop-last-preserved c = (
+  omega (arith, c.loop-last-test.true),
+  load_more _ _ _ _ _ c.loop-last-test.true c.loop-last.invariant.1 c.boxes_at-head2.ensures,
+  cut_turn _ _ _ _ _ (omega (arith, c.loop-last-test.true)) c.consider-found.ensures ∙ c.loop-last.invariant.2,
+)
 
 pub returns : goal.returns
 returns c =

@@ -31,12 +31,11 @@ returns-then-load-boxes_of c =
     tried_full _ _ c.args.setup _ _ _ _ _ _ _ _ _ _ _ c.wide.ensures c.boxes_of.ensures.0 c.if-load-boxes_of.true
 
 pub removal_delta-removal-requires : goal.removal_delta-removal-requires
-removal_delta-removal-requires c =
-    (
-      c.requires.prepared.formed.tables.of_distances,
-      record { depot_there = c.requires.prepared.depot_there; visits = c.requires.visits.0.below },
-      c.requires.visits.1,
-    )
+removal_delta-removal-requires c = (
+  c.requires.prepared.formed.tables.of_distances,
+  record { depot_there = c.requires.prepared.depot_there; visits = c.requires.visits.0.below },
+  c.requires.visits.1,
+)
 
 pub returns-then-is_ruled_out : goal.returns-then-is_ruled_out
 returns-then-is_ruled_out c =
