@@ -63,12 +63,12 @@ side_wide kind true n m k = row_wide kind m n k
 -- the costs of a row, those of its first list copied on
 module _ (c : Columns) (van : Van) (list other : List ℕ) (side : Row) (skip costs : List Float) where
   pub costed_row : (row : Row) (some : List Float) → row ≡ side → (0 < row.count → 0 < row.distinct)
-      → Costed c van list row.own_val other row.others skip row.distinct some → Extended some costs row.distinct row.count
+      → Costed c van list row.own other row.others skip row.distinct some → Extended some costs row.distinct row.count
       → CostedRow c van list other side skip costs
   costed_row row some is first costed extended =
       rw (← is)
       (record {
-        cost_at = extended_costs c van list other row.own_val row.others row.distinct row.count skip some costs first costed extended;
+        cost_at = extended_costs c van list other row.own row.others row.distinct row.count skip some costs first costed extended;
       })
 
 -- ---- row i of a block

@@ -36,15 +36,15 @@ pub record InRows (f : ℕ → ℕ → Float) (counts : ℕ → ℕ) (width rows
 abbrev pub mark_at : List ℤ → Van → Van → List ℕ → List ℕ → Kind → ℕ → ℕ → Float
 mark_at demand van1 van2 X Y kind k j =
     mark_of (tested_in kind)
-    (holds demand van1 (changed X (row_of kind (length X) (length Y) k).own_val Y (row_of kind (length X) (length Y) k).others j))
-    (holds demand van2 (changed Y (row_of kind (length X) (length Y) k).others X (row_of kind (length X) (length Y) k).own_val j))
+    (holds demand van1 (changed X (row_of kind (length X) (length Y) k).own Y (row_of kind (length X) (length Y) k).others j))
+    (holds demand van2 (changed Y (row_of kind (length X) (length Y) k).others X (row_of kind (length X) (length Y) k).own j))
 
 -- row k seen from a list of n visits that is the first one; or, turned, the second, of which every move makes another list
 unfoldable pub side_of : Kind → Bool → ℕ → ℕ → ℕ → Row
 side_of kind false n m k = row_of kind n m k
 side_of kind true n m k = record {
   own = (row_of kind m n k).others;
-  others = (row_of kind m n k).own_val;
+  others = (row_of kind m n k).own;
   count = (row_of kind m n k).count;
   distinct = (row_of kind m n k).count;
 }

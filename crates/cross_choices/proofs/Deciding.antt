@@ -239,11 +239,11 @@ module _ (kind : Kind) (pair : Pair) (n1 n2 k width count : ℕ) (costs1 costs2 
 -- the marks of a row and what its first lists cost, entry by entry
 pub record Tabled (c : Columns) (demand : List ℤ) (pair : Pair) (X Y : List ℕ) (kind : Kind) (k : ℕ) (marks costs1 : ℕ → Float) : Type 0 where
   pub marks_are : (j : ℕ) → j < (row_of kind (length X) (length Y) k).distinct → marks j ≡ mark_of (tested_in kind)
-      (holds demand pair.van1 (changed X (row_of kind (length X) (length Y) k).own_val Y (row_of kind (length X) (length Y) k).others j))
-      (holds demand pair.van2 (changed Y (row_of kind (length X) (length Y) k).others X (row_of kind (length X) (length Y) k).own_val j))
+      (holds demand pair.van1 (changed X (row_of kind (length X) (length Y) k).own Y (row_of kind (length X) (length Y) k).others j))
+      (holds demand pair.van2 (changed Y (row_of kind (length X) (length Y) k).others X (row_of kind (length X) (length Y) k).own j))
   pub costs1_are : (j : ℕ) → j < (row_of kind (length X) (length Y) k).count
       → costs1 j ≡ cost_unless c pair.van1 (marks (same_as (row_of kind (length X) (length Y) k).distinct j))
-      (changed X (row_of kind (length X) (length Y) k).own_val Y (row_of kind (length X) (length Y) k).others
+      (changed X (row_of kind (length X) (length Y) k).own Y (row_of kind (length X) (length Y) k).others
       (same_as (row_of kind (length X) (length Y) k).distinct j))
 
 -- a row's table whose first entry was copied on
@@ -292,19 +292,19 @@ module _ {c : Columns} {demand : List ℤ} {pair : Pair} {X Y : List ℕ} {kind 
   row_move j = move_at kind pair (length X) (length Y) k j
 
   -- the lists that move j makes
-  first_made : (j : ℕ) → changed X (row_of kind (length X) (length Y) k).own_val Y (row_of kind (length X) (length Y) k).others j ≡ made1 X Y (row_move j)
+  first_made : (j : ℕ) → changed X (row_of kind (length X) (length Y) k).own Y (row_of kind (length X) (length Y) k).others j ≡ made1 X Y (row_move j)
   first_made j =
       let same = row_stretches kind pair (length X) (length Y) k j in
       rw (same.from1_is, same.to1_is, same.from2_is, same.to2_is)
 
-  second_made : (j : ℕ) → changed Y (row_of kind (length X) (length Y) k).others X (row_of kind (length X) (length Y) k).own_val j ≡ made2 X Y (row_move j)
+  second_made : (j : ℕ) → changed Y (row_of kind (length X) (length Y) k).others X (row_of kind (length X) (length Y) k).own j ≡ made2 X Y (row_move j)
   second_made j =
       let same = row_stretches kind pair (length X) (length Y) k j in
       rw (same.from1_is, same.to1_is, same.from2_is, same.to2_is)
 
   -- the first cost of a move that is priced for itself
   priced_first : (j : ℕ) → j < (row_of kind (length X) (length Y) k).distinct
-      → cost_unless c pair.van1 (marks j) (changed X (row_of kind (length X) (length Y) k).own_val Y (row_of kind (length X) (length Y) k).others j)
+      → cost_unless c pair.van1 (marks j) (changed X (row_of kind (length X) (length Y) k).own Y (row_of kind (length X) (length Y) k).others j)
       ≡ cost1_of c demand pair X Y (row_move j)
   unfolding cost1_of
   priced_first j h = rw (t.marks_are j h, first_made j, second_made j, move_tested kind pair (length X) (length Y) k j)
@@ -314,7 +314,7 @@ module _ {c : Columns} {demand : List ℤ} {pair : Pair} {X Y : List ℕ} {kind 
     where
       by_test : (b : Bool) → ltb j (row_of kind (length X) (length Y) k).distinct ≡ b
           → cost_unless c pair.van1 (marks (cond b j 0))
-          (changed X (row_of kind (length X) (length Y) k).own_val Y (row_of kind (length X) (length Y) k).others (cond b j 0))
+          (changed X (row_of kind (length X) (length Y) k).own Y (row_of kind (length X) (length Y) k).others (cond b j 0))
           ≡ cost1_of c demand pair X Y (row_move j)
       by_test true e = priced_first j (ltb-true _ _ e)
       by_test false e =
@@ -332,7 +332,7 @@ module _ {c : Columns} {demand : List ℤ} {pair : Pair} {X Y : List ℕ} {kind 
 
   module _ (costs2 : ℕ → Float)
       (costs2-are : (j : ℕ) → j < (row_of kind (length X) (length Y) k).count → costs2 j ≡ cost_unless c pair.van2 (costs1 j)
-      (changed Y (row_of kind (length X) (length Y) k).others X (row_of kind (length X) (length Y) k).own_val j)) where
+      (changed Y (row_of kind (length X) (length Y) k).others X (row_of kind (length X) (length Y) k).own j)) where
     second_is : (j : ℕ) → j < (row_of kind (length X) (length Y) k).count → costs2 j ≡ cost2_of c demand pair X Y (row_move j)
     unfolding cost2_of
     second_is j h = rw (first_is j h, second_made j) at (costs2-are j h)

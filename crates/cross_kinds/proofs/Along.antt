@@ -22,7 +22,7 @@ pub record Same (own others : Stretch) (m : Move) (j : ℕ) : Type 0 where
   pub to2_is : to_at others j ≡ m.to2
 
 pub row_stretches : (kind : Kind) (pair : Pair) (n1 n2 k j : ℕ)
-    → Same (row_of kind n1 n2 k).own_val (row_of kind n1 n2 k).others (move_at kind pair n1 n2 k j) j
+    → Same (row_of kind n1 n2 k).own (row_of kind n1 n2 k).others (move_at kind pair n1 n2 k j) j
 unfolding row_of move_at
 row_stretches Relocation pair n1 n2 k j = record { from1_is = omega arith; to1_is = omega arith; from2_is = omega arith; to2_is = omega arith }
 row_stretches Swap pair n1 n2 k j = record { from1_is = omega arith; to1_is = omega arith; from2_is = omega arith; to2_is = omega arith }
@@ -43,7 +43,7 @@ cuts-few n1 n2 k = by_test (eqb k n1)
 
 -- its stretches lie in the lists
 pub row_within : (kind : Kind) (n1 n2 k : ℕ) → n1 + n2 ≤ 63 → k < rows_in kind n1
-    → Rowed n1 n2 (row_of kind n1 n2 k).own_val (row_of kind n1 n2 k).others (row_of kind n1 n2 k).count
+    → Rowed n1 n2 (row_of kind n1 n2 k).own (row_of kind n1 n2 k).others (row_of kind n1 n2 k).count
 unfolding row_of rows_in
 row_within Relocation n1 n2 k few h = record {
   own_steps = (omega arith, omega arith);
@@ -111,8 +111,8 @@ rows_few Tails n = omega arith
 
 -- of a row that is worked out: it lies in both lists, seen from either
 module _ (kind : Kind) (n1 n2 k : ℕ) (row : Row) (is : row ≡ row_of kind n1 n2 k) (few : n1 + n2 ≤ 63) (h : k < rows_in kind n1) where
-  pub row_lies : Rowed n1 n2 row.own_val row.others row.count
+  pub row_lies : Rowed n1 n2 row.own row.others row.count
   row_lies = rw is (row_within kind n1 n2 k few h)
 
-  pub row_some : Rowed n1 n2 row.own_val row.others row.distinct
+  pub row_some : Rowed n1 n2 row.own row.others row.distinct
   row_some = row_part row.distinct row_lies (rw is (distinct_few kind n1 n2 k))

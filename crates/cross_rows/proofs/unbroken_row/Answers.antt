@@ -1,6 +1,5 @@
 -- `unbroken_row`: before each candidate the costs of those before it are put down.
 use mathlib.Core.Path.{refl, ◌∙◌}
-use mathlib.Core.Logic.{⊎_elim}
 use Prim.Native.Nat.{◌-◌, ◌≤◌}
 use native.Mathlib.Omega.{arith}
 use lib.ListN.{length}
@@ -8,6 +7,7 @@ use borrow.Author.Rules.{rules}
 use Rattle.labels.specs.Columns.{columns}
 use Rattle.cross_rows.proofs.Rows.{Costing, cost_skipped, cost_asked, costing_starts, costing_turns, costing_ends}
 use Rattle.cross_rows.proofs.unbroken_row.Goals as goal
+use Rattle.cross_rows.proofs.unbroken_row.Goals.{then-skip-j, else-skip-j}
 
 pub loop-j-init : goal.loop-j-init
 loop-j-init c =
@@ -75,10 +75,12 @@ loop-j-preserved c =
     (
       omega (arith, c.loop-j-test.true),
       costing_turns _ _ _ _ _ _ _ _ _ _ c.loop-j.invariant.1 (omega (arith, c.loop-j-test.true, c.requires.rowed.2)) c.if-skip-j.cost
-          (⊎_elim
-          (λ w. w.6 ∙ cost_asked _ _ _ _ _ _ _ _ _ c.infinite.ensures.answer w.0.taken w.1.ensures w.2.ensures w.3.ensures
-          w.4.ensures w.5.ensures)
-          (λ w. w.1 ∙ c.infinite-cost.ensures.answer ∙ cost_skipped _ _ _ _ _ c.infinite.ensures.answer w.0.left) c.if-skip-j.branch),
+          (elim c.if-skip-j.branch [
+            then-skip-j w ↦
+              w.cost-is ∙ cost_asked _ _ _ _ _ _ _ _ _ c.infinite.ensures.answer w.if-skip-j.true w.start_at.ensures w.end_at.ensures
+              w.start_at-then-skip-j.ensures w.end_at-then-skip-j.ensures w.candidate_cost-cost.ensures
+          | else-skip-j w ↦ w.cost-is ∙ c.infinite-cost.ensures.answer ∙ cost_skipped _ _ _ _ _ c.infinite.ensures.answer w.if-skip-j.false
+          ]),
     )
 
 pub returns : goal.returns
