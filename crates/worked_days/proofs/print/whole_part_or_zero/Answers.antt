@@ -1,5 +1,5 @@
 -- `worked_days::print::whole_part_or_zero` is safe: the call asks that x is above -1 and below 2^64, and the two tests say so, each number by its bits.
-use Rattle.std.proofs.Common.{T, sym, subst, rules}
+use Rattle.std.proofs.Common.{T, sym, subst}
 use lib.Ieee.{of_bits, neg}
 use Rattle.worked_days.proofs.print.whole_part_or_zero.Goals as goal
 
