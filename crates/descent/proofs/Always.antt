@@ -1,9 +1,8 @@
 -- Whatever the numbers, a run makes permitted moves only, so that it keeps the offices and the capacities: each step of a run takes a candidate that
 -- passes, and those are the permitted moves. Nothing is asked of how candidates are judged.
 use mathlib.Core.Path.{◌≡◌, refl, ◌∙◌}
-use mathlib.Core.Bool.{true}
 use mathlib.Core.Option.{some}
-use mathlib.Core.List.{List, []}
+use mathlib.Core.List.{[]}
 use Prim.Native.Nat.{ℕ}
 use lib.Dec.{eqb}
 use Rattle.edits.specs.Total.{bit, count}
@@ -17,7 +16,7 @@ use Rattle.descent.proofs.Members.{and_parts, not_in}
 use Rattle.descent.proofs.Runs.{ran, chain_map, chain_keeps}
 use Rattle.descent.proofs.Kept.{Kept, kept_same, kept_on, permitted_keeps}
 use Rattle.descent.proofs.Sweeps.{next-some}
-use Rattle.descent.proofs.Claims.{Tried, Faithful, handed-total}
+use Rattle.descent.proofs.Claims.{Tried, handed-total}
 use Rattle.descent.proofs.Demand3.{Proper, faithful}
 
 module _ {Value : Type 0} (e : Engine) (checks : Checks) (judge : Judge (State e) (Move e) Value) (proper : Proper e) where

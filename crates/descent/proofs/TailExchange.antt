@@ -9,7 +9,7 @@ use lib.ListN.{length, take, drop, set, length-append}
 use native.Mathlib.Decide.{dec_lt}
 use lib.ListN.{take-append-drop}
 use lib.Seq.{length-take-le, take-append_seam, drop-append_seam, set_comm}
-use Rattle.descent.specs.Order.{◌∈◌, there, range}
+use Rattle.descent.specs.Order.{◌∈◌, range}
 use Rattle.descent.specs.Permitted.{Checks, fits, TailsExchanged, tails_exchanged, tail_exchange}
 use Rattle.descent.specs.Across.{at, Pair, Tails, pairs, tail_cuts, new1, new2}
 use Rattle.descent.proofs.Members.{T_true, true-T, and_parts, and_both, in_range, range_in, in_each, each_in, in_map, map_in}

@@ -1,6 +1,6 @@
 -- What holds of every run of any of the five engines, whatever its numbers: fractions, infinite prices, any lists, any limit. For every entry's contract.
 -- Assumes nothing.
-use Rattle.std.specs.Prelude.{◌≡◌, List, [], ℕ, ◌≤◌, get_or}
+use Rattle.std.specs.Prelude.{◌≡◌, [], ℕ, ◌≤◌, get_or}
 use Rattle.edits.specs.Total.{total, count}
 use Rattle.descent.specs.Order.{◌∈◌}
 use Rattle.descent.specs.Permitted.{Measure, Checks, load, Engine, State, lists, Permitted}

@@ -1,12 +1,7 @@
 -- `all_plain`: the numbers passed are plain.
 use borrow.Author.Rules.{rules}
-use Prim.Native.Nat.{◌-◌, ◌≤◌}
-use mathlib.Core.Path.{◌≡◌, sym}
-use mathlib.Core.Bool.{true}
-use lib.ListN.{length, get_or}
-use lib.Ieee.{nan}
-use Rattle.numbers.specs.Plain.{plain}
-use Rattle.tests.specs.All.{all_below, all_more, all_fails, all_end, no, yes}
+use mathlib.Core.Path.{sym}
+use Rattle.tests.specs.All.{all_more, all_fails, all_end, no, yes}
 use Rattle.day.specs.Refusal.{all_plain}
 use mathlib.Core.Path.{ap}
 use mathlib.Core.Bool.{not}

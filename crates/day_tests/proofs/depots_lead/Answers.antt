@@ -1,11 +1,8 @@
 -- `depots_lead`: no depot flag stands right after an unflagged location up to here.
 use borrow.Author.Rules.{rules}
-use Prim.Native.Nat.{◌-◌, ◌≤◌, ◌<◌}
-use mathlib.Core.Path.{◌≡◌, sym}
-use mathlib.Core.Bool.{true}
-use lib.ListN.{length}
-use Rattle.tests.specs.All.{all_below, all_none, all_more, all_fails, all_end, no, yes}
-use Rattle.day.specs.Refusal.{lead_ok, depots_lead}
+use mathlib.Core.Path.{sym}
+use Rattle.tests.specs.All.{all_none, all_more, all_fails, all_end, no, yes}
+use Rattle.day.specs.Refusal.{depots_lead}
 use mathlib.Core.Path.{ap}
 use mathlib.Core.Bool.{not}
 use Rattle.day_tests.proofs.depots_lead.Goals as goal
@@ -20,8 +17,7 @@ returns-then-not-lead_ok c =
     sym (all_fails _ _ c.loop-i.i (search rules) (no _ _ c.lead_ok.ensures (ap not c.if-not-lead_ok.true)))
 
 pub loop-i-preserved : goal.loop-i-preserved
-loop-i-preserved c =
-    (
+loop-i-preserved c = (
   search rules,
   search rules,
   search rules,

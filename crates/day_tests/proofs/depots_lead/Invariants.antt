@@ -1,11 +1,10 @@
 -- `depots_lead`: no depot flag stands right after an unflagged location up to here.
-use borrow.Author.Rules.{rules}
 use Prim.Native.Nat.{◌-◌, ◌≤◌, ◌<◌}
-use mathlib.Core.Path.{◌≡◌, sym}
+use mathlib.Core.Path.{◌≡◌}
 use mathlib.Core.Bool.{true}
 use lib.ListN.{length}
-use Rattle.tests.specs.All.{all_below, all_none, all_more, all_fails, all_end, no, yes}
-use Rattle.day.specs.Refusal.{lead_ok, depots_lead}
+use Rattle.tests.specs.All.{all_below}
+use Rattle.day.specs.Refusal.{lead_ok}
 use Rattle.day_tests.proofs.depots_lead.Given as goal
 
 abbrev pub invariant-loop-i : goal.invariant-loop-i

@@ -1,5 +1,4 @@
 -- `lead_ok`: the callee joins the definition's two tests.
-use borrow.Author.Rules.{rules}
 use Rattle.day.specs.Refusal.{lead_ok}
 use Rattle.day_tests.proofs.lead_ok.Goals as goal
 

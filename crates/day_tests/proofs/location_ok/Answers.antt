@@ -1,5 +1,4 @@
 -- `location_ok`: the callees join the definition's tests.
-use borrow.Author.Rules.{rules}
 use Rattle.day.specs.Refusal.{location_ok}
 use lib.ListN.{get_or}
 use lib.IntN.{pos}

@@ -1,10 +1,8 @@
 -- `locations_ok`: the locations passed are right.
 use borrow.Author.Rules.{rules}
-use Prim.Native.Nat.{◌-◌, ◌≤◌}
-use mathlib.Core.Path.{◌≡◌, sym}
-use mathlib.Core.Bool.{true}
-use Rattle.tests.specs.All.{all_below, all_none, all_more, all_fails, all_end, no, yes}
-use Rattle.day.specs.Refusal.{location_ok, locations_ok}
+use mathlib.Core.Path.{sym}
+use Rattle.tests.specs.All.{all_none, all_more, all_fails, all_end, no, yes}
+use Rattle.day.specs.Refusal.{locations_ok}
 use mathlib.Core.Path.{ap}
 use mathlib.Core.Bool.{not}
 use Rattle.day_tests.proofs.locations_ok.Goals as goal

@@ -1,10 +1,9 @@
 -- `locations_ok`: the locations passed are right.
-use borrow.Author.Rules.{rules}
 use Prim.Native.Nat.{◌-◌, ◌≤◌}
-use mathlib.Core.Path.{◌≡◌, sym}
+use mathlib.Core.Path.{◌≡◌}
 use mathlib.Core.Bool.{true}
-use Rattle.tests.specs.All.{all_below, all_none, all_more, all_fails, all_end, no, yes}
-use Rattle.day.specs.Refusal.{location_ok, locations_ok}
+use Rattle.tests.specs.All.{all_below}
+use Rattle.day.specs.Refusal.{location_ok}
 use Rattle.day_tests.proofs.locations_ok.Given as goal
 
 abbrev pub invariant-loop-i : goal.invariant-loop-i

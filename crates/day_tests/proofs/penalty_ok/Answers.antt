@@ -1,5 +1,4 @@
 -- `penalty_ok`: where the flag is off nothing is read, and the definition doesn't ask.
-use borrow.Author.Rules.{rules}
 use Rattle.tests.specs.All.{off, on, no, yes}
 use Rattle.day.specs.Refusal.{present_ok, penalty_ok}
 use mathlib.Core.Path.{ap}

@@ -1,13 +1,11 @@
 -- `plain_fours`: the numbers passed are plain.
-use borrow.Author.Rules.{rules}
 use Prim.Native.Nat.{◌-◌, ◌≤◌}
 use mathlib.Core.Path.{◌≡◌}
 use mathlib.Core.Bool.{true}
-use native.Mathlib.Omega.{arith}
 use lib.ListN.{length, get_or}
 use lib.Ieee.{nan}
 use Rattle.numbers.specs.Plain.{plain}
-use Rattle.tests.specs.All.{all_below, all_none, all_four_lem, yes}
+use Rattle.tests.specs.All.{all_below}
 use Rattle.day_tests.proofs.plain_fours.Given as goal
 
 abbrev pub invariant-loop-i : goal.invariant-loop-i

@@ -1,5 +1,4 @@
 -- `span_ok`: the callees join the definition's three tests.
-use borrow.Author.Rules.{rules}
 use Rattle.day.specs.Refusal.{span_ok}
 use Rattle.day_tests.proofs.span_ok.Goals as goal
 

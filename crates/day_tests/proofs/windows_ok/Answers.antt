@@ -1,10 +1,8 @@
 -- `windows_ok`: the windows passed are right.
 use borrow.Author.Rules.{rules}
-use Prim.Native.Nat.{◌-◌, ◌≤◌}
-use mathlib.Core.Path.{◌≡◌, sym}
-use mathlib.Core.Bool.{true}
-use Rattle.tests.specs.All.{all_below, all_none, all_more, all_fails, all_end, no, yes}
-use Rattle.day.specs.Refusal.{window_ok, windows_ok}
+use mathlib.Core.Path.{sym}
+use Rattle.tests.specs.All.{all_none, all_more, all_fails, all_end, no, yes}
+use Rattle.day.specs.Refusal.{windows_ok}
 use mathlib.Core.Path.{ap}
 use mathlib.Core.Bool.{not}
 use Rattle.day_tests.proofs.windows_ok.Goals as goal

@@ -1,10 +1,9 @@
 -- `windows_ok`: the windows passed are right.
-use borrow.Author.Rules.{rules}
 use Prim.Native.Nat.{◌-◌, ◌≤◌}
-use mathlib.Core.Path.{◌≡◌, sym}
+use mathlib.Core.Path.{◌≡◌}
 use mathlib.Core.Bool.{true}
-use Rattle.tests.specs.All.{all_below, all_none, all_more, all_fails, all_end, no, yes}
-use Rattle.day.specs.Refusal.{window_ok, windows_ok}
+use Rattle.tests.specs.All.{all_below}
+use Rattle.day.specs.Refusal.{window_ok}
 use Rattle.day_tests.proofs.windows_ok.Given as goal
 
 abbrev pub invariant-loop-i : goal.invariant-loop-i

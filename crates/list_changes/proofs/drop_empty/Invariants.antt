@@ -1,10 +1,7 @@
 -- `list_changes::drop_empty` meets its contract: proofs/Packing.antt has where the loop stands, its start, its turn and its end. Assumes nothing.
 use Prim.Native.Nat.{◌-◌}
-use native.Mathlib.Omega.{arith}
-use borrow.Author.Rules.{rules}
 use lib.ListN.{length}
-use lib.Seq.{lt-length-set}
-use Rattle.list_changes.proofs.Packing.{Packing, packing_starts, packing_turns, packing_ends}
+use Rattle.list_changes.proofs.Packing.{Packing}
 use Rattle.list_changes.proofs.drop_empty.Given as goal
 
 abbrev pub invariant-loop-i : goal.invariant-loop-i

@@ -1,5 +1,4 @@
 -- `list_changes::exchange_lengths` meets its contract: both lengths are read before they are stored. Assumes nothing.
-use borrow.Author.Rules.{rules}
 use Rattle.list_changes.specs.Edits.{tail_lengths}
 use Rattle.list_changes.proofs.exchange_lengths.Goals as goal
 

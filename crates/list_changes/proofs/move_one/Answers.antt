@@ -1,6 +1,5 @@
 -- `list_changes::move_one` meets its contract: whichever place comes first, it exchanges the visit with what lies between. Assumes nothing.
 use mathlib.Core.Path.{◌∙◌}
-use borrow.Author.Rules.{rules}
 use Rattle.list_changes.proofs.Across.{moved_on, moved_back}
 use Rattle.list_changes.proofs.move_one.Goals as goal
 

@@ -1,9 +1,6 @@
 -- `list_refusals::all_distinct` meets its contract: proofs/Seen.antt has where the loop stands, its start, its turn and its ends. Assumes nothing.
-use Prim.Native.Nat.{◌-◌}
 use native.Mathlib.Omega.{arith}
-use borrow.Author.Rules.{rules}
-use lib.ListN.{length}
-use Rattle.list_refusals.proofs.Seen.{Seen, seen_starts, seen_again, seen_turns, seen_ends}
+use Rattle.list_refusals.proofs.Seen.{seen_starts, seen_again, seen_turns, seen_ends}
 use Rattle.list_refusals.proofs.all_distinct.Goals as goal
 
 pub loop-j-init : goal.loop-j-init

@@ -1,9 +1,7 @@
 -- `list_refusals::all_distinct` meets its contract: proofs/Seen.antt has where the loop stands, its start, its turn and its ends. Assumes nothing.
 use Prim.Native.Nat.{◌-◌}
-use native.Mathlib.Omega.{arith}
-use borrow.Author.Rules.{rules}
 use lib.ListN.{length}
-use Rattle.list_refusals.proofs.Seen.{Seen, seen_starts, seen_again, seen_turns, seen_ends}
+use Rattle.list_refusals.proofs.Seen.{Seen}
 use Rattle.list_refusals.proofs.all_distinct.Given as goal
 
 abbrev pub invariant-loop-j : goal.invariant-loop-j

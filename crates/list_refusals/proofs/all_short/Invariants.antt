@@ -1,13 +1,10 @@
 -- `list_refusals::all_short` meets its contract: every length passed is at most 63, and the loop stops at the first that is not. Assumes nothing.
 use Prim.Native.Nat.{◌≤◌, ◌-◌}
-use mathlib.Core.Path.{◌≡◌, sym}
+use mathlib.Core.Path.{◌≡◌}
 use mathlib.Core.Bool.{true}
-use borrow.Author.Tests.{le-leb, lt-leb}
 use lib.Dec.{leb}
-use borrow.Author.Rules.{rules}
 use lib.ListN.{length, get_or}
-use Rattle.tests.specs.All.{all_below, all_none, all_more, all_fails, all_end}
-use Rattle.list_refusals.specs.Refused.{all_short}
+use Rattle.tests.specs.All.{all_below}
 use Rattle.list_refusals.proofs.all_short.Given as goal
 
 abbrev pub invariant-loop-i : goal.invariant-loop-i

@@ -1,5 +1,4 @@
 -- `list_refusals::lists_refusal` meets its contract: the number asked for, then the rest. Assumes nothing.
-use borrow.Author.Rules.{rules}
 use borrow.Author.Tests.{lt-ltb, le-ltb}
 use Rattle.tests.specs.All.{refuse, pass}
 use Rattle.list_refusals.specs.Refused.{lists_refusal}

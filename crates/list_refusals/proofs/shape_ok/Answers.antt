@@ -1,6 +1,5 @@
 -- `list_refusals::shape_ok` meets its contract, test by test: where the last list ends is the sum of all lengths. Assumes nothing.
 use mathlib.Core.Path.{sym, ◌∙◌}
-use borrow.Author.Rules.{rules}
 use borrow.Author.Tests.{le-leb, lt-leb, eq-eqb, ne_eqb}
 use Rattle.tests.specs.All.{stop, go}
 use Rattle.lists.proofs.Tables.{start_all}

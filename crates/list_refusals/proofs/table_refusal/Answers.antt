@@ -1,6 +1,5 @@
 -- `list_refusals::table_refusal` meets its contract, test by test. Assumes nothing.
 use mathlib.Core.Path.{refl}
-use borrow.Author.Rules.{rules}
 use Rattle.tests.specs.All.{no, yes, refuse, pass}
 use Rattle.list_refusals.specs.Refused.{table_refusal}
 use Rattle.list_refusals.proofs.Fine.{offices_small}

@@ -1,11 +1,8 @@
 -- `list_refusals::visits_ok` meets its contract: every visit passed is an office of the day. Assumes nothing.
-use Prim.Native.Nat.{◌≤◌, ◌-◌}
-use mathlib.Core.Path.{◌≡◌, sym}
-use mathlib.Core.Bool.{true}
+use mathlib.Core.Path.{sym}
 use borrow.Author.Rules.{rules}
-use lib.ListN.{length, get_or}
-use Rattle.tests.specs.All.{all_below, all_none, all_more, all_fails, all_end, no, yes}
-use Rattle.list_refusals.specs.Refused.{visits_ok, visit_ok}
+use Rattle.tests.specs.All.{all_none, all_more, all_fails, all_end, no, yes}
+use Rattle.list_refusals.specs.Refused.{visits_ok}
 use mathlib.Core.Path.{ap}
 use mathlib.Core.Bool.{not}
 use Rattle.list_refusals.proofs.visits_ok.Goals as goal

@@ -1,11 +1,10 @@
 -- `list_refusals::visits_ok` meets its contract: every visit passed is an office of the day. Assumes nothing.
 use Prim.Native.Nat.{◌≤◌, ◌-◌}
-use mathlib.Core.Path.{◌≡◌, sym}
+use mathlib.Core.Path.{◌≡◌}
 use mathlib.Core.Bool.{true}
-use borrow.Author.Rules.{rules}
 use lib.ListN.{length, get_or}
-use Rattle.tests.specs.All.{all_below, all_none, all_more, all_fails, all_end, no, yes}
-use Rattle.list_refusals.specs.Refused.{visits_ok, visit_ok}
+use Rattle.tests.specs.All.{all_below}
+use Rattle.list_refusals.specs.Refused.{visit_ok}
 use Rattle.list_refusals.proofs.visits_ok.Given as goal
 
 abbrev pub invariant-loop-i : goal.invariant-loop-i

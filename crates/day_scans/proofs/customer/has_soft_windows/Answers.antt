@@ -1,9 +1,7 @@
 -- `has_soft_windows`: no flag passed is soft, so the rest decides.
 use borrow.Author.Rules.{rules}
-use Prim.Native.Nat.{◌-◌, ◌≤◌}
-use mathlib.Core.Path.{◌≡◌, refl, sym, ◌∙◌}
-use lib.ListN.{length, drop}
-use Rattle.day.specs.Customer.{some_of, is_soft, has_soft_windows, some_here, some_later, some_ends}
+use mathlib.Core.Path.{refl, sym, ◌∙◌}
+use Rattle.day.specs.Customer.{is_soft, has_soft_windows, some_here, some_later, some_ends}
 use Rattle.day_scans.proofs.customer.has_soft_windows.Goals as goal
 
 pub loop-i-init : goal.loop-i-init
@@ -17,8 +15,7 @@ returns-then-is_soft c =
     c.loop-i.invariant.1
 
 pub loop-i-preserved : goal.loop-i-preserved
-loop-i-preserved c =
-    (
+loop-i-preserved c = (
   search rules,
   sym (some_later _ _ is_soft c.loop-i-test.true (sym c.is_soft.ensures ∙ c.if-is_soft.false)) ∙
       c.loop-i.invariant.1,

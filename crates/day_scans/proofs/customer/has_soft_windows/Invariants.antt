@@ -1,9 +1,8 @@
 -- `has_soft_windows`: no flag passed is soft, so the rest decides.
-use borrow.Author.Rules.{rules}
 use Prim.Native.Nat.{◌-◌, ◌≤◌}
-use mathlib.Core.Path.{◌≡◌, refl, sym, ◌∙◌}
+use mathlib.Core.Path.{◌≡◌}
 use lib.ListN.{length, drop}
-use Rattle.day.specs.Customer.{some_of, is_soft, has_soft_windows, some_here, some_later, some_ends}
+use Rattle.day.specs.Customer.{some_of, is_soft}
 use Rattle.day_scans.proofs.customer.has_soft_windows.Given as goal
 
 abbrev pub invariant-loop-i : goal.invariant-loop-i

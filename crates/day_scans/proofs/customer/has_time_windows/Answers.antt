@@ -1,10 +1,8 @@
 -- `has_time_windows`: no flag passed has a window, so the rest decides.
 use borrow.Author.Rules.{rules}
-use Prim.Native.Nat.{◌-◌, ◌≤◌}
-use mathlib.Core.Path.{◌≡◌, refl, sym, ◌∙◌}
-use lib.ListN.{length, drop}
+use mathlib.Core.Path.{refl, sym, ◌∙◌}
 use Rattle.day.specs.Day.{bit1}
-use Rattle.day.specs.Customer.{some_of, has_time_windows, some_here, some_later, some_ends}
+use Rattle.day.specs.Customer.{has_time_windows, some_here, some_later, some_ends}
 use Rattle.day_scans.proofs.customer.has_time_windows.Goals as goal
 
 pub loop-i-init : goal.loop-i-init
@@ -18,8 +16,7 @@ returns-then-flag1 c =
     c.loop-i.invariant.1
 
 pub loop-i-preserved : goal.loop-i-preserved
-loop-i-preserved c =
-    (
+loop-i-preserved c = (
   search rules,
   sym (some_later _ _ bit1 c.loop-i-test.true (sym c.flag1.ensures ∙ c.if-flag1.false)) ∙
       c.loop-i.invariant.1,

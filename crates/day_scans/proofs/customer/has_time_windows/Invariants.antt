@@ -1,10 +1,9 @@
 -- `has_time_windows`: no flag passed has a window, so the rest decides.
-use borrow.Author.Rules.{rules}
 use Prim.Native.Nat.{◌-◌, ◌≤◌}
-use mathlib.Core.Path.{◌≡◌, refl, sym, ◌∙◌}
+use mathlib.Core.Path.{◌≡◌}
 use lib.ListN.{length, drop}
 use Rattle.day.specs.Day.{bit1}
-use Rattle.day.specs.Customer.{some_of, has_time_windows, some_here, some_later, some_ends}
+use Rattle.day.specs.Customer.{some_of}
 use Rattle.day_scans.proofs.customer.has_time_windows.Given as goal
 
 abbrev pub invariant-loop-i : goal.invariant-loop-i

@@ -1,5 +1,4 @@
 -- `is_soft`: the callee joins the definition's two bits.
-use borrow.Author.Rules.{rules}
 use Rattle.day_scans.proofs.customer.is_soft.Goals as goal
 
 pub returns : goal.returns

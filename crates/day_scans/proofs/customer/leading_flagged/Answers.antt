@@ -1,11 +1,8 @@
 -- `leading_flagged`: the flags passed all count, and the count of the rest is still to come.
 use borrow.Author.Rules.{rules}
-use Prim.Native.Nat.{◌+◌, ◌-◌, ◌≤◌}
-use mathlib.Core.Path.{◌≡◌, refl}
-use lib.ListN.{length, drop}
 use native.Mathlib.Omega.{arith}
 use Rattle.tests.specs.All.{no, yes}
-use Rattle.day.specs.Customer.{Counted, count_stops, count_grows, count_ends}
+use Rattle.day.specs.Customer.{count_stops, count_grows, count_ends}
 use mathlib.Core.Path.{ap}
 use mathlib.Core.Bool.{not}
 use Rattle.day_scans.proofs.customer.leading_flagged.Goals as goal
@@ -20,8 +17,7 @@ returns-then-not-flag0 c =
     c.flag0.ensures (ap not c.if-not-flag0.true))
 
 pub loop-count-preserved : goal.loop-count-preserved
-loop-count-preserved c =
-    (
+loop-count-preserved c = (
   search rules,
   count_grows _ _ c.loop-count.invariant.1 c.loop-count-test.true (yes _ _
       c.flag0.ensures (ap not c.if-not-flag0.false)),

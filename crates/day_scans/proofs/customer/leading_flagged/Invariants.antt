@@ -1,11 +1,7 @@
 -- `leading_flagged`: the flags passed all count, and the count of the rest is still to come.
-use borrow.Author.Rules.{rules}
-use Prim.Native.Nat.{◌+◌, ◌-◌, ◌≤◌}
-use mathlib.Core.Path.{◌≡◌, refl}
-use lib.ListN.{length, drop}
-use native.Mathlib.Omega.{arith}
-use Rattle.tests.specs.All.{no, yes}
-use Rattle.day.specs.Customer.{Counted, count_stops, count_grows, count_ends}
+use Prim.Native.Nat.{◌-◌, ◌≤◌}
+use lib.ListN.{length}
+use Rattle.day.specs.Customer.{Counted}
 use Rattle.day_scans.proofs.customer.leading_flagged.Given as goal
 
 abbrev pub invariant-loop-count : goal.invariant-loop-count

@@ -1,5 +1,4 @@
 -- `num_depots`: the count of leading flagged locations, and 1 where it is 0.
-use borrow.Author.Rules.{rules}
 use native.Mathlib.Omega.{arith}
 use Rattle.day.specs.Customer.{num_depots}
 use Rattle.day_scans.proofs.customer.num_depots.Goals as goal

@@ -1,10 +1,8 @@
 -- `is_symmetric`: the rows passed are mirrored.
 use borrow.Author.Rules.{rules}
-use Prim.Native.Nat.{◌-◌, ◌≤◌}
-use mathlib.Core.Path.{◌≡◌, sym}
-use mathlib.Core.Bool.{true}
-use Rattle.tests.specs.All.{all_below, all_none, all_more, all_fails, all_end, no, yes}
-use Rattle.day.specs.Matrix.{mirrored, symmetric}
+use mathlib.Core.Path.{sym}
+use Rattle.tests.specs.All.{all_none, all_more, all_fails, all_end, no, yes}
+use Rattle.day.specs.Matrix.{symmetric}
 use mathlib.Core.Path.{ap}
 use mathlib.Core.Bool.{not}
 use Rattle.day_scans.proofs.matrix.is_symmetric.Goals as goal

@@ -1,10 +1,9 @@
 -- `is_symmetric`: the rows passed are mirrored.
-use borrow.Author.Rules.{rules}
 use Prim.Native.Nat.{◌-◌, ◌≤◌}
-use mathlib.Core.Path.{◌≡◌, sym}
+use mathlib.Core.Path.{◌≡◌}
 use mathlib.Core.Bool.{true}
-use Rattle.tests.specs.All.{all_below, all_none, all_more, all_fails, all_end, no, yes}
-use Rattle.day.specs.Matrix.{mirrored, symmetric}
+use Rattle.tests.specs.All.{all_below}
+use Rattle.day.specs.Matrix.{mirrored}
 use Rattle.day_scans.proofs.matrix.is_symmetric.Given as goal
 
 abbrev pub invariant-loop-from : goal.invariant-loop-from

@@ -1,10 +1,6 @@
 -- `next_larger`: an entry that isn't larger than the largest so far leaves the largest of the rest as it was.
 use borrow.Author.Rules.{rules}
-use Prim.Native.Nat.{◌-◌, ◌≤◌}
-use mathlib.Core.Path.{◌≡◌, refl, ◌∙◌}
-use native.Mathlib.Omega.{arith}
-use lib.ListN.{length, drop}
-use Rattle.numbers.specs.Total.{largest}
+use mathlib.Core.Path.{◌∙◌}
 use Rattle.day.specs.Matrix.{largest_passed}
 use Rattle.day_scans.proofs.matrix.next_larger.Goals as goal
 

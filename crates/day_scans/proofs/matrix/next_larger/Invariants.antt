@@ -1,11 +1,8 @@
 -- `next_larger`: an entry that isn't larger than the largest so far leaves the largest of the rest as it was.
-use borrow.Author.Rules.{rules}
 use Prim.Native.Nat.{◌-◌, ◌≤◌}
-use mathlib.Core.Path.{◌≡◌, refl, ◌∙◌}
-use native.Mathlib.Omega.{arith}
+use mathlib.Core.Path.{◌≡◌}
 use lib.ListN.{length, drop}
 use Rattle.numbers.specs.Total.{largest}
-use Rattle.day.specs.Matrix.{largest_passed}
 use Rattle.day_scans.proofs.matrix.next_larger.Given as goal
 
 abbrev pub invariant-loop-i : goal.invariant-loop-i

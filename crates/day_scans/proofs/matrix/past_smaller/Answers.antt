@@ -1,10 +1,7 @@
 -- `past_smaller`: four entries of which none is larger than the largest so far leave the largest of the rest as it was.
 use borrow.Author.Rules.{rules}
-use Prim.Native.Nat.{◌-◌, ◌≤◌}
-use mathlib.Core.Path.{◌≡◌, refl, ◌∙◌}
+use mathlib.Core.Path.{refl, ◌∙◌}
 use native.Mathlib.Omega.{arith}
-use lib.ListN.{length, drop}
-use Rattle.numbers.specs.Total.{largest}
 use Rattle.tests.specs.All.{yes}
 use Rattle.day.specs.Matrix.{largest_passed_four}
 use mathlib.Core.Path.{ap}
@@ -24,13 +21,12 @@ returns-then-not-four_smaller-clause-distances_value c =
     c.loop-i.invariant.2
 
 pub loop-i-preserved : goal.loop-i-preserved
-loop-i-preserved c =
-    (
-      search rules,
-      search rules,
-      largest_passed_four _ c.loop-i.i _ (omega (arith, c.loop-i-test.true, c.loop-i.invariant.1))
-          (yes _ _ c.four_smaller.ensures (ap not c.if-not-four_smaller.false)) ∙ c.loop-i.invariant.2,
-    )
+loop-i-preserved c = (
+  search rules,
+  search rules,
+  largest_passed_four _ c.loop-i.i _ (omega (arith, c.loop-i-test.true, c.loop-i.invariant.1))
+      (yes _ _ c.four_smaller.ensures (ap not c.if-not-four_smaller.false)) ∙ c.loop-i.invariant.2,
+)
 
 pub returns-clause-lower_bound : goal.returns-clause-lower_bound
 returns-clause-lower_bound c =

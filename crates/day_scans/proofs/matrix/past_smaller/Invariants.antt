@@ -1,12 +1,8 @@
 -- `past_smaller`: four entries of which none is larger than the largest so far leave the largest of the rest as it was.
-use borrow.Author.Rules.{rules}
 use Prim.Native.Nat.{◌-◌, ◌≤◌}
-use mathlib.Core.Path.{◌≡◌, refl, ◌∙◌}
-use native.Mathlib.Omega.{arith}
+use mathlib.Core.Path.{◌≡◌}
 use lib.ListN.{length, drop}
 use Rattle.numbers.specs.Total.{largest}
-use Rattle.tests.specs.All.{yes}
-use Rattle.day.specs.Matrix.{largest_passed_four}
 use Rattle.day_scans.proofs.matrix.past_smaller.Given as goal
 
 abbrev pub invariant-loop-i : goal.invariant-loop-i

@@ -1,11 +1,9 @@
 -- `row_mirrored`: the entries passed equal their mirrors.
 use borrow.Author.Rules.{rules}
-use Prim.Native.Nat.{◌-◌, ◌≤◌}
-use mathlib.Core.Path.{◌≡◌, refl, sym, ◌∙◌}
-use mathlib.Core.Bool.{true}
-use lib.Ieee.{eq, ne}
-use Rattle.tests.specs.All.{all_below, all_none, all_more, all_fails, all_end, no, yes}
-use Rattle.day.specs.Matrix.{leg, mirrored}
+use mathlib.Core.Path.{sym}
+use lib.Ieee.{ne}
+use Rattle.tests.specs.All.{all_none, all_more, all_fails, all_end}
+use Rattle.day.specs.Matrix.{mirrored}
 use borrow.Author.Tests.{not-true, not-false}
 use native.Mathlib.Omega.{arith}
 use Rattle.day_scans.proofs.matrix.row_mirrored.Goals as goal
@@ -30,8 +28,7 @@ returns-then-get c =
 
 pub loop-to-preserved : goal.loop-to-preserved
 unfolding ne
-loop-to-preserved c =
-    (
+loop-to-preserved c = (
   search rules,
   all_more _ _ c.loop-to.invariant.1 (rw (← c.get.ensures, ← c.get-in-loop-to.ensures)
       (not-false _ c.if-get.false)),

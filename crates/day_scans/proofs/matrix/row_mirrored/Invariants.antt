@@ -1,13 +1,10 @@
 -- `row_mirrored`: the entries passed equal their mirrors.
-use borrow.Author.Rules.{rules}
 use Prim.Native.Nat.{◌-◌, ◌≤◌}
-use mathlib.Core.Path.{◌≡◌, refl, sym, ◌∙◌}
+use mathlib.Core.Path.{◌≡◌}
 use mathlib.Core.Bool.{true}
-use lib.Ieee.{eq, ne}
-use Rattle.tests.specs.All.{all_below, all_none, all_more, all_fails, all_end, no, yes}
-use Rattle.day.specs.Matrix.{leg, mirrored}
-use borrow.Author.Tests.{not-true, not-false}
-use native.Mathlib.Omega.{arith}
+use lib.Ieee.{eq}
+use Rattle.tests.specs.All.{all_below}
+use Rattle.day.specs.Matrix.{leg}
 use Rattle.day_scans.proofs.matrix.row_mirrored.Given as goal
 
 abbrev pub invariant-loop-to : goal.invariant-loop-to

@@ -1,11 +1,7 @@
 -- `scale`: the largest so far and the rest of the table make the largest of all, also where entries are passed over.
-use borrow.Author.Rules.{rules}
-use Prim.Native.Nat.{◌-◌, ◌≤◌}
-use mathlib.Core.Path.{◌≡◌, refl, sym, ◌∙◌}
+use mathlib.Core.Path.{sym, ◌∙◌}
 use native.Mathlib.Omega.{arith}
-use lib.ListN.{length, drop}
 use lib.Ieee.{of_bits}
-use Rattle.numbers.specs.Total.{largest}
 use Rattle.day.specs.Matrix.{scale_of, largest_turn, largest_end}
 use Rattle.day_scans.proofs.matrix.scale.Goals as goal
 

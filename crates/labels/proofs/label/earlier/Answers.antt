@@ -1,5 +1,4 @@
 -- `earlier`: one arm for each case of the two, and the test where both are labels.
-use borrow.Author.Rules.{rules}
 use mathlib.Core.Path.{refl, sym, ◌∙◌}
 use Rattle.tests.specs.Pick.{picked, other}
 use Rattle.labels.specs.Label.{earlier_of}

@@ -1,5 +1,4 @@
 -- `is_earlier`: the callees join the definition's tests.
-use borrow.Author.Rules.{rules}
 use Rattle.labels.specs.Label.{is_earlier}
 use Rattle.labels.proofs.label.is_earlier.Goals as goal
 

@@ -1,5 +1,4 @@
 -- `serve_at`: one arm for each case of the window.
-use borrow.Author.Rules.{rules}
 use Rattle.labels.specs.Label.{served_in}
 use Rattle.labels.proofs.label.serve_at.Goals as goal
 

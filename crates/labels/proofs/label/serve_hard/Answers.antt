@@ -1,5 +1,4 @@
 -- `serve_hard`: the test of lateness picks.
-use borrow.Author.Rules.{rules}
 use mathlib.Core.Path.{refl, sym, ◌∙◌}
 use Rattle.tests.specs.Pick.{picked, other}
 use Rattle.labels.specs.Label.{served_in}

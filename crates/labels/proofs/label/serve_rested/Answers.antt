@@ -1,5 +1,4 @@
 -- `serve_rested`: the test picks whether the break can start; if so, the stop is served after it.
-use borrow.Author.Rules.{rules}
 use lib.Ieee.{binary64}
 use lib.Ieee.Fits.{add-fits}
 use mathlib.Core.Path.{refl}

@@ -1,5 +1,4 @@
 -- `stop_of`: field by field; the window is what `time_window` ensures.
-use borrow.Author.Rules.{rules}
 use Rattle.labels.specs.Columns.{stop_of}
 use Rattle.labels.proofs.stop.stop_of.Goals as goal
 

@@ -1,8 +1,6 @@
 -- `sample::columns::demands` meets its contract: a store keeps the length, and the count of entries left falls.
 use mathlib.Core.Path.{◌≡◌, sym, subst}
-use Prim.Native.Nat.{◌-◌}
-use lib.ListN.{length, length-set}
-use borrow.Author.Rules.{rules}
+use lib.ListN.{length-set}
 use Rattle.sample.proofs.columns.demands.Goals as goal
 
 pub loop-i-preserved : goal.loop-i-preserved

@@ -1,8 +1,7 @@
 -- `sample::columns::demands` meets its contract: a store keeps the length, and the count of entries left falls.
-use mathlib.Core.Path.{◌≡◌, sym, subst}
+use mathlib.Core.Path.{◌≡◌}
 use Prim.Native.Nat.{◌-◌}
-use lib.ListN.{length, length-set}
-use borrow.Author.Rules.{rules}
+use lib.ListN.{length}
 use Rattle.sample.proofs.columns.demands.Given as goal
 
 abbrev pub invariant-loop-i : goal.invariant-loop-i

@@ -2,7 +2,6 @@
 use Prim.Native.Nat.{◌≤◌, ◌*◌}
 use native.Mathlib.Nat.{mul-le-mul}
 use native.Mathlib.Omega.{arith}
-use borrow.Author.Rules.{rules}
 use Rattle.sample.proofs.layout.square.Goals as goal
 
 most : (l : _) → l ≤ 64 → l * l ≤ 4096

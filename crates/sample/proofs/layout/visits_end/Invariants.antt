@@ -1,6 +1,5 @@
 -- `sample::layout::visits_end` is safe and ends: the lists left fall.
 use Prim.Native.Nat.{◌-◌}
-use borrow.Author.Rules.{rules}
 use Rattle.sample.proofs.layout.visits_end.Given as goal
 
 abbrev pub invariant-loop-i : goal.invariant-loop-i

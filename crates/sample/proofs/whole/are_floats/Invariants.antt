@@ -1,6 +1,5 @@
 -- `sample::whole::are_floats` is safe and ends: the words left fall.
 use Prim.Native.Nat.{◌-◌}
-use borrow.Author.Rules.{rules}
 use Rattle.sample.proofs.whole.are_floats.Given as goal
 
 abbrev pub invariant-loop-i : goal.invariant-loop-i

@@ -1,7 +1,6 @@
 -- `sample::whole::are_known` is safe and ends: the bytes left fall.
 use Prim.Native.Nat.{◌-◌}
 use lib.ListN.{length}
-use borrow.Author.Rules.{rules}
 use Rattle.sample.proofs.whole.are_known.Given as goal
 
 abbrev pub invariant-loop-i : goal.invariant-loop-i

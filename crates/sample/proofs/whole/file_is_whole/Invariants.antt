@@ -1,6 +1,5 @@
 -- `sample::whole::file_is_whole` is safe and ends: the days left fall.
 use Prim.Native.Nat.{◌-◌}
-use borrow.Author.Rules.{rules}
 use Rattle.sample.proofs.whole.file_is_whole.Given as goal
 
 abbrev pub invariant-loop-i : goal.invariant-loop-i

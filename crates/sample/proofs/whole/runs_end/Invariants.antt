@@ -1,6 +1,5 @@
 -- `sample::whole::runs_end` is safe and ends: the runs left fall.
 use Prim.Native.Nat.{◌-◌}
-use borrow.Author.Rules.{rules}
 use Rattle.sample.proofs.whole.runs_end.Given as goal
 
 abbrev pub invariant-loop-i : goal.invariant-loop-i

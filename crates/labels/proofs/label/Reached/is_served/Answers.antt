@@ -1,5 +1,4 @@
 -- `is_served`: one arm for each case.
-use borrow.Author.Rules.{rules}
 use Rattle.labels.specs.Label.{is_served}
 use Rattle.labels.proofs.label.Reached.is_served.Goals as goal
 

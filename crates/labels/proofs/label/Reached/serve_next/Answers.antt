@@ -1,5 +1,4 @@
 -- `serve_next`: one arm for each case.
-use borrow.Author.Rules.{rules}
 use Rattle.labels.specs.Label.{served_from}
 use Rattle.labels.proofs.label.Reached.serve_next.Goals as goal
 

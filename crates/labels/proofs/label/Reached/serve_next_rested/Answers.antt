@@ -1,5 +1,4 @@
 -- `serve_next_rested`: one arm for each case.
-use borrow.Author.Rules.{rules}
 use Rattle.labels.specs.Label.{served_rested_from}
 use Rattle.labels.proofs.label.Reached.serve_next_rested.Goals as goal
 
