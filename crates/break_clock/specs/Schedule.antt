@@ -1,5 +1,5 @@
 -- The clock with the driver's break, evaluation/schedule.rs. Assumes nothing.
-use Rattle.std.specs.Prelude.{ℕ, ◌+◌, ◌<◌, ◌≤◌, ◌≡◌, refl, List, Bool, true, false, cond, ◌||◌, length, get_or, drop, Float}
+use Rattle.std.specs.Prelude.{ℕ, ◌+◌, ◌<◌, ◌≤◌, ◌≡◌, refl, List, Bool, false, cond, ◌||◌, length, get_or, drop, Float}
 use Rattle.std.proofs.Common.{sym, ap, subst, ◌∙◌, true≢false}
 use Rattle.std.specs.Float.Ieee.{le}
 use Rattle.numbers.specs.Operations.{◌⊕◌, zero64}

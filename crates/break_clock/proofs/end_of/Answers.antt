@@ -1,5 +1,4 @@
 -- `end_of`: one arm for each case.
-use borrow.Author.Rules.{rules}
 use Rattle.break_clock.specs.Schedule.{end_of}
 use Rattle.break_clock.proofs.end_of.Goals as goal
 

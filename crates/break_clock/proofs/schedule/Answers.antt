@@ -1,15 +1,10 @@
 -- `schedule`: what is driven and the rest of the list make the whole walk. Where no label is left, none comes again.
 use borrow.Author.Rules.{rules}
 use native.Mathlib.Omega.{arith}
-use borrow.Author.Tests.{not-true}
-use Prim.Native.Nat.{ℕ, ◌+◌, ◌-◌, ◌≤◌, ◌<◌}
-use mathlib.Core.Path.{◌≡◌, refl, ap, ◌∙◌}
-use lib.ListN.{length, drop}
+use Prim.Native.Nat.{ℕ, ◌+◌}
+use mathlib.Core.Path.{refl, ap, ◌∙◌}
 use lib.Ieee.{of_bits}
-use Rattle.numbers.specs.Operations.{zero64}
-use Rattle.labels.specs.Columns.{columns}
-use Rattle.labels.specs.Walk.{walk, tour_of}
-use Rattle.break_clock.specs.Schedule.{begun, pushed, tick_break, schedule_turns, schedule_stops, schedule_ends, schedule_is}
+use Rattle.break_clock.specs.Schedule.{begun, pushed, schedule_turns, schedule_stops, schedule_ends, schedule_is}
 use Rattle.break_clock.proofs.schedule.Goals as goal
 
 pub loop-i-init : goal.loop-i-init
@@ -45,14 +40,13 @@ overflow_add-i c =
 
 pub loop-i-preserved : goal.loop-i-preserved
 unfolding pushed
-loop-i-preserved c =
-    (
-      search rules,
-      c.requires.depot_lt_l.1.below c.loop-i.i c.loop-i-test.true,
-      rw c.push-clock.ensures (c.requires.depot_lt_l.1.below c.loop-i.i c.loop-i-test.true),
-      rw c.push-clock.ensures (ap (λ (n : ℕ). n + 1) c.loop-i.invariant.3),
-      schedule_turns _ _ _ _ _ _ _ _ c.loop-i-test.true c.get-distance.ensures c.push-clock.ensures ∙ c.loop-i.invariant.4,
-    )
+loop-i-preserved c = (
+  search rules,
+  c.requires.depot_lt_l.1.below c.loop-i.i c.loop-i-test.true,
+  rw c.push-clock.ensures (c.requires.depot_lt_l.1.below c.loop-i.i c.loop-i-test.true),
+  rw c.push-clock.ensures (ap (λ (n : ℕ). n + 1) c.loop-i.invariant.3),
+  schedule_turns _ _ _ _ _ _ _ _ c.loop-i-test.true c.get-distance.ensures c.push-clock.ensures ∙ c.loop-i.invariant.4,
+)
 
 pub get-distance-requires-2 : goal.get-distance-requires-2
 get-distance-requires-2 c =

@@ -1,15 +1,11 @@
 -- `schedule`: what is driven and the rest of the list make the whole walk. Where no label is left, none comes again.
-use borrow.Author.Rules.{rules}
-use native.Mathlib.Omega.{arith}
-use borrow.Author.Tests.{not-true}
-use Prim.Native.Nat.{ℕ, ◌+◌, ◌-◌, ◌≤◌, ◌<◌}
-use mathlib.Core.Path.{◌≡◌, refl, ap, ◌∙◌}
+use Prim.Native.Nat.{◌-◌, ◌≤◌, ◌<◌}
+use mathlib.Core.Path.{◌≡◌}
 use lib.ListN.{length, drop}
-use lib.Ieee.{of_bits}
 use Rattle.numbers.specs.Operations.{zero64}
 use Rattle.labels.specs.Columns.{columns}
 use Rattle.labels.specs.Walk.{walk, tour_of}
-use Rattle.break_clock.specs.Schedule.{begun, pushed, tick_break, schedule_turns, schedule_stops, schedule_ends, schedule_is}
+use Rattle.break_clock.specs.Schedule.{tick_break}
 use Rattle.break_clock.proofs.schedule.Given as goal
 
 abbrev pub invariant-loop-i : goal.invariant-loop-i

@@ -1,6 +1,4 @@
 -- `contents_refusal`: the callees put the tests in the order of their numbers.
-use borrow.Author.Rules.{rules}
-use native.Mathlib.Omega.{arith}
 use Rattle.day_refusals.specs.Order.{contents_refusal}
 use Rattle.day_refusals.proofs.contents_refusal.Goals as goal
 

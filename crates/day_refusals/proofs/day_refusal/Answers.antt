@@ -1,6 +1,4 @@
 -- `day_refusal`: the size and the lengths are tested first, so that the rest may read the tables.
-use borrow.Author.Rules.{rules}
-use mathlib.Core.Path.{refl}
 use Rattle.tests.specs.All.{refuse, pass, no, yes}
 use Rattle.day_refusals.specs.Order.{day_refusal}
 use Rattle.day.specs.Fine.{size_fine, shaped}

@@ -1,5 +1,4 @@
 -- `lengths_ok`: the callees join the definition's tests.
-use borrow.Author.Rules.{rules}
 use Rattle.day.specs.Refusal.{lengths_ok}
 use Rattle.day_refusals.proofs.lengths_ok.Goals as goal
 

@@ -1,5 +1,4 @@
 -- `size_ok`: the callee joins the definition's two tests.
-use borrow.Author.Rules.{rules}
 use Rattle.day.specs.Refusal.{size_ok}
 use Rattle.day_refusals.proofs.size_ok.Goals as goal
 

@@ -1,5 +1,4 @@
 -- `tables_ok`: the callees join the definition's tests; L times L is at most 4096.
-use borrow.Author.Rules.{rules}
 use native.Mathlib.Nat.{mul-le-mul}
 use mir.Facts.{Fits-le, Fits-lit}
 use Rattle.day.specs.Refusal.{tables_ok}

@@ -1,5 +1,4 @@
 -- `boxes_at`: the visit is a location, so that the column has its entry, which is in range.
-use borrow.Author.Rules.{rules}
 use native.Mathlib.Omega.{arith}
 use Rattle.loads.proofs.boxes_at.Goals as goal
 

@@ -15,8 +15,7 @@ read_pos : (c : goal.Start) → pos 0 ≤ℤ to_z w32 (of_z w32 c.args.x)
 read_pos c = subst (λ (z : ℤ). pos 0 ≤ℤ z) (sym (to_z-of_z w32 c.args.x c.ranges.x)) (le_z_yes (true-T (le_z (pos 0) c.args.x) c.requires))
 
 pub overflow_cast-result : goal.overflow_cast-result
-overflow_cast-result c =
-    (
+overflow_cast-result c = (
   yes_non_neg (read_pos c),
   subst (λ (z : ℤ). Fits w64 (nat_abs z)) (sym (to_z-of_z w32 c.args.x c.ranges.x))
       (record { fits = lt_of_le_of_lt (nat_abs-le c.args.x c.ranges.x.sfits) (lit< tt) }),

@@ -1,8 +1,6 @@
 -- `load_of`: so far the load is that of the first k visits.
-use mathlib.Core.Path.{◌≡◌, refl, ap, ◌∙◌}
-use Prim.Native.Nat.{◌-◌, ◌≤◌}
+use mathlib.Core.Path.{refl, ap, ◌∙◌}
 use native.Mathlib.Omega.{arith}
-use lib.ListN.{length, take}
 use lib.Seq.{take_all}
 use Rattle.edits.specs.Total.{total}
 use Rattle.loads.specs.Loads.{boxes_of}

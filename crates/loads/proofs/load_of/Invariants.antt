@@ -1,12 +1,9 @@
 -- `load_of`: so far the load is that of the first k visits.
-use mathlib.Core.Path.{◌≡◌, refl, ap, ◌∙◌}
+use mathlib.Core.Path.{◌≡◌}
 use Prim.Native.Nat.{◌-◌, ◌≤◌}
-use native.Mathlib.Omega.{arith}
 use lib.ListN.{length, take}
-use lib.Seq.{take_all}
 use Rattle.edits.specs.Total.{total}
 use Rattle.loads.specs.Loads.{boxes_of}
-use Rattle.loads.proofs.Boxes.{load_small, load_more, sum_small}
 use Rattle.loads.proofs.load_of.Given as goal
 
 abbrev pub invariant-loop-k : goal.invariant-loop-k

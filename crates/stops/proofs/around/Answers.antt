@@ -1,6 +1,5 @@
 -- `around`: the two stops read.
 use Rattle.deltas.specs.Deltas.{around}
-use borrow.Author.Rules.{rules}
 use Rattle.stops.proofs.around.Goals as goal
 
 pub returns : goal.returns

@@ -1,6 +1,5 @@
 -- `detour`: the three legs read, in the order of the definition.
 use Rattle.deltas.specs.Changes.{detour}
-use borrow.Author.Rules.{rules}
 use Rattle.stops.proofs.detour.Goals as goal
 
 pub returns : goal.returns

@@ -1,6 +1,5 @@
 -- `ends_of`: the two stops read.
 use Rattle.deltas.specs.Deltas.{ends_of}
-use borrow.Author.Rules.{rules}
 use Rattle.stops.proofs.ends_of.Goals as goal
 
 pub returns : goal.returns

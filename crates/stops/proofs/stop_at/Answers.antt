@@ -1,6 +1,5 @@
 -- `stop_at`: inside the list the visit, behind it the depot.
 use Rattle.deltas.proofs.Stops.{stop_visit, stop_depot}
-use borrow.Author.Rules.{rules}
 use Rattle.stops.proofs.stop_at.Goals as goal
 
 pub returns-then-k-list : goal.returns-then-k-list

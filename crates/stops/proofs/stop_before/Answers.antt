@@ -2,7 +2,6 @@
 use Rattle.deltas.specs.Deltas.{stop_before}
 use Rattle.deltas.proofs.Stops.{before_visit}
 use native.Mathlib.Omega.{arith}
-use borrow.Author.Rules.{rules}
 use Rattle.stops.proofs.stop_before.Goals as goal
 
 pub returns-then-k-eq0 : goal.returns-then-k-eq0

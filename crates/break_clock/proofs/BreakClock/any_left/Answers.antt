@@ -1,5 +1,4 @@
 -- `any_left`: the callees join the definition's two tests.
-use borrow.Author.Rules.{rules}
 use Rattle.break_clock.specs.Schedule.{any_left_of}
 use Rattle.break_clock.proofs.BreakClock.any_left.Goals as goal
 

@@ -1,5 +1,4 @@
 -- `finish`: the break is left out where the test says so, and else the label with it decides.
-use borrow.Author.Rules.{rules}
 use Rattle.tests.specs.Pick.{picked, other}
 use Rattle.break_clock.specs.Schedule.{finished, end_before}
 use Rattle.break_clock.proofs.BreakClock.finish.Goals as goal

@@ -1,5 +1,4 @@
 -- `new`: the definition, field by field.
-use borrow.Author.Rules.{rules}
 use Rattle.break_clock.specs.Schedule.{begun}
 use Rattle.break_clock.proofs.BreakClock.new.Goals as goal
 

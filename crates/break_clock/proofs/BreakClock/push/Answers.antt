@@ -1,5 +1,4 @@
 -- `push`: the callees give the travel, the stop and the three labels, in the definition's order.
-use borrow.Author.Rules.{rules}
 use native.Mathlib.Omega.{arith}
 use Rattle.break_clock.specs.Schedule.{pushed}
 use Rattle.labels.specs.Columns.{stop_in}

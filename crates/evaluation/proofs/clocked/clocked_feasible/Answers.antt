@@ -1,5 +1,4 @@
 -- `clocked_feasible`: one arm for each case of the break; the limits are asked of the clock's end.
-use borrow.Author.Rules.{rules}
 use mathlib.Core.Path.{ap, ◌∙◌}
 use Rattle.day.specs.declared.vehicle.Rest.TheVariants.{NoBreak}
 use Rattle.evaluation.specs.Route.{outcome, allowed, feasible, feasible_by}

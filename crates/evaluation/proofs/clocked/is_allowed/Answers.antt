@@ -1,5 +1,4 @@
 -- `is_allowed`: one arm for each case.
-use borrow.Author.Rules.{rules}
 use Rattle.evaluation.specs.Route.{allowed}
 use Rattle.evaluation.proofs.clocked.is_allowed.Goals as goal
 

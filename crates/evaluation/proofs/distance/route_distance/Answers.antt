@@ -1,11 +1,9 @@
 -- `route_distance`: what is driven and the rest of the list make the whole distance.
 use borrow.Author.Rules.{rules}
 use native.Mathlib.Omega.{arith}
-use Prim.Native.Nat.{◌-◌, ◌≤◌, ◌<◌}
-use mathlib.Core.Path.{◌≡◌, refl, ◌∙◌}
-use lib.ListN.{length, drop}
+use mathlib.Core.Path.{refl, ◌∙◌}
 use lib.Ieee.{of_bits}
-use Rattle.evaluation.specs.Distance.{onward_distance, route_distance, distance_none, distance_first, distance_turn, distance_end}
+use Rattle.evaluation.specs.Distance.{distance_none, distance_first, distance_turn, distance_end}
 use Rattle.evaluation.proofs.distance.route_distance.Goals as goal
 
 pub returns-then-list-eq0 : goal.returns-then-list-eq0

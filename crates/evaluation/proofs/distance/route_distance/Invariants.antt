@@ -1,11 +1,8 @@
 -- `route_distance`: what is driven and the rest of the list make the whole distance.
-use borrow.Author.Rules.{rules}
-use native.Mathlib.Omega.{arith}
 use Prim.Native.Nat.{◌-◌, ◌≤◌, ◌<◌}
-use mathlib.Core.Path.{◌≡◌, refl, ◌∙◌}
+use mathlib.Core.Path.{◌≡◌}
 use lib.ListN.{length, drop}
-use lib.Ieee.{of_bits}
-use Rattle.evaluation.specs.Distance.{onward_distance, route_distance, distance_none, distance_first, distance_turn, distance_end}
+use Rattle.evaluation.specs.Distance.{onward_distance, route_distance}
 use Rattle.evaluation.proofs.distance.route_distance.Given as goal
 
 abbrev pub invariant-loop-i : goal.invariant-loop-i

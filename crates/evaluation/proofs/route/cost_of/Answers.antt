@@ -1,5 +1,4 @@
 -- `cost_of`: one arm for each case.
-use borrow.Author.Rules.{rules}
 use Rattle.evaluation.specs.Route.{cost_of}
 use Rattle.evaluation.proofs.route.cost_of.Goals as goal
 

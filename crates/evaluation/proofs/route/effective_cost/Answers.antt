@@ -1,5 +1,4 @@
 -- `effective_cost`: the clock of the list, evaluated, and its price.
-use borrow.Author.Rules.{rules}
 use mathlib.Core.Path.{ap, ◌∙◌}
 use Rattle.evaluation.specs.Route.{eval, evaluated, cost_of, effective_cost}
 use Rattle.evaluation.proofs.route.effective_cost.Goals as goal

@@ -1,5 +1,4 @@
 -- `evaluate`: one arm for each case, and the limits' test.
-use borrow.Author.Rules.{rules}
 use mathlib.Core.Path.{refl, sym, ◌∙◌}
 use Rattle.tests.specs.Pick.{picked, other}
 use Rattle.evaluation.specs.Route.{evaluated}

@@ -1,5 +1,4 @@
 -- `outcome_of`: one arm for each case of the break.
-use borrow.Author.Rules.{rules}
 use Rattle.evaluation.specs.Route.{outcome}
 use Rattle.evaluation.proofs.route.outcome_of.Goals as goal
 

@@ -1,5 +1,4 @@
 -- `route_checks_needed`: the callees join the definition's two tests.
-use borrow.Author.Rules.{rules}
 use Rattle.evaluation.specs.Route.{checks_needed}
 use Rattle.evaluation.proofs.route.route_checks_needed.Goals as goal
 

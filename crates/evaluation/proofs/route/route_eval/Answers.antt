@@ -1,5 +1,4 @@
 -- `route_eval`: one arm for each case of the break; the clock's end is evaluated.
-use borrow.Author.Rules.{rules}
 use mathlib.Core.Path.{ap, ◌∙◌}
 use Rattle.day.specs.declared.vehicle.Rest.TheVariants.{NoBreak}
 use Rattle.evaluation.specs.Route.{outcome, evaluated, eval, eval_by}

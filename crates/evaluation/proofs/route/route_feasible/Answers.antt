@@ -1,5 +1,4 @@
 -- `route_feasible`: where nothing but the distance can fail, the distance decides; else the clock does.
-use borrow.Author.Rules.{rules}
 use lib.Ieee.{of_bits}
 use mathlib.Core.Path.{sym, ◌∙◌}
 use Rattle.evaluation.specs.Unclocked.{feasible-unclocked}

@@ -1,15 +1,10 @@
 -- `unbroken_eval`: as in `unbroken_schedule`, what is driven and the rest of the list make the whole walk, and its end is evaluated.
 use borrow.Author.Rules.{rules}
 use native.Mathlib.Omega.{arith}
-use Prim.Native.Nat.{◌-◌, ◌≤◌, ◌<◌}
-use mathlib.Core.Path.{◌≡◌, refl, ap, ◌∙◌}
-use lib.ListN.{length, drop}
+use mathlib.Core.Path.{refl, ap, ◌∙◌}
 use lib.Ieee.{of_bits}
-use Rattle.numbers.specs.Operations.{zero64}
-use Rattle.labels.specs.Columns.{columns, stop_in}
-use Rattle.labels.specs.Walk.{walk, tour_of}
-use Rattle.evaluation.specs.Route.{evaluated, tick, tick_is, unbroken_turns, unbroken_stops, unbroken_ends, unbroken_is}
-use Rattle.labels.specs.declared.label.Reached.TheVariants.{Served}
+use Rattle.labels.specs.Columns.{stop_in}
+use Rattle.evaluation.specs.Route.{evaluated, tick_is, unbroken_turns, unbroken_stops, unbroken_ends, unbroken_is}
 use Rattle.evaluation.proofs.route.unbroken_eval.Goals as goal
 
 pub loop-i-init : goal.loop-i-init
@@ -46,14 +41,13 @@ overflow_add-i c =
     omega (arith, c.loop-i-test.true, c.requires.depot_lt_l.1.few)
 
 pub loop-i-preserved : goal.loop-i-preserved
-loop-i-preserved c =
-    (
-      search rules,
-      c.requires.depot_lt_l.1.below c.loop-i.i c.loop-i-test.true,
-      unbroken_turns _ _ _ _ _ _ _ _ c.loop-i-test.true c.get-distance.ensures
-          (tick_is _ _ _ _ _ _ _ _ c.travel_time-travel.ensures c.stop_of-stop.ensures c.serve-reached.ensures c.in-Served.is)
-          ∙ c.loop-i.invariant.2,
-    )
+loop-i-preserved c = (
+  search rules,
+  c.requires.depot_lt_l.1.below c.loop-i.i c.loop-i-test.true,
+  unbroken_turns _ _ _ _ _ _ _ _ c.loop-i-test.true c.get-distance.ensures
+      (tick_is _ _ _ _ _ _ _ _ c.travel_time-travel.ensures c.stop_of-stop.ensures c.serve-reached.ensures c.in-Served.is)
+      ∙ c.loop-i.invariant.2,
+)
 
 pub get-requires : goal.get-requires
 get-requires c =

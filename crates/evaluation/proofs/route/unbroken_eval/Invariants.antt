@@ -1,14 +1,11 @@
 -- `unbroken_eval`: as in `unbroken_schedule`, what is driven and the rest of the list make the whole walk, and its end is evaluated.
-use borrow.Author.Rules.{rules}
-use native.Mathlib.Omega.{arith}
 use Prim.Native.Nat.{◌-◌, ◌≤◌, ◌<◌}
-use mathlib.Core.Path.{◌≡◌, refl, ap, ◌∙◌}
+use mathlib.Core.Path.{◌≡◌}
 use lib.ListN.{length, drop}
-use lib.Ieee.{of_bits}
 use Rattle.numbers.specs.Operations.{zero64}
-use Rattle.labels.specs.Columns.{columns, stop_in}
+use Rattle.labels.specs.Columns.{columns}
 use Rattle.labels.specs.Walk.{walk, tour_of}
-use Rattle.evaluation.specs.Route.{evaluated, tick, tick_is, unbroken_turns, unbroken_stops, unbroken_ends, unbroken_is}
+use Rattle.evaluation.specs.Route.{tick}
 use Rattle.labels.specs.declared.label.Reached.TheVariants.{Served}
 use Rattle.evaluation.proofs.route.unbroken_eval.Given as goal
 

@@ -1,5 +1,4 @@
 -- `is_clockless`: nothing is set besides the distance limit.
-use borrow.Author.Rules.{rules}
 use Rattle.evaluation.specs.Unclocked.{clockless}
 use Rattle.evaluation.proofs.unclocked.is_clockless.Goals as goal
 

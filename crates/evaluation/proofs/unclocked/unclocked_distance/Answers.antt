@@ -1,11 +1,9 @@
 -- `unclocked_distance`: what is driven and the rest of the list make the whole distance; a visit with a window ends it.
 use borrow.Author.Rules.{rules}
 use native.Mathlib.Omega.{arith}
-use Prim.Native.Nat.{◌-◌, ◌≤◌, ◌<◌}
-use mathlib.Core.Path.{◌≡◌, refl, sym, ◌∙◌}
-use lib.ListN.{length, drop}
+use mathlib.Core.Path.{refl, sym, ◌∙◌}
 use lib.Ieee.{of_bits}
-use Rattle.evaluation.specs.Unclocked.{onward_unclocked, unclocked, unclocked_stops, unclocked_turn, unclocked_end}
+use Rattle.evaluation.specs.Unclocked.{unclocked, unclocked_stops, unclocked_turn, unclocked_end}
 use Rattle.evaluation.proofs.unclocked.unclocked_distance.Goals as goal
 
 pub loop-i-init : goal.loop-i-init
@@ -34,12 +32,11 @@ overflow_add-i c =
     omega (arith, c.loop-i-test.true, c.requires.3.few)
 
 pub loop-i-preserved : goal.loop-i-preserved
-loop-i-preserved c =
-    (
-      search rules,
-      c.requires.3.below c.loop-i.i c.loop-i-test.true,
-      unclocked_turn _ _ _ _ _ _ _ _ _ c.loop-i-test.true (sym c.flag1.ensures ∙ c.if-flag1.false) c.get-distance.ensures ∙ c.loop-i.invariant.2,
-    )
+loop-i-preserved c = (
+  search rules,
+  c.requires.3.below c.loop-i.i c.loop-i-test.true,
+  unclocked_turn _ _ _ _ _ _ _ _ _ c.loop-i-test.true (sym c.flag1.ensures ∙ c.if-flag1.false) c.get-distance.ensures ∙ c.loop-i.invariant.2,
+)
 
 pub get-requires : goal.get-requires
 get-requires c =

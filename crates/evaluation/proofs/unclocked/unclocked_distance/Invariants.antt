@@ -1,11 +1,8 @@
 -- `unclocked_distance`: what is driven and the rest of the list make the whole distance; a visit with a window ends it.
-use borrow.Author.Rules.{rules}
-use native.Mathlib.Omega.{arith}
 use Prim.Native.Nat.{◌-◌, ◌≤◌, ◌<◌}
-use mathlib.Core.Path.{◌≡◌, refl, sym, ◌∙◌}
+use mathlib.Core.Path.{◌≡◌}
 use lib.ListN.{length, drop}
-use lib.Ieee.{of_bits}
-use Rattle.evaluation.specs.Unclocked.{onward_unclocked, unclocked, unclocked_stops, unclocked_turn, unclocked_end}
+use Rattle.evaluation.specs.Unclocked.{onward_unclocked, unclocked}
 use Rattle.evaluation.proofs.unclocked.unclocked_distance.Given as goal
 
 abbrev pub invariant-loop-i : goal.invariant-loop-i
