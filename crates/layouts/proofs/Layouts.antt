@@ -6,7 +6,6 @@ use Prim.Native.Nat.{ℕ, ◌+◌, ◌-◌, ◌≤◌, ◌<◌}
 use native.Mathlib.Omega.{arith}
 use native.Mathlib.Numerals.{add-one}
 use borrow.Author.Tests.{lt-ltb, ltb-true}
-use native.Mathlib.Nat.{sub-zero}
 use lib.Dec.{ltb}
 use lib.ListN.{length, take, drop, get_or, length-append, length-reverse, get_or-append}
 use lib.Seq.{slice, slice_empty, length-slice, length-take-le, take-take, take-append-le, drop-append-le, get_or-take, get_or-drop, get_or-append-add}

@@ -1,9 +1,8 @@
 -- A list laid out passes as it does from the end of a head that it shares: a walk goes on from where its first part ended. Assumes nothing.
-use Prim.Native.Nat.{ℕ, ◌+◌, ◌<◌, ◌≤◌}
-use native.Mathlib.Omega.{arith}
-use mathlib.Core.Path.{◌≡◌, refl, sym, ap, ◌∙◌}
-use mathlib.Core.Bool.{Bool, false}
-use mathlib.Core.List.{List, [], ◌∷◌, ◌++◌}
+use Prim.Native.Nat.{ℕ, ◌+◌, ◌<◌}
+use mathlib.Core.Path.{◌≡◌, sym, ap, ◌∙◌}
+use mathlib.Core.Bool.{false}
+use mathlib.Core.List.{List}
 use lib.ListN.{length, get_or, take, drop, take-append-drop}
 use lib.Ieee.{Float}
 use Rattle.numbers.specs.Operations.{◌⊕◌, zero64}
@@ -21,7 +20,6 @@ use Rattle.labels.specs.declared.label.Taken.TheVariants.{Untaken}
 use Rattle.labels.specs.declared.label.Reached.{Reached}
 use Rattle.labels.specs.declared.label.Reached.TheVariants.{Served, Missed}
 use Rattle.break_clock.specs.declared.Outcome.{Outcome}
-use Rattle.break_clock.specs.declared.Outcome.TheVariants.{Impossible}
 use Rattle.heads.specs.Head.{tour_at, Driven}
 use Rattle.heads.specs.declared.Head.{Head}
 use Rattle.layouts.specs.Layout.{passes_from}

@@ -1,25 +1,18 @@
 -- Every neighbour is a layout of the list, so it keeps the list's visits and its head. Assumes nothing.
-use mathlib.Core.Path.{◌≡◌, refl, sym, ap, ◌∙◌}
+use mathlib.Core.Path.{◌≡◌, sym, ap, ◌∙◌}
 use mathlib.Core.Logic.{inl, inr}
-use mathlib.Core.Bool.{Bool, true, false}
-use mathlib.Core.List.{List, ◌++◌, reverse, append_assoc, append-nil}
+use mathlib.Core.Bool.{true, false}
+use mathlib.Core.List.{List, ◌++◌, append_assoc}
 use Prim.Native.Nat.{ℕ, ◌+◌, ◌-◌, ◌≤◌, ◌<◌}
 use native.Mathlib.Numerals.{add-one}
 use native.Mathlib.Omega.{arith}
-use borrow.Author.Tests.{lt-ltb, le-ltb, ltb-true}
+use borrow.Author.Tests.{lt-ltb, le-ltb}
 use native.Mathlib.Nat.{sub-zero}
-use lib.Dec.{ltb}
-use lib.ListN.{length, take, drop, get_or, length-drop}
-use lib.Seq.{slice, slice_empty, length-take-le, take-take, take-append-le, drop-append-le, get_or-drop}
-use Rattle.edits.specs.Total.{total, sums, SameVisits}
+use lib.ListN.{length, take, drop, length-drop}
+use lib.Seq.{slice, get_or-drop}
 use Rattle.edits.specs.Edits.{reversed}
-use Rattle.edits.proofs.Cuts.{cut4, to_end}
-use Rattle.edits.proofs.Kept.{same_length, same_each}
-use Rattle.edits.proofs.Chain.{appended_on, appended_whole}
 use Rattle.labels.specs.Columns.{Visits}
-use Rattle.descent.specs.Permitted.{Arrangement, turn, arranged}
 use Rattle.descent.specs.Within.{put_before_lem}
-use Rattle.descent.proofs.Kept.{total-arranged}
 use Rattle.neighbours.specs.Neighbours.{made}
 use Rattle.neighbours.specs.Places.{way_of, meant, Inside, Lays}
 use Rattle.neighbours.specs.declared.Place.{Place}

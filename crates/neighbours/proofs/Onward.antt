@@ -162,8 +162,7 @@ pub cut-first : (n i : ℕ) → i + 2 < n
     → (rest n (At (Reconnected i (i + 1) (i + 2) 0)) ≡ map reconnection (each (firsts_from n i) ways)) × InsideAny n (At (Reconnected i (i + 1) (i + 2) 0))
 unfolding rest onward InsideAny Inside
 cut-first n i h =
-    let two : i + 2 ≡ suc (suc i) = omega arith in
-    (
+    let two : i + 2 ≡ suc (suc i) = omega arith in (
       ap (λ j. map reconnection (reconnections_from n i j (i + 2) 0)) (add-one i)
           ∙ ap (λ k. map reconnection (reconnections_from n i (suc i) k 0)) two
           ∙ rw (first-cut n i (omega arith)),

@@ -3,7 +3,6 @@ use mathlib.Core.Path.{refl}
 use lib.Ieee.{of_bits}
 use Rattle.break_clock.specs.Schedule.{begun}
 use Rattle.broken_heads.specs.Head.{reached_as, clock_of}
-use borrow.Author.Rules.{rules}
 use Rattle.broken_heads.proofs.broken_start.Goals as goal
 
 pub returns : goal.returns

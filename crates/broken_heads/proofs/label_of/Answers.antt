@@ -1,7 +1,6 @@
 -- `label_of`: one arm for each case.
 use mathlib.Core.Path.{sym}
 use Rattle.broken_heads.specs.Head.{reached_as}
-use borrow.Author.Rules.{rules}
 use Rattle.broken_heads.proofs.label_of.Goals as goal
 
 pub returns-in-Missed : goal.returns-in-Missed

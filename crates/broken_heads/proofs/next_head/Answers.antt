@@ -1,6 +1,5 @@
 -- `next_head`: the callees give the way, the travel, the stop and the three labels, in the definition's order.
 use mathlib.Core.Path.{refl}
-use borrow.Author.Rules.{rules}
 use native.Mathlib.Omega.{arith}
 use Rattle.labels.specs.Columns.{stop_in}
 use Rattle.break_clock.specs.Schedule.{pushed}
@@ -25,21 +24,20 @@ overflow_add-result c =
 
 pub returns : goal.returns
 unfolding clock_of pushed
-returns c =
-    (
-      rw (
-        c.label_of.ensures,
-        c.label_of-2.ensures,
-        ← c.get-leg.ensures,
-        ← c.travel_time-travel.ensures,
-        ← c.stop_of-stop.ensures,
-        ← c.reached_as-before.ensures,
-        ← c.reached_as-after.ensures,
-        ← c.serve_next-skipped.ensures,
-        ← c.serve_next_rested-here.ensures,
-        ← c.serve_next-carried.ensures,
-        ← c.earlier.ensures,
-      ),
-      refl,
-      refl,
-    )
+returns c = (
+  rw (
+    c.label_of.ensures,
+    c.label_of-2.ensures,
+    ← c.get-leg.ensures,
+    ← c.travel_time-travel.ensures,
+    ← c.stop_of-stop.ensures,
+    ← c.reached_as-before.ensures,
+    ← c.reached_as-after.ensures,
+    ← c.serve_next-skipped.ensures,
+    ← c.serve_next_rested-here.ensures,
+    ← c.serve_next-carried.ensures,
+    ← c.earlier.ensures,
+  ),
+  refl,
+  refl,
+)

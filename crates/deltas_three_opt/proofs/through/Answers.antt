@@ -1,6 +1,5 @@
 -- `through`: the three legs read, in the order of the definition.
 use Rattle.deltas.specs.Changes.{through}
-use borrow.Author.Rules.{rules}
 use Rattle.deltas_three_opt.proofs.through.Goals as goal
 
 pub returns : goal.returns

@@ -1,6 +1,5 @@
 -- `through_if`: the arm taken is the definition's.
 use Rattle.deltas.specs.Changes.{through_if}
-use borrow.Author.Rules.{rules}
 use Rattle.deltas_three_opt.proofs.through_if.Goals as goal
 
 pub returns-then-exchanged : goal.returns-then-exchanged

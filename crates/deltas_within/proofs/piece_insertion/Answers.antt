@@ -1,12 +1,10 @@
 -- `piece_insertion`: the leg at the position, the ends of the piece, and the detour.
 use Rattle.deltas.proofs.Stops.{around_placed, ends_placed}
 use Rattle.deltas.specs.Deltas.{piece_insertion}
-use borrow.Author.Rules.{rules}
 use Rattle.deltas_within.proofs.piece_insertion.Goals as goal
 
 pub detour-requires : goal.detour-requires
-detour-requires c =
-    (
+detour-requires c = (
   c.requires.square.0,
   rw c.around-stops.ensures
       (around_placed _ _ _ c.requires.square.1 _ _),

@@ -1,12 +1,10 @@
 -- `removal_gain`: the stops around the piece, its ends, and the detour.
 use Rattle.deltas.proofs.Stops.{around_placed, ends_placed}
 use Rattle.deltas.specs.Deltas.{removal_gain}
-use borrow.Author.Rules.{rules}
 use Rattle.deltas_within.proofs.removal_gain.Goals as goal
 
 pub detour-requires : goal.detour-requires
-detour-requires c =
-    (
+detour-requires c = (
   c.requires.square.0,
   rw c.around-stops.ensures
       (around_placed _ _ _ c.requires.square.1 _ _),

@@ -3,7 +3,6 @@ use Rattle.deltas.proofs.Shortcut.{marked_nothing}
 use lib.Ieee.{of_bits}
 use mathlib.Core.Path.{sym}
 use Prim.Native.Nat.{◌+◌}
-use borrow.Author.Rules.{rules}
 use Rattle.deltas_within.proofs.reversal_delta.Goals as goal
 
 pub returns-then-symmetric : goal.returns-then-symmetric

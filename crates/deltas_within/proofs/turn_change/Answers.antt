@@ -1,6 +1,5 @@
 -- `turn_change`: the four legs read, in the order of the definition.
 use Rattle.deltas.specs.Changes.{turn_change}
-use borrow.Author.Rules.{rules}
 use Rattle.deltas_within.proofs.turn_change.Goals as goal
 
 pub returns : goal.returns

@@ -1,5 +1,4 @@
 -- `turned_leg`: the two legs read, in the order of the definition.
-use borrow.Author.Rules.{rules}
 use Rattle.deltas_within.proofs.turned_leg.Goals as goal
 
 pub returns : goal.returns

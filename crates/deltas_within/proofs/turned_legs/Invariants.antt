@@ -1,14 +1,10 @@
 -- `turned_legs`: the sum so far and the legs still ahead make the whole piece's.
-use mathlib.Core.Path.{◌≡◌, sym, ◌∙◌}
+use mathlib.Core.Path.{◌≡◌}
 use Prim.Native.Nat.{◌+◌, ◌-◌, ◌≤◌}
-use native.Mathlib.Omega.{arith}
 use lib.ListN.{get_or}
 use lib.Seq.{slice}
-use lib.Ieee.{of_bits}
 use Rattle.day.specs.Matrix.{leg}
 use Rattle.deltas.specs.Changes.{turned_legs, reversal_delta}
-use Rattle.deltas_within.proofs.Turning.{turning_starts, turning_turns, turning_ends}
-use borrow.Author.Rules.{rules}
 use Rattle.deltas_within.proofs.turned_legs.Given as goal
 
 abbrev pub invariant-loop-k : goal.invariant-loop-k

@@ -1,12 +1,10 @@
 -- `two_opt_delta`: the stops around the piece, its ends, what turning changes inside, and the sum of legs.
 use Rattle.deltas.proofs.Stops.{around_placed, ends_placed}
 use Rattle.deltas.specs.Deltas.{two_opt_delta}
-use borrow.Author.Rules.{rules}
 use Rattle.deltas_within.proofs.two_opt_delta.Goals as goal
 
 pub turn_change-requires : goal.turn_change-requires
-turn_change-requires c =
-    (
+turn_change-requires c = (
   c.requires.square.0,
   rw c.around-stops.ensures
       (around_placed _ _ _ c.requires.square.2 _ _),

@@ -1,5 +1,4 @@
 -- `passes`: where no check is needed the definition doesn't ask; else the callee answers.
-use borrow.Author.Rules.{rules}
 use borrow.Author.Tests.{not-true, not-false}
 use Rattle.tests.specs.All.{off, on}
 use Rattle.engine.specs.Engine.{passing}

@@ -1,16 +1,11 @@
 -- `cost_from`: what is driven and the rest of the visits make the whole walk from the head. A visit that is missed leaves the rest missed.
 use native.Mathlib.Omega.{arith}
-use Prim.Native.Nat.{◌-◌, ◌≤◌, ◌<◌}
-use mathlib.Core.Path.{◌≡◌, refl, ap, ◌∙◌}
-use lib.ListN.{length, drop}
-use Rattle.labels.specs.Columns.{columns, stop_in}
-use Rattle.labels.specs.Walk.{walk, tour_of}
-use Rattle.evaluation.specs.Route.{tick, tick_is, home, evaluated, cost_of, unbroken_turns, unbroken_stops, unbroken_ends}
-use Rattle.labels.specs.declared.label.Reached.TheVariants.{Served}
+use mathlib.Core.Path.{refl, ap, ◌∙◌}
+use Rattle.labels.specs.Columns.{stop_in}
+use Rattle.evaluation.specs.Route.{tick_is, home, evaluated, cost_of, unbroken_turns, unbroken_stops, unbroken_ends}
 use Rattle.break_clock.specs.declared.Outcome.{Outcome}
 use Rattle.head_prices.specs.Prices.{cost_from}
 use Rattle.head_prices.proofs.Prices.{end_costs, missed_costs}
-use borrow.Author.Rules.{rules}
 use Rattle.head_prices.proofs.cost_from.Goals as goal
 
 pub loop-i-init : goal.loop-i-init
@@ -47,14 +42,13 @@ overflow_add-i c =
     omega (arith, c.loop-i-test.true, c.requires.depot_lt_l.2.few)
 
 pub loop-i-preserved : goal.loop-i-preserved
-loop-i-preserved c =
-    (
-      omega (arith, c.loop-i-test.true),
-      c.requires.depot_lt_l.2.below c.loop-i.i c.loop-i-test.true,
-      unbroken_turns _ _ _ _ _ _ _ _ c.loop-i-test.true c.get-distance.ensures
-          (tick_is _ _ _ _ _ _ _ _ c.travel_time-travel.ensures c.stop_of-stop.ensures c.serve-reached.ensures c.in-Served.is)
-          ∙ c.loop-i.invariant.2,
-    )
+loop-i-preserved c = (
+  omega (arith, c.loop-i-test.true),
+  c.requires.depot_lt_l.2.below c.loop-i.i c.loop-i-test.true,
+  unbroken_turns _ _ _ _ _ _ _ _ c.loop-i-test.true c.get-distance.ensures
+      (tick_is _ _ _ _ _ _ _ _ c.travel_time-travel.ensures c.stop_of-stop.ensures c.serve-reached.ensures c.in-Served.is)
+      ∙ c.loop-i.invariant.2,
+)
 
 pub get-distance-requires-2 : goal.get-distance-requires-2
 get-distance-requires-2 c =

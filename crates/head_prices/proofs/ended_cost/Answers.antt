@@ -2,7 +2,6 @@
 use mathlib.Core.Path.{refl, sym, ◌∙◌}
 use Rattle.tests.specs.Pick.{picked, other}
 use Rattle.head_prices.specs.Prices.{ended_cost}
-use borrow.Author.Rules.{rules}
 use Rattle.head_prices.proofs.ended_cost.Goals as goal
 
 pub returns-then-allow : goal.returns-then-allow

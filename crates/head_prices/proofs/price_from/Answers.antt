@@ -1,7 +1,6 @@
 -- `price_from`: one arm for each case of the break.
 use mathlib.Core.Path.{◌∙◌}
 use Rattle.head_prices.proofs.Prices.{price_unbroken, price_broken}
-use borrow.Author.Rules.{rules}
 use Rattle.head_prices.proofs.price_from.Goals as goal
 
 pub returns-in-NoBreak : goal.returns-in-NoBreak

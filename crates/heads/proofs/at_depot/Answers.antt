@@ -1,7 +1,6 @@
 -- `at_depot`: field by field.
 use lib.Ieee.{of_bits}
 use Rattle.heads.specs.Head.{at_depot}
-use borrow.Author.Rules.{rules}
 use Rattle.heads.proofs.at_depot.Goals as goal
 
 pub returns : goal.returns

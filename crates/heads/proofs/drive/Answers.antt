@@ -1,15 +1,11 @@
 -- `drive`: what is driven so far is the walk over the visits from `from` on. A visit that can't be served ends it before that visit.
 use native.Mathlib.Omega.{arith}
-use Prim.Native.Nat.{◌-◌, ◌≤◌, ◌<◌}
-use mathlib.Core.Path.{◌≡◌}
+use Prim.Native.Nat.{◌<◌}
 use lib.ListN.{length}
-use lib.Seq.{slice, slice_empty}
-use Rattle.labels.specs.Columns.{columns, stop_in}
-use Rattle.labels.specs.Walk.{walk, tour_of}
-use Rattle.evaluation.specs.Route.{tick, tick_is}
-use Rattle.labels.specs.declared.label.Reached.TheVariants.{Served}
+use lib.Seq.{slice_empty}
+use Rattle.labels.specs.Columns.{stop_in}
+use Rattle.evaluation.specs.Route.{tick_is}
 use Rattle.heads.proofs.Heads.{drive_turn}
-use borrow.Author.Rules.{rules}
 use Rattle.heads.proofs.drive.Goals as goal
 
 pub loop-i-init : goal.loop-i-init
@@ -21,13 +17,12 @@ overflow_cast-visit c =
     omega (arith, c.shared_slice_known-in-loop-i-1.given c.loop-i.i)
 
 pub get-leg-requires : goal.get-leg-requires
-get-leg-requires c =
-    (
-      c.requires.formed.tables.of_distances,
-      c.loop-i.invariant.2,
-      c.requires.place_lt_l.1.below c.loop-i.i
-          (omega (arith, c.loop-i-test.true, c.requires.place_lt_l.3)),
-    )
+get-leg-requires c = (
+  c.requires.formed.tables.of_distances,
+  c.loop-i.invariant.2,
+  c.requires.place_lt_l.1.below c.loop-i.i
+      (omega (arith, c.loop-i-test.true, c.requires.place_lt_l.3)),
+)
 
 pub travel_time-travel-requires : goal.travel_time-travel-requires
 travel_time-travel-requires c =
@@ -53,8 +48,7 @@ overflow_add-i c =
 
 pub loop-i-preserved : goal.loop-i-preserved
 loop-i-preserved c =
-    let here : c.loop-i.i < length c.args.list.now = omega (arith, c.loop-i-test.true, c.requires.place_lt_l.3) in
-    (
+    let here : c.loop-i.i < length c.args.list.now = omega (arith, c.loop-i-test.true, c.requires.place_lt_l.3) in (
       omega (arith, c.loop-i.invariant.0),
       omega (arith, c.loop-i-test.true),
       c.requires.place_lt_l.1.below c.loop-i.i here,
@@ -65,9 +59,9 @@ loop-i-preserved c =
 pub returns : goal.returns
 returns c =
     record {
-  behind = c.loop-i.invariant.0;
-  within = c.loop-i.invariant.1;
-  placed = c.loop-i.invariant.2;
-  same = c.loop-i.invariant.3;
-  lost = λ h. absurd (omega (arith, h, c.loop-i-test.false));
-}
+      behind = c.loop-i.invariant.0;
+      within = c.loop-i.invariant.1;
+      placed = c.loop-i.invariant.2;
+      same = c.loop-i.invariant.3;
+      lost = λ h. absurd (omega (arith, h, c.loop-i-test.false));
+    }

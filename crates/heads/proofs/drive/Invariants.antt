@@ -1,15 +1,11 @@
 -- `drive`: what is driven so far is the walk over the visits from `from` on. A visit that can't be served ends it before that visit.
-use native.Mathlib.Omega.{arith}
 use Prim.Native.Nat.{◌-◌, ◌≤◌, ◌<◌}
 use mathlib.Core.Path.{◌≡◌}
-use lib.ListN.{length}
-use lib.Seq.{slice, slice_empty}
-use Rattle.labels.specs.Columns.{columns, stop_in}
+use lib.Seq.{slice}
+use Rattle.labels.specs.Columns.{columns}
 use Rattle.labels.specs.Walk.{walk, tour_of}
-use Rattle.evaluation.specs.Route.{tick, tick_is}
+use Rattle.evaluation.specs.Route.{tick}
 use Rattle.labels.specs.declared.label.Reached.TheVariants.{Served}
-use Rattle.heads.proofs.Heads.{drive_turn}
-use borrow.Author.Rules.{rules}
 use Rattle.heads.proofs.drive.Given as goal
 
 abbrev pub invariant-loop-i : goal.invariant-loop-i

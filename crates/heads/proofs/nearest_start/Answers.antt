@@ -3,7 +3,6 @@ use mathlib.Core.Path.{refl}
 use borrow.Author.Tests.{lt-ltb, le-ltb}
 use Rattle.tests.specs.Pick.{picked, other}
 use Rattle.heads.specs.Head.{nearest}
-use borrow.Author.Rules.{rules}
 use Rattle.heads.proofs.nearest_start.Goals as goal
 
 pub returns-then-to-head : goal.returns-then-to-head

@@ -1,7 +1,6 @@
 -- `reach`: `drive` from the nearest start on.
 use native.Mathlib.Omega.{arith}
 use Rattle.heads.proofs.Heads.{few-shared, nearest_driven, drives_on}
-use borrow.Author.Rules.{rules}
 use Rattle.heads.proofs.reach.Goals as goal
 
 pub drive-requires-clause-formed : goal.drive-requires-clause-formed
@@ -11,13 +10,12 @@ drive-requires-clause-formed c =
 pub drive-requires-clause-place_lt_l : goal.drive-requires-clause-place_lt_l
 drive-requires-clause-place_lt_l c =
     let near = nearest_driven _ _ _ c.shared_visits-end.result _ _ c.requires.depot_lt_l.0 c.requires.driven in
-    let few = few-shared c.args.rest c.args.to in
-    (
-        rw c.nearest_start-start.ensures near.0.placed,
-        c.requires.depot_lt_l.1,
-        rw c.nearest_start-start.ensures near.1,
-        omega (arith, c.shared_visits-end.ensures, few, c.requires.depot_lt_l.2),
-      )
+    let few = few-shared c.args.rest c.args.to in (
+      rw c.nearest_start-start.ensures near.0.placed,
+      c.requires.depot_lt_l.1,
+      rw c.nearest_start-start.ensures near.1,
+      omega (arith, c.shared_visits-end.ensures, few, c.requires.depot_lt_l.2),
+    )
 
 pub returns-clause-driven_2 : goal.returns-clause-driven_2
 returns-clause-driven_2 c =

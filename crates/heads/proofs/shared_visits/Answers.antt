@@ -1,6 +1,5 @@
 -- `shared_visits`: one arm for each case of the break.
 use Rattle.heads.specs.Head.{shared}
-use borrow.Author.Rules.{rules}
 use Rattle.heads.proofs.shared_visits.Goals as goal
 
 pub returns-in-NoBreak : goal.returns-in-NoBreak

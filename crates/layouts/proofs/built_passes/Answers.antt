@@ -1,5 +1,4 @@
 -- `built_passes`: the buffer's first visits are the list as it is laid out, and the callee checks them.
-use borrow.Author.Rules.{rules}
 use mathlib.Core.Path.{ap, ◌∙◌}
 use Rattle.evaluation.specs.Route.{feasible}
 use Rattle.layouts.proofs.Layouts.{laid_visits, front-laid}

@@ -1,5 +1,4 @@
 -- `laid_passes`: with no break to take, the list laid out shares the head; else it is built and checked whole.
-use borrow.Author.Rules.{rules}
 use borrow.Author.Tests.{not-true, not-false}
 use mathlib.Core.Path.{◌∙◌}
 use Rattle.tests.specs.All.{off, on}

@@ -4,7 +4,6 @@ use mathlib.Core.Path.{◌≡◌}
 use Prim.Native.Nat.{◌-◌}
 use lib.ListN.{length}
 use Rattle.layouts.proofs.Layouts.{laid_straight, laid-exchanged}
-use borrow.Author.Rules.{rules}
 use Rattle.layouts.proofs.lay_out.Goals as goal
 
 pub returns-then-p : goal.returns-then-p

@@ -1,13 +1,8 @@
 -- `passes_from`: what is driven and the rest of the list laid out make the whole walk from the head. A visit that is missed leaves the rest missed.
-use borrow.Author.Rules.{rules}
 use native.Mathlib.Omega.{arith}
-use Prim.Native.Nat.{◌-◌, ◌<◌}
-use mathlib.Core.Path.{◌≡◌, refl, ap, ◌∙◌}
-use lib.ListN.{length, drop}
-use Rattle.labels.specs.Columns.{columns, stop_in}
-use Rattle.labels.specs.Walk.{walk, tour_of}
-use Rattle.evaluation.specs.Route.{tick, tick_is, home, unbroken_ends}
-use Rattle.labels.specs.declared.label.Reached.TheVariants.{Served}
+use mathlib.Core.Path.{refl, ap, ◌∙◌}
+use Rattle.labels.specs.Columns.{stop_in}
+use Rattle.evaluation.specs.Route.{tick_is, home, unbroken_ends}
 use Rattle.layouts.specs.Layout.{laid, passes_from}
 use Rattle.layouts.proofs.Layouts.{laid-below, laid_long, laid_short}
 use Rattle.layouts.proofs.Onward.{turns, misses, end_passes}
@@ -22,22 +17,20 @@ visit_laid-visit-requires c =
     (c.requires.cut_in.0, c.loop-i-test.true)
 
 pub get-distance-requires : goal.get-distance-requires
-get-distance-requires c =
-    (
-      c.requires.formed.tables.of_distances,
-      c.loop-i.invariant.0,
-      rw c.visit_laid-visit.ensures (laid-below _ c.requires.depot_lt_l.1 c.requires.cut_in.0
-          c.loop-i-test.true),
-    )
+get-distance-requires c = (
+  c.requires.formed.tables.of_distances,
+  c.loop-i.invariant.0,
+  rw c.visit_laid-visit.ensures (laid-below _ c.requires.depot_lt_l.1 c.requires.cut_in.0
+      c.loop-i-test.true),
+)
 
 pub travel_time-travel-requires : goal.travel_time-travel-requires
-travel_time-travel-requires c =
-    (
-      c.requires.formed.tables,
-      c.loop-i.invariant.0,
-      rw c.visit_laid-visit.ensures (laid-below _ c.requires.depot_lt_l.1 c.requires.cut_in.0
-          c.loop-i-test.true),
-    )
+travel_time-travel-requires c = (
+  c.requires.formed.tables,
+  c.loop-i.invariant.0,
+  rw c.visit_laid-visit.ensures (laid-below _ c.requires.depot_lt_l.1 c.requires.cut_in.0
+      c.loop-i-test.true),
+)
 
 pub stop_of-stop-requires : goal.stop_of-stop-requires
 stop_of-stop-requires c =
@@ -57,14 +50,13 @@ overflow_add-i c =
     omega (arith, c.loop-i-test.true, c.requires.depot_lt_l.1.few)
 
 pub loop-i-preserved : goal.loop-i-preserved
-loop-i-preserved c =
-    (
-      rw c.visit_laid-visit.ensures (laid-below _ c.requires.depot_lt_l.1 c.requires.cut_in.0 c.loop-i-test.true),
-      turns _ _ _ _ _ _ _ c.visit_laid-visit.ensures (laid_long _ c.requires.cut_in.0 c.loop-i-test.true) _ _ c.get-distance.ensures
-          (tick_is _ _ _ _ _ _ _ _ c.travel_time-travel.ensures c.stop_of-stop.ensures c.serve-reached.ensures
-          c.in-Served.is)
-          ∙ c.loop-i.invariant.1,
-    )
+loop-i-preserved c = (
+  rw c.visit_laid-visit.ensures (laid-below _ c.requires.depot_lt_l.1 c.requires.cut_in.0 c.loop-i-test.true),
+  turns _ _ _ _ _ _ _ c.visit_laid-visit.ensures (laid_long _ c.requires.cut_in.0 c.loop-i-test.true) _ _ c.get-distance.ensures
+      (tick_is _ _ _ _ _ _ _ _ c.travel_time-travel.ensures c.stop_of-stop.ensures c.serve-reached.ensures
+      c.in-Served.is)
+      ∙ c.loop-i.invariant.1,
+)
 
 pub get-distance-requires-2 : goal.get-distance-requires-2
 get-distance-requires-2 c =

@@ -1,16 +1,12 @@
 -- `passes_from`: what is driven and the rest of the list laid out make the whole walk from the head. A visit that is missed leaves the rest missed.
-use borrow.Author.Rules.{rules}
-use native.Mathlib.Omega.{arith}
 use Prim.Native.Nat.{◌-◌, ◌<◌}
-use mathlib.Core.Path.{◌≡◌, refl, ap, ◌∙◌}
+use mathlib.Core.Path.{◌≡◌}
 use lib.ListN.{length, drop}
-use Rattle.labels.specs.Columns.{columns, stop_in}
+use Rattle.labels.specs.Columns.{columns}
 use Rattle.labels.specs.Walk.{walk, tour_of}
-use Rattle.evaluation.specs.Route.{tick, tick_is, home, unbroken_ends}
+use Rattle.evaluation.specs.Route.{tick}
 use Rattle.labels.specs.declared.label.Reached.TheVariants.{Served}
-use Rattle.layouts.specs.Layout.{laid, passes_from}
-use Rattle.layouts.proofs.Layouts.{laid-below, laid_long, laid_short}
-use Rattle.layouts.proofs.Onward.{turns, misses, end_passes}
+use Rattle.layouts.specs.Layout.{laid}
 use Rattle.layouts.proofs.passes_from.Given as goal
 
 abbrev pub invariant-loop-i : goal.invariant-loop-i

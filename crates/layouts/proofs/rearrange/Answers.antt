@@ -1,5 +1,4 @@
 -- `rearrange`: the list is overwritten as a whole by the list that was built, which is as long.
-use borrow.Author.Rules.{rules}
 use Rattle.layouts.proofs.Layouts.{overwritten}
 use Rattle.layouts.proofs.rearrange.Goals as goal
 

@@ -1,5 +1,4 @@
 -- `reconnection`: the cuts stand behind i, j and k, and the callee says the arrangement.
-use borrow.Author.Rules.{rules}
 use mathlib.Core.Path.{ap}
 use Rattle.layouts.specs.Layout.{layout}
 use Rattle.layouts.proofs.reconnection.Goals as goal

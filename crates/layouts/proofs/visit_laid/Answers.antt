@@ -1,5 +1,4 @@
 -- `visit_laid`: A and D stand where they stood; B and C are read in the order and the direction that they have.
-use borrow.Author.Rules.{rules}
 use mathlib.Core.Path.{◌∙◌}
 use Rattle.layouts.proofs.Layouts.{read_head, read_tail, read_B, read_C, read_C-first, read_B_second}
 use Rattle.layouts.proofs.visit_laid.Goals as goal

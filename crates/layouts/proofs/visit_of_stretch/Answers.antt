@@ -1,5 +1,4 @@
 -- `visit_of_stretch`: a stretch is read from its start on, or from its end back.
-use borrow.Author.Rules.{rules}
 use mathlib.Core.Path.{◌∙◌}
 use Rattle.layouts.proofs.Layouts.{stretch_straight, stretch_turned}
 use Rattle.layouts.proofs.visit_of_stretch.Goals as goal

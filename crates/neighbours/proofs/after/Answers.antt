@@ -1,5 +1,4 @@
 -- `after`: one arm for each kind of place.
-use borrow.Author.Rules.{rules}
 use Rattle.neighbours.proofs.after.Goals as goal
 
 pub after_reversal-requires : goal.after_reversal-requires

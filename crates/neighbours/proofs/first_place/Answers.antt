@@ -1,7 +1,6 @@
 -- `first_place`: one arm for each neighbourhood.
 use Rattle.neighbours.specs.Neighbours.{neighbours}
 use Rattle.neighbours.proofs.Onward.{cuts-few, cuts_many}
-use borrow.Author.Rules.{rules}
 use Rattle.neighbours.proofs.first_place.Goals as goal
 
 pub returns-then-n-lt4 : goal.returns-then-n-lt4

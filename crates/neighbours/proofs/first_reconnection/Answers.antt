@@ -1,6 +1,5 @@
 -- `first_reconnection`: there is room for three cuts from i on, or there is not.
 use Rattle.neighbours.proofs.Onward.{cut-first, cut_none}
-use borrow.Author.Rules.{rules}
 use Rattle.neighbours.proofs.first_reconnection.Goals as goal
 
 pub returns-then-i-n : goal.returns-then-i-n

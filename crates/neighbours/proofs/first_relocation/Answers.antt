@@ -2,7 +2,6 @@
 use native.Mathlib.Omega.{arith}
 use mathlib.Core.Logic.{inl, inr}
 use Rattle.neighbours.proofs.Onward.{moved_first, moved_none}
-use borrow.Author.Rules.{rules}
 use Rattle.neighbours.proofs.first_relocation.Goals as goal
 
 pub returns-then-size-eq4 : goal.returns-then-size-eq4

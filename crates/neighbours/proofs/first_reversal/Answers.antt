@@ -1,6 +1,5 @@
 -- `first_reversal`: the row at i has a reversal, or no row has.
 use Rattle.neighbours.proofs.Onward.{turned-first, turned_none}
-use borrow.Author.Rules.{rules}
 use Rattle.neighbours.proofs.first_reversal.Goals as goal
 
 pub returns-then-i-n : goal.returns-then-i-n

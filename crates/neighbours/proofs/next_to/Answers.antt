@@ -1,7 +1,6 @@
 -- `next_to`: one case for each return.
 use mathlib.Core.Path.{refl}
 use mathlib.Core.Logic.{inl, inr}
-use borrow.Author.Rules.{rules}
 use Rattle.neighbours.proofs.next_to.Goals as goal
 
 pub returns-then-to-from : goal.returns-then-to-from

@@ -1,6 +1,5 @@
 -- `candidate_passes`: the buffer holds the list, and then the list with the piece moved, which has the same visits; that is walked.
 use mathlib.Core.Path.{sym, ap, ◌∙◌}
-use borrow.Author.Rules.{rules}
 use Rattle.edits.proofs.Chain.{appended_whole}
 use Rattle.evaluation.specs.Route.{feasible}
 use Rattle.descent.specs.Within.{Piece}

@@ -1,5 +1,4 @@
 -- `consider`: each of its three ends is one case of the definition's choice with one candidate more.
-use borrow.Author.Rules.{rules}
 use Rattle.descent.specs.Within.{Piece}
 use Rattle.segments.proofs.Choosing.{delta_is, not_below, not-passing, taken_up}
 use mathlib.Core.Path.{ap}

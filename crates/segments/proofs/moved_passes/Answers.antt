@@ -1,6 +1,5 @@
 -- `moved_passes`: where no check is needed the definition doesn't ask; else the list is built in a part of the buffer that is as long as the list.
 use native.Mathlib.Omega.{arith}
-use borrow.Author.Rules.{rules}
 use borrow.Author.Tests.{not-true, not-false}
 use Rattle.tests.specs.All.{off, on}
 use Rattle.engine.specs.Engine.{passing}

@@ -1,6 +1,5 @@
 -- `any_left`: a label is there where its mark is 1.
 use Rattle.broken_heads.proofs.Heads.{left_is}
-use borrow.Author.Rules.{rules}
 use Rattle.broken_heads.proofs.BrokenHead.any_left.Goals as goal
 
 pub returns : goal.returns

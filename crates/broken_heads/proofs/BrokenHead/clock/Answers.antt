@@ -1,6 +1,5 @@
 -- `clock`: field by field.
 use Rattle.broken_heads.specs.Head.{clock_of}
-use borrow.Author.Rules.{rules}
 use Rattle.broken_heads.proofs.BrokenHead.clock.Goals as goal
 
 pub returns : goal.returns

@@ -1,5 +1,4 @@
 -- `layout_of`: one arm for each kind of place.
-use borrow.Author.Rules.{rules}
 use native.Mathlib.Omega.{arith}
 use Rattle.neighbours.specs.Places.{Inside}
 use Rattle.neighbours.proofs.Layouts.{lays_turned, lays_reconnected}

@@ -1,5 +1,4 @@
 -- `make`: the list is made as the layout of the place has it, which is the neighbour.
-use borrow.Author.Rules.{rules}
 use mathlib.Core.Path.{◌∙◌}
 use Rattle.neighbours.proofs.layout.make.Goals as goal
 
