@@ -24,7 +24,7 @@ use Rattle.cross_kinds.specs.Kinds.{move_at, row_of, rows_in}
 use Rattle.cross_kinds.specs.declared.kind.Kind.{Kind}
 use Rattle.cross_kinds.specs.declared.kind.Kind.TheVariants.{Relocation, Swap, Tails}
 use Rattle.cross_choices.specs.Scan.{better}
-use Rattle.cross_choices.specs.Rows.{all_shut, lesser_of, delta_at, least_of, chosenByBlock, best_of_row}
+use Rattle.cross_choices.specs.Rows.{all_shut, lesser_of, delta_at, least_of, chosen_by_block, best_of_row}
 use Rattle.cross_choices.specs.declared.Choice.{Choice}
 use Rattle.cross_choices.specs.declared.Least.{Least}
 use Rattle.cross_choices.proofs.Deciding.{Known, known_starts, nothing_yet, stands_on, told, Tabled, row_told, row_lost}
@@ -161,7 +161,7 @@ module _ (c : Columns) (demand : List ℤ) (pair : Pair) (X Y : List ℕ) (kind 
 
   module _ (costs2 : List Float) (costed2 : CostedBlock c van2 Y X kind true k width rows costs1 costs2) (best : Choice) where
     abbrev stands : Least → Choice
-    stands least = chosenByBlock kind pair (length X) (length Y) k width total costs1 costs2 least best
+    stands least = chosen_by_block kind pair (length X) (length Y) k width total costs1 costs2 least best
 
     abbrev Knows : Least → Type 0
     Knows least = Known kind pair (length X) (length Y) k width total costs1 costs2 best least

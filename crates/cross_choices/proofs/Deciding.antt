@@ -26,7 +26,7 @@ use Rattle.cross_rows.specs.declared.Stretch.{Stretch}
 use Rattle.cross_rows.specs.Row.{from_at, to_at, changed, cost_unless}
 use Rattle.cross_kinds.specs.Kinds.{tested_in, move_at, row_of}
 use Rattle.cross_choices.specs.Scan.{made1, made2, decided, better}
-use Rattle.cross_choices.specs.Rows.{mark_of, Extended, same_as, lesser_of, delta_at, chosenByBlock, best_of_row}
+use Rattle.cross_choices.specs.Rows.{mark_of, Extended, same_as, lesser_of, delta_at, chosen_by_block, best_of_row}
 use Rattle.cross_kinds.specs.declared.kind.Kind.{Kind}
 use Rattle.cross_kinds.specs.declared.kind.Kind.TheVariants.{Relocation, Swap, Tails}
 use Rattle.cross_choices.specs.declared.Choice.{Choice}
@@ -169,7 +169,7 @@ module _ (demand : List ℤ) (van1 van2 : Van) (X Y : List ℕ) (own others : St
 module _ (kind : Kind) (pair : Pair) (n1 n2 k width count : ℕ) (costs1 costs2 : List Float) (best : Choice) where
   -- what the least so far stands for
   abbrev stands : Least → Choice
-  stands least = chosenByBlock kind pair n1 n2 k width count costs1 costs2 least best
+  stands least = chosen_by_block kind pair n1 n2 k width count costs1 costs2 least best
 
   -- its delta is the best's while there is none
   pub record Known (least : Least) : Type 0 where
@@ -177,14 +177,14 @@ module _ (kind : Kind) (pair : Pair) (n1 n2 k width count : ℕ) (costs1 costs2 
     pub is_delta : (stands least).delta ≡ least.delta
 
   pub known_starts : Known (record { at = count; delta = best.delta })
-  unfolding chosenByBlock
+  unfolding chosen_by_block
   known_starts = record {
     few = omega arith;
     is_delta = ap (λ (r : Choice). r.delta) (sym (picked (eqb count count) _ _ _ (eq-eqb count count refl) refl));
   }
 
   pub nothing_yet : best ≡ stands (record { at = count; delta = best.delta })
-  unfolding chosenByBlock
+  unfolding chosen_by_block
   nothing_yet = picked (eqb count count) _ _ _ (eq-eqb count count refl) refl
 
   abbrev step : ℕ → Least → Least
@@ -194,7 +194,7 @@ module _ (kind : Kind) (pair : Pair) (n1 n2 k width count : ℕ) (costs1 costs2 
   stands_turn : (f : Choice → Choice) (e : ℕ) (least : Least) → e < count
       → ((b : Choice) → f b ≡ told pair (move_at kind pair n1 n2 (k + e / width) (e % width)) (get_or costs1 e nan) (get_or costs2 e nan) b)
       → Known least → (f (stands least) ≡ stands (step e least)) × Known (step e least)
-  unfolding lesser_of chosenByBlock
+  unfolding lesser_of chosen_by_block
   stands_turn f e least h told-by known = by_test (lt delta least.delta) refl
     where
       delta : Float

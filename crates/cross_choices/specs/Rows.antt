@@ -64,8 +64,8 @@ chosen_by kind pair n1 n2 k count costs1 costs2 least best =
     })
 
 -- the move that has it, or the best so far: the tables have rows of `width` moves, from row k on
-unfoldable pub chosenByBlock : Kind → Pair → ℕ → ℕ → ℕ → ℕ → ℕ → List Float → List Float → Least → Choice → Choice
-chosenByBlock kind pair n1 n2 k width count costs1 costs2 least best =
+unfoldable pub chosen_by_block : Kind → Pair → ℕ → ℕ → ℕ → ℕ → ℕ → List Float → List Float → Least → Choice → Choice
+chosen_by_block kind pair n1 n2 k width count costs1 costs2 least best =
     cond (eqb least.at count) best (record {
       found = 1;
       chosen = move_at kind pair n1 n2 (k + least.at / width) (least.at % width);

@@ -8,7 +8,7 @@ ghost use Rattle.fleet.specs.Fleet.{Driven};
 ghost use Rattle.cross_moves.specs.Boxes.{Prefixed};
 ghost use Rattle.loads.specs.Loads.{Two, Loaded};
 ghost use Rattle.cross_rows.specs.Row.{Rowed};
-ghost use Rattle.cross_choices.specs.Rows.{mark_of, Marked, all_shut, Extended, lesser_of, least_of, chosen_by, chosenByBlock};
+ghost use Rattle.cross_choices.specs.Rows.{mark_of, Marked, all_shut, Extended, lesser_of, least_of, chosen_by, chosen_by_block};
 
 use cross_kinds::kind::{Kind, move_of};
 use cross_kinds::load::fits;
@@ -158,7 +158,7 @@ pub fn choose_of_block(
 ) -> Choice
     requires k_bound { (k ≤ 63) × (least.at ≤ count) × (count ≤ 64) × (count ≤ 64 * width) }
     requires costs1_len { (length costs1.now ≡ 64) × (length costs2.now ≡ 64) }
-    ensures { result ≡ chosenByBlock kind pair n1 n2 k width count costs1.now costs2.now least best }
+    ensures { result ≡ chosen_by_block kind pair n1 n2 k width count costs1.now costs2.now least best }
 {
     let at = least.at;
     if at == count {

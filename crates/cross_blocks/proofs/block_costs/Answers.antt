@@ -44,12 +44,12 @@ pub offset_bounds-costs-from : goal.offset_bounds-costs-from
 offset_bounds-costs-from c =
     omega (arith, entries_few c.requires.block.0 _ c.loop-i-test.true)
 
-pub slice_bounds-cost_one-start-2 : goal.slice_bounds-cost_one-start-2
-slice_bounds-cost_one-start-2 c =
+pub slice_bounds-cost_one-start-in-loop-i : goal.slice_bounds-cost_one-start-in-loop-i
+slice_bounds-cost_one-start-in-loop-i c =
     omega arith
 
-pub slice_bounds-cost_one-end-2 : goal.slice_bounds-cost_one-end-2
-slice_bounds-cost_one-end-2 c =
+pub slice_bounds-cost_one-end-in-loop-i : goal.slice_bounds-cost_one-end-in-loop-i
+slice_bounds-cost_one-end-in-loop-i c =
     omega (arith, entries_few c.requires.block.0 _ c.loop-i-test.true, c.loop-i.invariant.0)
 
 pub cost_one-requires-clause-formed : goal.cost_one-requires-clause-formed

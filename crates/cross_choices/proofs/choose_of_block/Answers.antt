@@ -5,11 +5,11 @@ use mathlib.Core.Path.{refl}
 use native.Mathlib.Nat.{div-le_self, mod-le}
 use native.Mathlib.Omega.{arith}
 use Rattle.tests.specs.Pick.{picked, other}
-use Rattle.cross_choices.specs.Rows.{chosenByBlock}
+use Rattle.cross_choices.specs.Rows.{chosen_by_block}
 use Rattle.cross_choices.proofs.choose_of_block.Goals as goal
 
 pub returns-then-at-count : goal.returns-then-at-count
-unfolding chosenByBlock
+unfolding chosen_by_block
 returns-then-at-count c =
     picked _ _ _ _ (eq-eqb _ _ c.if-at-count.true) refl
 
@@ -25,6 +25,6 @@ move_of-chosen-requires c =
     )
 
 pub returns : goal.returns
-unfolding chosenByBlock
+unfolding chosen_by_block
 returns c =
     rw c.move_of-chosen.ensures (other _ _ _ _ (ne_eqb _ _ c.if-at-count.false) refl)

@@ -97,7 +97,7 @@ loop-j-preserved c =
     filled_turns _ _ _ _ _ c.loop-j.invariant (omega (arith, c.loop-j-test.true, c.requires.rowed.1))
     (marked _ _ _ _ _ c.args.own c.args.others _ _ _ _ _ _ _ _ _ c.start_at-from1.ensures c.end_at-to1.ensures
     c.start_at-from2.ensures c.end_at-to2.ensures
-    c.fits-second.ensures c.fits3.ensures c.mark.ensures)
+    c.fits-first.ensures c.fits-second.ensures c.mark.ensures)
 
 pub returns : goal.returns
 returns c =

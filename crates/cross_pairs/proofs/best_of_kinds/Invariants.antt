@@ -15,7 +15,7 @@ use Rattle.cross_pairs.proofs.best_of_kinds.Given as goal
 abbrev pub invariant-loop-n : goal.invariant-loop-n
 invariant-loop-n l =
     Roomy l.costs1 l.costs2
-    × (scan (λ l.n. best_of_kind (columns l.l l.flags l.service l.ready l.due l.penalty l.distances l.times) l.demand l.pair l.one l.other (kind_at l.n))
+    × (scan (λ n. best_of_kind (columns l.l l.flags l.service l.ready l.due l.penalty l.distances l.times) l.demand l.pair l.one l.other (kind_at n))
     (range l.n (kinds_of l.pair.one l.pair.other)) l.found
     ≡ best_between (columns l.l l.flags l.service l.ready l.due l.penalty l.distances l.times) l.demand l.pair l.one l.other l.initial.found)
 

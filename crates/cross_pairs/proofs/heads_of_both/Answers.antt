@@ -14,7 +14,7 @@ fill_heads-reached1-requires-clause-formed c =
 
 pub fill_heads-reached1-requires-clause-depot_lt_l : goal.fill_heads-reached1-requires-clause-depot_lt_l
 fill_heads-reached1-requires-clause-depot_lt_l c =
-    let few : 256 + 256 ≤ length heads = omega (arith, c.requires.heads_len) in
+    let few : 256 + 256 ≤ length c.args.heads.now = omega (arith, c.requires.heads_len) in
     (
         c.requires.formed.1.driven1.depot_there,
         visits_first _ _ _
@@ -28,13 +28,13 @@ fill_heads-reached2-requires-clause-formed c =
 
 pub fill_heads-reached2-requires-clause-depot_lt_l : goal.fill_heads-reached2-requires-clause-depot_lt_l
 fill_heads-reached2-requires-clause-depot_lt_l c =
-    let few : 256 + 256 ≤ length heads = omega (arith, c.requires.heads_len) in
+    let few : 256 + 256 ≤ length c.args.heads.now = omega (arith, c.requires.heads_len) in
     let long = c.fill_heads-reached1.auto.heads ∙ lent_long 256 c.args.heads.now c.fill_heads-reached1.new.heads c.fill_heads-reached1.new.heads few in
     (c.requires.formed.1.driven2.depot_there, visits_second _ _ _ c.requires.formed.2, lent_long2 256 c.args.heads.now c.fill_heads-reached1.new.heads c.fill_heads-reached1.new.heads few long)
 
 pub returns : goal.returns
 returns c =
-    let few : 256 + 256 ≤ length heads = omega (arith, c.requires.heads_len) in
+    let few : 256 + 256 ≤ length c.args.heads.now = omega (arith, c.requires.heads_len) in
     let long = c.fill_heads-reached1.auto.heads ∙ lent_long 256 c.args.heads.now c.fill_heads-reached1.new.heads c.fill_heads-reached2.new.heads few in
     let long2 = c.fill_heads-reached2.auto.heads ∙ lent_long2 256 c.args.heads.now c.fill_heads-reached1.new.heads c.fill_heads-reached2.new.heads few long in
     (

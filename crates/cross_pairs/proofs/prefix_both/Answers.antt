@@ -10,7 +10,7 @@ use Rattle.cross_pairs.proofs.prefix_both.Goals as goal
 
 pub returns : goal.returns
 returns c =
-    let few : 64 + 64 ≤ length sums = omega (arith, c.requires.2) in
+    let few : 64 + 64 ≤ length c.args.sums.now = omega (arith, c.requires.2) in
     let long = c.prefix_loads.auto.loads ∙ lent_long 64 c.args.sums.now c.prefix_loads.new.loads c.prefix_loads-2.new.loads few in
     let long2 = c.prefix_loads-2.auto.loads ∙ lent_long2 64 c.args.sums.now c.prefix_loads.new.loads c.prefix_loads-2.new.loads few long in
     (
