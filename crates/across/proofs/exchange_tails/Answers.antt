@@ -1,5 +1,4 @@
 -- `exchange_tails`: with a soft window the run is `soft_exchange`'s, and without one the engine's.
-use borrow.Author.Rules.{rules}
 use mir.ValLaws.{to_z-of_z}
 use mir.Syntax.{w32}
 use Rattle.across.specs.Across.{exchange_ran, hard_exchange}

@@ -1,5 +1,4 @@
 -- `relocate_visits`: with a soft window the run is `soft_relocate`'s, and without one the engine's, pruned or not.
-use borrow.Author.Rules.{rules}
 use Rattle.across.specs.Across.{relocate_ran, hard_relocate}
 use mir.ValLaws.{to_z-of_z}
 use mir.Syntax.{w32}
