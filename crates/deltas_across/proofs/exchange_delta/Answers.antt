@@ -1,7 +1,6 @@
 -- `exchange_delta`: the leg cut in each list, then the sum of legs.
 use Rattle.deltas.proofs.Stops.{around_placed}
 use Rattle.deltas.specs.Deltas.{exchange_delta}
-use borrow.Author.Rules.{rules}
 use Rattle.deltas_across.proofs.exchange_delta.Goals as goal
 
 pub tails_change-requires : goal.tails_change-requires

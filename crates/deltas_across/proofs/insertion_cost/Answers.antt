@@ -1,7 +1,6 @@
 -- `insertion_cost`: the leg at the place, and the detour by way of the visit.
 use Rattle.deltas.proofs.Stops.{around_placed}
 use Rattle.deltas.specs.Deltas.{insertion_cost}
-use borrow.Author.Rules.{rules}
 use Rattle.deltas_across.proofs.insertion_cost.Goals as goal
 
 pub detour-requires : goal.detour-requires

@@ -1,6 +1,5 @@
 -- `insertion_delta`: the insertion and, where the list is empty, the fixed cost.
 use Rattle.deltas.specs.Deltas.{insertion_delta}
-use borrow.Author.Rules.{rules}
 use Rattle.deltas_across.proofs.insertion_delta.Goals as goal
 
 pub returns : goal.returns

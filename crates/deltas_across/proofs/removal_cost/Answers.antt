@@ -1,6 +1,5 @@
 -- `removal_cost`: the three legs read, in the order of the definition.
 use Rattle.deltas.specs.Changes.{removal_cost}
-use borrow.Author.Rules.{rules}
 use Rattle.deltas_across.proofs.removal_cost.Goals as goal
 
 pub returns : goal.returns

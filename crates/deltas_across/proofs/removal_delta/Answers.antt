@@ -1,7 +1,6 @@
 -- `removal_delta`: the stops around the visit, the legs, and the fixed cost where it is the only one.
 use Rattle.deltas.proofs.Stops.{around_placed, stop_there}
 use Rattle.deltas.specs.Deltas.{removal_delta}
-use borrow.Author.Rules.{rules}
 use Rattle.deltas_across.proofs.removal_delta.Goals as goal
 
 pub removal_cost-requires : goal.removal_cost-requires

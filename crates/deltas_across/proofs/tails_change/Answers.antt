@@ -1,6 +1,5 @@
 -- `tails_change`: the four legs read, in the order of the definition.
 use Rattle.deltas.specs.Changes.{tails_change}
-use borrow.Author.Rules.{rules}
 use Rattle.deltas_across.proofs.tails_change.Goals as goal
 
 pub returns : goal.returns

@@ -1,12 +1,10 @@
 -- `exchange_improve`: the terms are those of the day and the van, so that the run is the definition's.
-use borrow.Author.Rules.{rules}
 use mathlib.Core.Path.{ap, ◌∙◌}
 use mir.Syntax.{w32}
 use mir.ValLaws.{to_z-of_z}
 use Rattle.numbers.specs.Floor.{gain_floor}
 use Rattle.descent.specs.Engines.{run_of}
 use Rattle.exchange_sweeps.specs.Exchange.{passes_of, judge_of}
-use Rattle.exchange_sweeps.proofs.Tables.{edited_length}
 use Rattle.exchange.proofs.exchange_improve.Goals as goal
 
 pub boxes_in-requires : goal.boxes_in-requires

@@ -1,13 +1,9 @@
 -- `first_move`: the first move from the place at hand on is the first from the start on. The measure is how many places are left.
-use mathlib.Core.Path.{◌≡◌, refl, ◌∙◌}
-use native.Mathlib.Omega.{arith}
+use mathlib.Core.Path.{◌≡◌}
 use lib.ListN.{length}
 use Rattle.labels.specs.Columns.{columns}
 use Rattle.lists.specs.Table.{lists}
-use Rattle.lists.proofs.Tables.{length-lists}
 use Rattle.exchange_sweeps.specs.Exchange.{from, InSweep, first_at}
-use Rattle.exchange_sweeps.proofs.Places.{still_in, left_less}
-use Rattle.exchange_sweeps.proofs.Moves.{found_here, not_here, none_left, apt}
 use Rattle.exchange_sweeps.proofs.first_move.Given as goal
 
 abbrev pub invariant-loop-place : goal.invariant-loop-place

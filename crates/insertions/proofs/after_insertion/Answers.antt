@@ -1,13 +1,10 @@
 -- `after_insertion`: down the column, a cell is still the old one when it is read.
-use borrow.Author.Rules.{rules}
-use Prim.Native.Nat.{◌-◌, ◌≤◌}
+use Prim.Native.Nat.{◌-◌}
 use mathlib.Core.Path.{◌≡◌}
 use native.Mathlib.Omega.{arith}
-use lib.ListN.{length, length-set}
+use lib.ListN.{length-set}
 use lib.Ieee.{nan}
-use Rattle.day.specs.Matrix.{leg}
-use Rattle.deltas.specs.Deltas.{insertion_delta}
-use Rattle.insertions.specs.Cache.{column, came_at}
+use Rattle.insertions.specs.Cache.{came_at}
 use Rattle.insertions.proofs.Cached.{column_start, column_read, column_turn, column_end}
 use Rattle.insertions.proofs.after_insertion.Goals as goal
 

@@ -1,14 +1,10 @@
 -- `after_removal`: down the column, a cell is still the old one when it is read.
-use borrow.Author.Rules.{rules}
 use Prim.Native.Nat.{◌-◌, ◌≤◌}
 use mathlib.Core.Path.{◌≡◌}
-use native.Mathlib.Omega.{arith}
-use lib.ListN.{length, length-set}
-use lib.Ieee.{nan}
+use lib.ListN.{length}
 use Rattle.day.specs.Matrix.{leg}
 use Rattle.deltas.specs.Deltas.{insertion_delta}
 use Rattle.insertions.specs.Cache.{column, left_at}
-use Rattle.insertions.proofs.Cached.{column_start, column_read, column_turn, column_end}
 use Rattle.insertions.proofs.after_removal.Given as goal
 
 abbrev pub invariant-loop-visit : goal.invariant-loop-visit

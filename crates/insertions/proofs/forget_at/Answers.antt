@@ -1,5 +1,4 @@
 -- `forget_at`: one cell is written.
-use borrow.Author.Rules.{rules}
 use native.Mathlib.Omega.{arith}
 use Rattle.insertions.proofs.forget_at.Goals as goal
 

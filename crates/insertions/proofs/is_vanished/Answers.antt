@@ -1,5 +1,4 @@
 -- `is_vanished`: each arm is the definition's case.
-use borrow.Author.Rules.{rules}
 use borrow.Author.Tests.{eq-eqb, ne_eqb}
 use Rattle.insertions.specs.Cache.{vanished}
 use Rattle.insertions.proofs.is_vanished.Goals as goal

@@ -1,5 +1,4 @@
 -- `least_left`: each arm is the definition's case.
-use borrow.Author.Rules.{rules}
 use mathlib.Core.Path.{refl, sym, ◌∙◌}
 use native.Mathlib.Omega.{arith}
 use Rattle.tests.specs.Pick.{picked, other}

@@ -1,5 +1,4 @@
 -- `moved_up`: each arm is the definition's case.
-use borrow.Author.Rules.{rules}
 use borrow.Author.Tests.{lt-ltb, le-ltb}
 use Rattle.insertions.specs.Cache.{moved_up}
 use Rattle.insertions.proofs.moved_up.Goals as goal

@@ -1,5 +1,4 @@
 -- `figure_list`: each entry is its callee's answer for the list, whose visits are locations.
-use borrow.Author.Rules.{rules}
 use native.Mathlib.Omega.{arith}
 use Rattle.loads.proofs.Tables.{lent_visits}
 use Rattle.list_figures.proofs.Keeping.{one_put}

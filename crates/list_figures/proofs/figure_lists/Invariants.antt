@@ -1,12 +1,9 @@
 -- `figure_lists`: the entries of the lists so far are right.
-use mathlib.Core.Path.{sym, ◌∙◌}
 use Prim.Native.Nat.{◌-◌, ◌≤◌}
-use native.Mathlib.Omega.{arith}
 use lib.ListN.{length}
 use Rattle.labels.specs.Columns.{columns}
 use Rattle.lists.specs.Table.{lists}
 use Rattle.list_figures.specs.Kept.{KeptFigures}
-use Rattle.list_figures.proofs.Keeping.{kept_none, kept_more, kept_all}
 use Rattle.list_figures.proofs.figure_lists.Given as goal
 
 abbrev pub invariant-loop-r : goal.invariant-loop-r

@@ -1,5 +1,4 @@
 -- `figure_two`: one entry is put after the other, into tables that stay as long.
-use borrow.Author.Rules.{rules}
 use mathlib.Core.Path.{◌∙◌}
 use native.Mathlib.Omega.{arith}
 use Rattle.list_figures.proofs.Keeping.{both_put}

@@ -1,13 +1,12 @@
 -- `best_between`: before each visit, the scan over what is left comes to the pair's best, and the cache is right.
 use borrow.Author.Rules.{rules}
-use mathlib.Core.Path.{◌≡◌, refl, sym, ap, ◌∙◌}
+use mathlib.Core.Path.{refl, sym, ap, ◌∙◌}
 use Prim.Native.Nat.{◌-◌}
 use native.Mathlib.Omega.{arith}
 use lib.ListN.{length}
 use Rattle.lists.proofs.Tables.{length_list}
-use Rattle.labels.specs.Columns.{columns}
 use Rattle.loads.proofs.Tables.{list_visits, lent_visits, one_more}
-use Rattle.offers.proofs.Trying.{Pairing, pairing_start, pairing_turn, pairing_end, pair_empty, pair-none}
+use Rattle.offers.proofs.Trying.{pairing_start, pairing_turn, pairing_end, pair_empty, pair-none}
 use Rattle.offers.proofs.best_between.Goals as goal
 
 pub returns-then-from-to : goal.returns-then-from-to

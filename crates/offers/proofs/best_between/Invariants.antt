@@ -1,13 +1,9 @@
 -- `best_between`: before each visit, the scan over what is left comes to the pair's best, and the cache is right.
-use borrow.Author.Rules.{rules}
-use mathlib.Core.Path.{◌≡◌, refl, sym, ap, ◌∙◌}
+use mathlib.Core.Path.{◌≡◌}
 use Prim.Native.Nat.{◌-◌}
-use native.Mathlib.Omega.{arith}
 use lib.ListN.{length}
-use Rattle.lists.proofs.Tables.{length_list}
 use Rattle.labels.specs.Columns.{columns}
-use Rattle.loads.proofs.Tables.{list_visits, lent_visits, one_more}
-use Rattle.offers.proofs.Trying.{Pairing, pairing_start, pairing_turn, pairing_end, pair_empty, pair-none}
+use Rattle.offers.proofs.Trying.{Pairing}
 use Rattle.offers.proofs.best_between.Given as goal
 
 abbrev pub invariant-loop-position : goal.invariant-loop-position

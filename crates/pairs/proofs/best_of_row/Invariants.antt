@@ -1,10 +1,7 @@
 -- `best_of_row`: before each turn the first of the best so far and the rest of the row is the first of all.
-use borrow.Author.Rules.{rules}
-use mathlib.Core.Path.{◌≡◌, refl, sym, ◌∙◌}
+use mathlib.Core.Path.{◌≡◌}
 use Prim.Native.Nat.{◌-◌}
-use native.Mathlib.Omega.{arith}
 use Rattle.pairs.specs.Pairs.{first_among, table, row_from}
-use Rattle.pairs.proofs.Rows.{row_turn, row_done}
 use Rattle.pairs.proofs.best_of_row.Given as goal
 
 abbrev pub invariant-loop-to : goal.invariant-loop-to

@@ -1,8 +1,8 @@
 -- `best_pair`: before each row the first of the best so far and the rows from here on is the first of all.
-use mathlib.Core.Path.{◌≡◌, refl, sym, ◌∙◌}
+use mathlib.Core.Path.{refl, sym, ◌∙◌}
 use Prim.Native.Nat.{◌-◌}
 use native.Mathlib.Omega.{arith}
-use Rattle.pairs.specs.Pairs.{first_among, table, rows_from, least_entry}
+use Rattle.pairs.specs.Pairs.{least_entry}
 use Rattle.pairs.proofs.Rows.{rows_turn, rows_done}
 use Rattle.pairs.proofs.best_pair.Goals as goal
 

@@ -1,9 +1,7 @@
 -- `best_pair`: before each row the first of the best so far and the rows from here on is the first of all.
-use mathlib.Core.Path.{◌≡◌, refl, sym, ◌∙◌}
+use mathlib.Core.Path.{◌≡◌}
 use Prim.Native.Nat.{◌-◌}
-use native.Mathlib.Omega.{arith}
-use Rattle.pairs.specs.Pairs.{first_among, table, rows_from, least_entry}
-use Rattle.pairs.proofs.Rows.{rows_turn, rows_done}
+use Rattle.pairs.specs.Pairs.{first_among, table, rows_from}
 use Rattle.pairs.proofs.best_pair.Given as goal
 
 abbrev pub invariant-loop-from : goal.invariant-loop-from

@@ -1,6 +1,5 @@
 -- `entry_at`: three reads at the slot, which is below 256.
 use Rattle.pairs.specs.Pairs.{entry}
-use borrow.Author.Rules.{rules}
 use Rattle.pairs.proofs.entry_at.Goals as goal
 
 pub returns : goal.returns

@@ -1,7 +1,6 @@
 -- `first_of`: the choice where it is ahead, else the best so far.
 use mathlib.Core.Path.{sym, ◌∙◌}
 use Rattle.pairs.specs.Pairs.{first_of}
-use borrow.Author.Rules.{rules}
 use Rattle.pairs.proofs.first_of.Goals as goal
 
 pub returns-then-is_ahead : goal.returns-then-is_ahead

@@ -1,7 +1,6 @@
 -- `is_ahead`: what is not found is ahead of nothing; else the order decides.
 use Rattle.pairs.specs.Pairs.{ahead}
 use Rattle.pairs.proofs.Least.{is_none, is_some}
-use borrow.Author.Rules.{rules}
 use Rattle.pairs.proofs.is_ahead.Goals as goal
 
 pub returns-then-choice-eq0 : goal.returns-then-choice-eq0

@@ -1,6 +1,5 @@
 -- `is_earlier`: the levels as the definition has them.
 use Rattle.pairs.specs.Pairs.{earlier}
-use borrow.Author.Rules.{rules}
 use Rattle.pairs.proofs.is_earlier.Goals as goal
 
 pub returns : goal.returns

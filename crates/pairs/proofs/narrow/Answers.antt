@@ -1,7 +1,6 @@
 -- `narrow`: a u16 stays, anything else is 0.
 use borrow.Author.Tests.{lt-ltb, le-ltb}
 use Rattle.pairs.specs.Pairs.{narrowed}
-use borrow.Author.Rules.{rules}
 use Rattle.pairs.proofs.narrow.Goals as goal
 
 pub returns-then-k-lt65536 : goal.returns-then-k-lt65536

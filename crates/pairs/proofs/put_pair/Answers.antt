@@ -1,6 +1,5 @@
 -- `put_pair`: three stores at the slot, which is below 256.
 use Rattle.pairs.specs.Pairs.{put}
-use borrow.Author.Rules.{rules}
 use Rattle.pairs.proofs.put_pair.Goals as goal
 
 pub returns : goal.returns

@@ -1,15 +1,8 @@
 -- `best_place`: before each place, the best among the places from here on is the best among all, and the least so far is the least of those passed.
-use borrow.Author.Rules.{rules}
 use mathlib.Core.Path.{◌≡◌, refl, sym, ◌∙◌}
-use Prim.Native.Nat.{ℕ, suc, ◌-◌, ◌≤◌}
+use Prim.Native.Nat.{suc, ◌-◌}
 use native.Mathlib.Omega.{arith}
 use lib.ListN.{length}
-use Rattle.day.specs.Matrix.{leg}
-use Rattle.labels.specs.Columns.{columns}
-use Rattle.descent.specs.Order.{range}
-use Rattle.deltas.specs.Deltas.{insertion_delta}
-use Rattle.insertions.specs.Cache.{least_below}
-use Rattle.places.specs.Places.{best_among}
 use Rattle.insertions.proofs.Reached.{least_start, least_turn, least_end}
 use Rattle.places.proofs.Inserting.{among_turn, among_end}
 use Rattle.places.proofs.best_place.Goals as goal

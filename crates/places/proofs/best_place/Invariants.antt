@@ -1,8 +1,6 @@
 -- `best_place`: before each place, the best among the places from here on is the best among all, and the least so far is the least of those passed.
-use borrow.Author.Rules.{rules}
-use mathlib.Core.Path.{◌≡◌, refl, sym, ◌∙◌}
+use mathlib.Core.Path.{◌≡◌}
 use Prim.Native.Nat.{ℕ, suc, ◌-◌, ◌≤◌}
-use native.Mathlib.Omega.{arith}
 use lib.ListN.{length}
 use Rattle.day.specs.Matrix.{leg}
 use Rattle.labels.specs.Columns.{columns}
@@ -10,8 +8,6 @@ use Rattle.descent.specs.Order.{range}
 use Rattle.deltas.specs.Deltas.{insertion_delta}
 use Rattle.insertions.specs.Cache.{least_below}
 use Rattle.places.specs.Places.{best_among}
-use Rattle.insertions.proofs.Reached.{least_start, least_turn, least_end}
-use Rattle.places.proofs.Inserting.{among_turn, among_end}
 use Rattle.places.proofs.best_place.Given as goal
 
 abbrev pub invariant-loop-setup : goal.invariant-loop-setup

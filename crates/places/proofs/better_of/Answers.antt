@@ -1,7 +1,5 @@
 -- `better_of`: the delta is the offer's, and each end is the better of the two.
-use borrow.Author.Rules.{rules}
 use mathlib.Core.Path.{refl}
-use borrow.Author.Tests.{not-true, not-false}
 use Rattle.places.proofs.Inserting.{offer_delta_lem, better_far, better_refused, better_taken}
 use Rattle.places.proofs.better_of.Goals as goal
 

@@ -1,5 +1,4 @@
 -- `candidate_passes`: where no check is needed the definition doesn't ask; else the buffer's front is the candidate, and the callee answers.
-use borrow.Author.Rules.{rules}
 use mathlib.Core.Path.{ap, ◌∙◌}
 use native.Mathlib.Omega.{arith}
 use borrow.Author.Tests.{not-true}

@@ -1,5 +1,4 @@
 -- `inserted_into`: the head, the visit and the tail, one behind the other, are the list with the visit put in.
-use borrow.Author.Rules.{rules}
 use native.Mathlib.Omega.{arith}
 use Rattle.places.proofs.Inserting.{built}
 use Rattle.places.proofs.inserted_into.Goals as goal

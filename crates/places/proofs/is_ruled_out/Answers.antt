@@ -1,5 +1,4 @@
 -- `is_ruled_out`: each arm is the definition's case.
-use borrow.Author.Rules.{rules}
 use borrow.Author.Tests.{not-true, not-false}
 use lib.Ieee.Scale.{finite}
 use Rattle.tests.specs.Pick.{no, yes}

@@ -1,5 +1,4 @@
 -- `descend`: the table of pairs is right of the lists as they are lent, and the moves are made from there.
-use mathlib.Core.Path.{◌∙◌}
 use native.Mathlib.Omega.{arith}
 use Rattle.relocate.proofs.descend.Goals as goal
 

@@ -1,5 +1,4 @@
 -- `move_and_search`: the tables and the cache are those of the move made, and of the pairs only those with one of its lists in them were wrong.
-use mathlib.Core.Path.{◌∙◌}
 use native.Mathlib.Omega.{arith}
 use Rattle.loads.proofs.Tables.{still_held}
 use Rattle.relocations.proofs.Searching.{moved_right}

@@ -1,5 +1,4 @@
 -- `visit_of`: the list is lent, and its visit read.
-use borrow.Author.Rules.{rules}
 use mathlib.Core.Path.{ap, ◌∙◌}
 use mathlib.Core.List.{List}
 use Prim.Native.Nat.{ℕ}

@@ -1,22 +1,14 @@
 -- `make_moves`: the moves made and the run that is left are the whole run; the cache and the table of pairs are right of the lists as they stand.
-use mathlib.Core.Path.{◌≡◌, refl, sym, ◌∙◌}
+use mathlib.Core.Path.{refl, sym, ◌∙◌}
 use Prim.Native.Nat.{◌-◌}
 use native.Mathlib.Omega.{arith}
-use lib.ListN.{length}
-use Rattle.lists.specs.Table.{lists}
-use Rattle.list_changes.specs.Edits.{Edited}
 use Rattle.lists.proofs.Tables.{length-lists}
-use Rattle.labels.specs.Columns.{columns}
-use Rattle.pairs.specs.Pairs.{table}
 use Rattle.pairs.proofs.Least.{is_none, is_some}
 use Rattle.pairs.proofs.Taken.{relocates}
-use Rattle.loads.specs.Loads.{Held}
-use Rattle.offers.specs.Offers.{Cached}
-use Rattle.relocations.specs.Relocations.{PairsRight, Every}
 use Rattle.descent.proofs.Going.{going_starts}
 use Rattle.list_changes.proofs.Edited.{edited_none}
 use Rattle.pairs.proofs.Going.{edited_again}
-use Rattle.relocation_runs.proofs.Going.{Running, table-choice, choice-there, answers_settled, answers_stopped, goes_on}
+use Rattle.relocation_runs.proofs.Going.{table-choice, choice-there, answers_settled, answers_stopped, goes_on}
 use Rattle.loads.proofs.Tables.{still_held}
 use Rattle.relocation_runs.proofs.make_moves.Goals as goal
 

@@ -1,14 +1,12 @@
 -- `search_all`: before each row, the pairs of the rows before it are right.
-use mathlib.Core.Path.{◌≡◌, refl, ◌∙◌}
+use mathlib.Core.Path.{◌≡◌}
 use Prim.Native.Nat.{◌-◌, ◌≤◌}
-use native.Mathlib.Omega.{arith}
 use lib.ListN.{length}
 use Rattle.lists.specs.Table.{lists}
 use Rattle.labels.specs.Columns.{columns}
 use Rattle.pairs.specs.Pairs.{table, Before}
 use Rattle.offers.specs.Offers.{Cached}
 use Rattle.relocations.specs.Relocations.{PairsRight}
-use Rattle.relocations.proofs.Searching.{rows_start, rows_end}
 use Rattle.relocations.proofs.search_all.Given as goal
 
 abbrev pub invariant-loop-from : goal.invariant-loop-from

@@ -1,5 +1,4 @@
 -- `search_both`: one pair is put in after the other.
-use mathlib.Core.Path.{◌∙◌}
 use native.Mathlib.Omega.{arith}
 use Rattle.relocations.proofs.Searching.{searched_sized}
 use Rattle.relocations.proofs.search_both.Goals as goal

@@ -1,13 +1,7 @@
 -- `search_changed`: before each turn, the pairs without a and b and those searched again are right.
-use mathlib.Core.Path.{◌≡◌, refl, ◌∙◌}
-use Prim.Native.Nat.{◌-◌, ◌≤◌}
+use mathlib.Core.Path.{refl, ◌∙◌}
+use Prim.Native.Nat.{◌-◌}
 use native.Mathlib.Omega.{arith}
-use lib.ListN.{length}
-use Rattle.lists.specs.Table.{lists}
-use Rattle.labels.specs.Columns.{columns}
-use Rattle.pairs.specs.Pairs.{table, Renewed}
-use Rattle.offers.specs.Offers.{Cached}
-use Rattle.relocations.specs.Relocations.{PairsRight}
 use Rattle.relocations.proofs.Searching.{both_sized, again_turn, again_end}
 use Rattle.relocations.proofs.search_changed.Goals as goal
 

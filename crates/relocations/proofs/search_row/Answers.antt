@@ -1,13 +1,7 @@
 -- `search_row`: before each pair, those before it are right.
-use mathlib.Core.Path.{◌≡◌, refl, ◌∙◌}
-use Prim.Native.Nat.{◌-◌, ◌≤◌}
+use mathlib.Core.Path.{refl, ◌∙◌}
+use Prim.Native.Nat.{◌-◌}
 use native.Mathlib.Omega.{arith}
-use lib.ListN.{length}
-use Rattle.lists.specs.Table.{lists}
-use Rattle.labels.specs.Columns.{columns}
-use Rattle.pairs.specs.Pairs.{table, Before}
-use Rattle.offers.specs.Offers.{Cached}
-use Rattle.relocations.specs.Relocations.{PairsRight}
 use Rattle.relocations.proofs.Searching.{row_turn, row_end}
 use Rattle.relocations.proofs.search_row.Goals as goal
 

@@ -1,14 +1,12 @@
 -- `search_row`: before each pair, those before it are right.
-use mathlib.Core.Path.{◌≡◌, refl, ◌∙◌}
+use mathlib.Core.Path.{◌≡◌}
 use Prim.Native.Nat.{◌-◌, ◌≤◌}
-use native.Mathlib.Omega.{arith}
 use lib.ListN.{length}
 use Rattle.lists.specs.Table.{lists}
 use Rattle.labels.specs.Columns.{columns}
 use Rattle.pairs.specs.Pairs.{table, Before}
 use Rattle.offers.specs.Offers.{Cached}
 use Rattle.relocations.specs.Relocations.{PairsRight}
-use Rattle.relocations.proofs.Searching.{row_turn, row_end}
 use Rattle.relocations.proofs.search_row.Given as goal
 
 abbrev pub invariant-loop-to : goal.invariant-loop-to

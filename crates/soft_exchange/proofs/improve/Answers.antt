@@ -1,10 +1,8 @@
 -- `improve`: the terms are those of the day and the van, so that the run is the definition's.
-use borrow.Author.Rules.{rules}
 use mathlib.Core.Path.{refl, ap, ◌∙◌}
 use mir.Syntax.{w32}
 use mir.ValLaws.{to_z-of_z}
 use Rattle.numbers.specs.Floor.{gain_floor}
-use Rattle.exchange_sweeps.proofs.Tables.{edited_length}
 use Rattle.soft_exchange.specs.SoftExchange.{soft_exchange_run}
 use Rattle.soft_tails.specs.Parts.{passes_of, judge_of}
 use Rattle.soft_exchange.proofs.improve.Goals as goal

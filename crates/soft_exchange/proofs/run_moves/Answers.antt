@@ -1,28 +1,20 @@
 -- `run_moves`: the moves made and the run from here on, with what is left of the limit, are the whole run, and the tables of figures are right for
 -- the lists as they stand. The measure is what is left.
-use mathlib.Core.Path.{◌≡◌, refl, sym, ap, subst, ◌∙◌}
-use mathlib.Core.List.{List, []}
+use mathlib.Core.Path.{refl, sym, ap, subst, ◌∙◌}
+use mathlib.Core.List.{List}
 use Prim.Native.Nat.{ℕ, ◌-◌}
 use native.Mathlib.Omega.{arith}
-use lib.ListN.{length}
-use Rattle.labels.specs.Columns.{columns}
-use Rattle.lists.specs.Table.{lists}
 use Rattle.list_changes.specs.Edits.{Edited}
 use Rattle.list_changes.proofs.Edited.{edited_on}
 use Rattle.descent.specs.Search.{Sweep}
 use Rattle.descent.specs.Across.{Pair}
-use Rattle.loads.specs.Loads.{Held}
-use Rattle.exchange_sweeps.specs.Exchange.{from, InSweep}
-use Rattle.soft_tails.specs.Parts.{next_of}
 use Rattle.exchange_sweeps.proofs.Places.{still_in, none_ahead, nothing_ahead}
 use Rattle.loads.proofs.Tables.{still_held}
 use Rattle.list_changes.proofs.Edited.{edited_none}
-use Rattle.exchange_sweeps.proofs.Tables.{edited_length}
 use Rattle.exchange_sweeps.proofs.Moves.{moved_on, leads-none, leads-some}
 use Rattle.lists.proofs.Tables.{length-lists}
-use Rattle.descent.proofs.Going.{Going, going_starts}
+use Rattle.descent.proofs.Going.{going_starts}
 use Rattle.engine.proofs.Running.{going_settles, going_stops}
-use Rattle.list_figures.specs.Kept.{KeptFigures}
 use Rattle.list_figures.proofs.Keeping.{kept_moved}
 use Rattle.soft_exchange.proofs.run_moves.Goals as goal
 

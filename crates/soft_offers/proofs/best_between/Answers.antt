@@ -1,5 +1,4 @@
 -- `best_between`: a list gives itself nothing, and an empty one gives nothing; else the two lists are searched.
-use borrow.Author.Rules.{rules}
 use mathlib.Core.Path.{ap, ◌∙◌}
 use native.Mathlib.Omega.{arith}
 use lib.ListN.{length}

@@ -1,15 +1,8 @@
 -- `best_of_pair`: before each visit, the best after the offers of the visits from here on is the best after those of all; the giver's head is driven on.
-use borrow.Author.Rules.{rules}
-use mathlib.Core.Path.{◌≡◌, refl, sym, ◌∙◌}
-use Prim.Native.Nat.{◌-◌, ◌≤◌}
+use mathlib.Core.Path.{refl, sym, ◌∙◌}
+use Prim.Native.Nat.{◌-◌}
 use native.Mathlib.Omega.{arith}
-use lib.ListN.{length}
-use Rattle.labels.specs.Columns.{columns}
 use Rattle.heads.proofs.Heads.{depot_driven}
-use Rattle.descent.specs.Order.{range}
-use Rattle.pairs.specs.Pairs.{nothing}
-use Rattle.soft_places.specs.Places.{DrivenBy}
-use Rattle.soft_offers.specs.Offers.{bound, best_offers}
 use Rattle.soft_offers.proofs.Offering.{offers_turn, offers_end}
 use Rattle.soft_offers.proofs.best_of_pair.Goals as goal
 

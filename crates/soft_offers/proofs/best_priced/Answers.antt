@@ -1,6 +1,4 @@
 -- `best_priced`: where a list has no price there is no move; else both have one, and the pair is searched.
-use borrow.Author.Rules.{rules}
-use borrow.Author.Tests.{not-true, not-false}
 use mathlib.Core.Path.{sym, ◌∙◌}
 use Rattle.descent.proofs.Members.{and_parts}
 use Rattle.soft_offers.proofs.Offering.{unpriced_as, priced_as}

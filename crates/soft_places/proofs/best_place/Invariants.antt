@@ -1,18 +1,12 @@
 -- `best_place`: before each place, the best among the places from here on is the best among all; the front of the buffer is the list with the visit at this
 -- place, and behind the list's head it is what is priced.
-use borrow.Author.Rules.{rules}
-use mathlib.Core.Path.{◌≡◌, refl, sym, ap, ◌∙◌}
-use Prim.Native.Nat.{suc, ◌+◌, ◌-◌, ◌≤◌}
-use native.Mathlib.Omega.{arith}
+use mathlib.Core.Path.{◌≡◌}
+use Prim.Native.Nat.{suc, ◌-◌, ◌≤◌}
 use lib.ListN.{length, take}
 use Rattle.labels.specs.Columns.{columns}
-use Rattle.heads.proofs.Heads.{depot_driven}
 use Rattle.descent.specs.Order.{range}
 use Rattle.edits.specs.Edits.{inserted}
 use Rattle.soft_places.specs.Places.{DrivenBy, price_of, best_among}
-use Rattle.loads.proofs.Visits.{visits_inserted}
-use Rattle.soft_places.proofs.Laid.{stepped, part_visits, price_inserted}
-use Rattle.soft_places.proofs.Placing.{among_turn, among_end}
 use Rattle.soft_places.proofs.best_place.Given as goal
 
 abbrev pub invariant-loop-place : goal.invariant-loop-place

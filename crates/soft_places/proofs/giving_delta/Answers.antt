@@ -1,5 +1,4 @@
 -- `giving_delta`: the operations are the definition's, and a list of one visit is emptied.
-use borrow.Author.Rules.{rules}
 use Rattle.soft_places.proofs.Placing.{giving_is}
 use Rattle.soft_places.proofs.giving_delta.Goals as goal
 

@@ -1,5 +1,4 @@
 -- `price_without`: behind a head that ends there, the list without the visit is its own tail; else it is laid in the buffer.
-use borrow.Author.Rules.{rules}
 use mathlib.Core.Path.{ap, ◌∙◌}
 use Rattle.evaluation.specs.Route.{effective_cost}
 use Rattle.edits.proofs.Cuts.{front}

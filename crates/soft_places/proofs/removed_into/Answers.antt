@@ -1,5 +1,4 @@
 -- `removed_into`: the head and the tail, one behind the other, are the list without the visit.
-use borrow.Author.Rules.{rules}
 use native.Mathlib.Omega.{arith}
 use Rattle.soft_places.proofs.Laid.{removed}
 use Rattle.soft_places.proofs.removed_into.Goals as goal

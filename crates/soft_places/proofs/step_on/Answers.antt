@@ -1,5 +1,4 @@
 -- `step_on`: its two stores are the definition.
-use borrow.Author.Rules.{rules}
 use mathlib.Core.Path.{refl}
 use Rattle.edits.specs.Edits.{swapped}
 use Rattle.soft_places.proofs.step_on.Goals as goal

@@ -1,20 +1,13 @@
 -- `descend`: the moves made and the run that is left are the whole run, and the table is right for the lists as they stand.
-use mathlib.Core.Path.{◌≡◌, refl, ◌∙◌}
+use mathlib.Core.Path.{refl, ◌∙◌}
 use Prim.Native.Nat.{◌-◌}
 use native.Mathlib.Omega.{arith}
-use lib.ListN.{length}
-use Rattle.lists.specs.Table.{lists}
-use Rattle.list_changes.specs.Edits.{Edited}
-use Rattle.labels.specs.Columns.{columns}
-use Rattle.pairs.specs.Pairs.{table}
 use Rattle.pairs.proofs.Least.{is_none, is_some}
 use Rattle.descent.proofs.Going.{going_starts}
 use Rattle.list_changes.proofs.Edited.{edited_none}
 use Rattle.pairs.proofs.Going.{edited_again}
-use Rattle.loads.specs.Loads.{Held}
-use Rattle.soft_relocations.specs.Relocations.{AllRight}
 use Rattle.loads.proofs.Tables.{still_held}
-use Rattle.soft_relocate.proofs.Running.{Running, least-taken, least-there, after_move, answers_settled, answers_stopped, goes_on}
+use Rattle.soft_relocate.proofs.Running.{least-taken, least-there, after_move, answers_settled, answers_stopped, goes_on}
 use Rattle.soft_relocate.proofs.descend.Goals as goal
 
 pub search_all-requires-clause-prepared : goal.search_all-requires-clause-prepared

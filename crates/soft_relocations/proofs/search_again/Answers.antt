@@ -1,13 +1,9 @@
 -- `search_again`: before each list, the pairs of the lists before it with a and b are right again, and so are those without a and b.
-use mathlib.Core.Path.{◌≡◌, refl, ◌∙◌}
+use mathlib.Core.Path.{refl, ◌∙◌}
 use Prim.Native.Nat.{◌-◌}
 use native.Mathlib.Omega.{arith}
-use lib.ListN.{length}
-use Rattle.labels.specs.Columns.{columns}
-use Rattle.pairs.specs.Pairs.{table, Renewed}
 use Rattle.pairs.proofs.Kept.{both_sized, renew_both, renew_end}
 use Rattle.pairs.proofs.Taken.{short-lists}
-use Rattle.soft_relocations.specs.Relocations.{RightOf}
 use Rattle.soft_relocations.proofs.search_again.Goals as goal
 
 pub loop-other-init : goal.loop-other-init

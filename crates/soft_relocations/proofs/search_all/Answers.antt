@@ -1,12 +1,8 @@
 -- `search_all`: before each list, the rows before it are right.
-use mathlib.Core.Path.{◌≡◌, refl, ◌∙◌}
+use mathlib.Core.Path.{refl, ◌∙◌}
 use Prim.Native.Nat.{◌-◌}
 use native.Mathlib.Omega.{arith}
-use lib.ListN.{length}
-use Rattle.labels.specs.Columns.{columns}
-use Rattle.pairs.specs.Pairs.{table, Before}
 use Rattle.pairs.proofs.Kept.{right_start, right_end}
-use Rattle.soft_relocations.specs.Relocations.{RightOf}
 use Rattle.soft_relocations.proofs.search_all.Goals as goal
 
 pub loop-from-init : goal.loop-from-init

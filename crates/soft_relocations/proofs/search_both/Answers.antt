@@ -1,5 +1,4 @@
 -- `search_both`: two pairs are put in, one after the other.
-use mathlib.Core.Path.{◌∙◌}
 use native.Mathlib.Omega.{arith}
 use Rattle.pairs.proofs.Kept.{stored_sized}
 use Rattle.soft_relocations.proofs.search_both.Goals as goal

@@ -1,5 +1,4 @@
 -- `search_pair`: what the search finds is put in.
-use borrow.Author.Rules.{rules}
 use native.Mathlib.Omega.{arith}
 use Rattle.soft_relocations.proofs.search_pair.Goals as goal
 

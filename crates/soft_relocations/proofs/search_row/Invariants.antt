@@ -1,12 +1,9 @@
 -- `search_row`: before each list, the rows before this one and the lists before that one are right.
-use mathlib.Core.Path.{◌≡◌, refl, ◌∙◌}
+use mathlib.Core.Path.{◌≡◌}
 use Prim.Native.Nat.{◌-◌}
-use native.Mathlib.Omega.{arith}
 use lib.ListN.{length}
 use Rattle.labels.specs.Columns.{columns}
 use Rattle.pairs.specs.Pairs.{table, Before}
-use Rattle.pairs.proofs.Kept.{right_turn, right_row}
-use Rattle.pairs.proofs.Taken.{short-lists}
 use Rattle.soft_relocations.specs.Relocations.{RightOf}
 use Rattle.soft_relocations.proofs.search_row.Given as goal
 

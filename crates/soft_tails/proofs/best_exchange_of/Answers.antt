@@ -1,6 +1,4 @@
 -- `best_exchange_of`: where a list has no price no exchange passes; else both have one.
-use borrow.Author.Rules.{rules}
-use borrow.Author.Tests.{not-true, not-false}
 use Rattle.soft_tails.proofs.Unpriced.{first_unpriced, second_unpriced, prices_known}
 use Rattle.soft_tails.proofs.best_exchange_of.Goals as goal
 

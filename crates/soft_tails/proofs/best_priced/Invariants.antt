@@ -1,21 +1,13 @@
 -- `best_priced`: the best so far and the cuts of the first list still ahead choose what all cuts do from nothing on; its head is driven on.
-use borrow.Author.Rules.{rules}
-use mathlib.Core.Path.{◌≡◌, refl, sym, ◌∙◌}
+use mathlib.Core.Path.{◌≡◌}
 use Prim.Native.Nat.{suc, ◌-◌, ◌≤◌}
-use native.Mathlib.Omega.{arith}
 use lib.ListN.{length, take}
 use Rattle.edits.specs.Total.{total}
 use Rattle.labels.specs.Columns.{columns}
-use Rattle.heads.proofs.Heads.{depot_driven}
 use Rattle.descent.specs.Order.{range, scan}
 use Rattle.loads.specs.Loads.{boxes_of}
-use Rattle.tails.specs.Best.{best_by}
-use Rattle.descent.proofs.Loops.{scan_done}
-use Rattle.tails.proofs.Turns.{cut_turn}
-use Rattle.loads.proofs.Boxes.{load_more, sum_small}
 use Rattle.tail_prices.specs.Changes.{DrivenBy}
 use Rattle.soft_tails.specs.Parts.{best_row, best_of}
-use Rattle.tail_prices.proofs.Behind.{first_visits}
 use Rattle.soft_tails.proofs.best_priced.Given as goal
 
 abbrev pub invariant-loop-last : goal.invariant-loop-last

@@ -2,24 +2,16 @@
 -- the function's entry
 -- the second head is part of the list
 -- and so is the first
-use borrow.Author.Rules.{rules}
-use mathlib.Core.Path.{◌≡◌, refl, sym, ◌∙◌}
-use Prim.Native.Nat.{suc, ◌+◌, ◌-◌, ◌≤◌}
-use native.Mathlib.Omega.{arith}
+use mathlib.Core.Path.{◌≡◌}
+use Prim.Native.Nat.{suc, ◌-◌, ◌≤◌}
 use lib.ListN.{length, take}
 use Rattle.edits.specs.Total.{total}
 use Rattle.labels.specs.Columns.{columns}
-use Rattle.heads.proofs.Heads.{depot_driven}
 use Rattle.descent.specs.Order.{range, scan}
 use Rattle.loads.specs.Loads.{boxes_of}
-use Rattle.tails.specs.Best.{row_by}
-use Rattle.descent.proofs.Loops.{scan_done}
-use Rattle.tails.proofs.Turns.{cut_turn}
-use Rattle.loads.proofs.Boxes.{load_small, load_more, load_joined, sum_small, head_small}
 use Rattle.tail_prices.specs.Changes.{DrivenBy}
 use Rattle.soft_tail_candidates.specs.Candidate.{better}
 use Rattle.soft_tails.specs.Parts.{best_row}
-use Rattle.tail_prices.proofs.Behind.{second_visits}
 use Rattle.soft_tails.proofs.best_row.Given as goal
 
 abbrev pub invariant-loop-last : goal.invariant-loop-last

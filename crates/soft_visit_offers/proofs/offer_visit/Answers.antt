@@ -1,6 +1,4 @@
 -- `offer_visit`: each of its ends is one case of the definition.
-use borrow.Author.Rules.{rules}
-use borrow.Author.Tests.{not-true, not-false}
 use native.Mathlib.Omega.{arith}
 use Rattle.soft_visit_offers.proofs.Offering.{refused_as, fails_as, offered_as}
 use Rattle.soft_visit_offers.proofs.offer_visit.Goals as goal

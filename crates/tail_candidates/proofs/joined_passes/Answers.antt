@@ -1,5 +1,4 @@
 -- `joined_passes`: where no check is needed the definition doesn't ask; else the buffer's front is the head and the tail, and the callee answers.
-use borrow.Author.Rules.{rules}
 use borrow.Author.Tests.{not-true, not-false}
 use mathlib.Core.Path.{ap, ◌∙◌}
 use Rattle.tests.specs.All.{off, on}

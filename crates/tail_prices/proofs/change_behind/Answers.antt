@@ -1,5 +1,4 @@
 -- `change_behind`: behind its head each new list is the other list's tail, which is what is driven.
-use borrow.Author.Rules.{rules}
 use mathlib.Core.Path.{◌∙◌}
 use Rattle.loads.proofs.Visits.{two_turned}
 use Rattle.tail_prices.proofs.Behind.{tail_visits, price_behind, same-change}

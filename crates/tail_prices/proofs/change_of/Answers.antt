@@ -1,7 +1,6 @@
 -- `change_of`: both ways of driving the new lists come to the definition's change.
-use borrow.Author.Rules.{rules}
 use mathlib.Core.Path.{sym, ◌∙◌}
-use borrow.Author.Tests.{not-false, eqb-true}
+use borrow.Author.Tests.{eqb-true}
 use lib.Dec.{eqb}
 use Rattle.tests.specs.All.{and_first, and_second}
 use Rattle.tail_prices.proofs.change_of.Goals as goal

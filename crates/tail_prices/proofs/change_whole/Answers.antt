@@ -1,5 +1,4 @@
 -- `change_whole`: each new list's cost is its callee's answer.
-use borrow.Author.Rules.{rules}
 use Rattle.loads.proofs.Visits.{two_turned}
 use Rattle.tail_prices.proofs.Behind.{same-change}
 use Rattle.tail_prices.proofs.change_whole.Goals as goal

@@ -1,5 +1,4 @@
 -- `joined_cost`: the buffer's front is the head and the tail, and the callee prices it.
-use borrow.Author.Rules.{rules}
 use mathlib.Core.Path.{ap, ◌∙◌}
 use Rattle.evaluation.specs.Route.{effective_cost}
 use Rattle.edits.proofs.Cuts.{front}

@@ -1,13 +1,9 @@
 -- `best_exchange`: the best so far and the cuts of the first list still ahead choose what all cuts do from nothing on.
-use mathlib.Core.Path.{◌≡◌, refl, sym, ◌∙◌}
-use Prim.Native.Nat.{suc, ◌-◌, ◌≤◌}
+use mathlib.Core.Path.{refl, sym, ◌∙◌}
+use Prim.Native.Nat.{suc, ◌-◌}
 use native.Mathlib.Omega.{arith}
-use lib.ListN.{length, take}
-use Rattle.edits.specs.Total.{total}
-use Rattle.labels.specs.Columns.{columns}
-use Rattle.descent.specs.Order.{range, scan}
-use Rattle.loads.specs.Loads.{boxes_of}
-use Rattle.tails.specs.Best.{best_row, best_of, best_by}
+use lib.ListN.{length}
+use Rattle.tails.specs.Best.{best_by}
 use Rattle.descent.proofs.Loops.{scan_done}
 use Rattle.tails.proofs.Turns.{cut_turn}
 use Rattle.loads.proofs.Boxes.{load_more, sum_small}

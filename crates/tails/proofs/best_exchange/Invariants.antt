@@ -1,16 +1,12 @@
 -- `best_exchange`: the best so far and the cuts of the first list still ahead choose what all cuts do from nothing on.
-use mathlib.Core.Path.{◌≡◌, refl, sym, ◌∙◌}
+use mathlib.Core.Path.{◌≡◌}
 use Prim.Native.Nat.{suc, ◌-◌, ◌≤◌}
-use native.Mathlib.Omega.{arith}
 use lib.ListN.{length, take}
 use Rattle.edits.specs.Total.{total}
 use Rattle.labels.specs.Columns.{columns}
 use Rattle.descent.specs.Order.{range, scan}
 use Rattle.loads.specs.Loads.{boxes_of}
-use Rattle.tails.specs.Best.{best_row, best_of, best_by}
-use Rattle.descent.proofs.Loops.{scan_done}
-use Rattle.tails.proofs.Turns.{cut_turn}
-use Rattle.loads.proofs.Boxes.{load_more, sum_small}
+use Rattle.tails.specs.Best.{best_row, best_of}
 use Rattle.tails.proofs.best_exchange.Given as goal
 
 abbrev pub invariant-loop-last : goal.invariant-loop-last

@@ -1,14 +1,10 @@
 -- `best_row`: the best so far and the cuts still ahead choose what the best at the start and all cuts do; the second head's load is kept running.
-use mathlib.Core.Path.{◌≡◌, refl, sym, ◌∙◌}
-use Prim.Native.Nat.{suc, ◌+◌, ◌-◌, ◌≤◌}
+use mathlib.Core.Path.{refl, sym, ◌∙◌}
+use Prim.Native.Nat.{suc, ◌+◌, ◌-◌}
 use native.Mathlib.Omega.{arith}
-use lib.ListN.{length, take}
-use Rattle.edits.specs.Total.{total}
-use Rattle.labels.specs.Columns.{columns}
-use Rattle.descent.specs.Order.{range, scan}
+use lib.ListN.{length}
 use Rattle.loads.specs.Loads.{boxes_of}
-use Rattle.tail_candidates.specs.Candidate.{better}
-use Rattle.tails.specs.Best.{best_row, row_by}
+use Rattle.tails.specs.Best.{row_by}
 use Rattle.descent.proofs.Loops.{scan_done}
 use Rattle.tails.proofs.Turns.{cut_turn}
 use Rattle.loads.proofs.Boxes.{load_small, load_more, load_joined, sum_small, head_small}

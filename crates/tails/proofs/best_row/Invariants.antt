@@ -2,19 +2,15 @@
 -- the function's entry
 -- the second head is part of the list
 -- and so is the first
-use mathlib.Core.Path.{◌≡◌, refl, sym, ◌∙◌}
-use Prim.Native.Nat.{suc, ◌+◌, ◌-◌, ◌≤◌}
-use native.Mathlib.Omega.{arith}
+use mathlib.Core.Path.{◌≡◌}
+use Prim.Native.Nat.{suc, ◌-◌, ◌≤◌}
 use lib.ListN.{length, take}
 use Rattle.edits.specs.Total.{total}
 use Rattle.labels.specs.Columns.{columns}
 use Rattle.descent.specs.Order.{range, scan}
 use Rattle.loads.specs.Loads.{boxes_of}
 use Rattle.tail_candidates.specs.Candidate.{better}
-use Rattle.tails.specs.Best.{best_row, row_by}
-use Rattle.descent.proofs.Loops.{scan_done}
-use Rattle.tails.proofs.Turns.{cut_turn}
-use Rattle.loads.proofs.Boxes.{load_small, load_more, load_joined, sum_small, head_small}
+use Rattle.tails.specs.Best.{best_row}
 use Rattle.tails.proofs.best_row.Given as goal
 
 abbrev pub invariant-loop-last : goal.invariant-loop-last

@@ -1,5 +1,4 @@
 -- `offer_visit`: one cell of each table is read, and written.
-use borrow.Author.Rules.{rules}
 use native.Mathlib.Omega.{arith}
 use Rattle.visit_offers.specs.Tried.{tried}
 use Rattle.visit_offers.proofs.Tried.{stored_as}

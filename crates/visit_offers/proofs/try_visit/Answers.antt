@@ -1,5 +1,4 @@
 -- `try_visit`: each end is the definition's case.
-use borrow.Author.Rules.{rules}
 use native.Mathlib.Omega.{arith}
 use Rattle.visit_offers.proofs.Tried.{tried_full, tried_ruled, tried_places}
 use Rattle.visit_offers.proofs.try_visit.Goals as goal
