@@ -1,5 +1,4 @@
 -- `cross_depot_improve`: a refusal changes nothing; otherwise the fleet is crewed and the lists are held, and the run is the definition's.
-use borrow.Author.Rules.{rules}
 use native.Mathlib.Nat.{not-suc-le-zero}
 use mathlib.Core.Path.{refl, sym, ◌∙◌}
 use Rattle.refusals.specs.Refusal.{fine_fleet}

@@ -1,5 +1,4 @@
 -- `improve_list`: a refusal changes nothing; otherwise the list asked for lies in the table, and the run is on its part.
-use borrow.Author.Rules.{rules}
 use Rattle.improvements.specs.Improve.{answer_of}
 use Rattle.improvements.proofs.Improving.{refused_call, improved_call, improvable}
 use Rattle.refusals.specs.Refusal.{listed}

@@ -1,8 +1,6 @@
 -- `improve_part`: the run keeps the visits, so that the list that it leaves has a distance.
-use borrow.Author.Rules.{rules}
 use Rattle.improvements.proofs.Improving.{improved_as_lem}
 use Rattle.within.proofs.Kept.{ran_visits}
-use mathlib.Core.Path.{sym, ◌∙◌}
 use Rattle.improvements.proofs.improve_part.Goals as goal
 
 pub improve-ended-requires-clause-formed : goal.improve-ended-requires-clause-formed
@@ -18,8 +16,7 @@ improve-ended-requires-clause-distances_value c =
     c.requires.distances_value
 
 pub route_distance-distance-requires : goal.route_distance-distance-requires
-route_distance-distance-requires c =
-    (
+route_distance-distance-requires c = (
   c.requires.formed.tables.of_distances,
   c.requires.depot_lt_l.0,
   rw
@@ -28,8 +25,7 @@ route_distance-distance-requires c =
 )
 
 pub returns : goal.returns
-returns c =
-    (
+returns c = (
   rw (← c.of-limits.ensures) c.improve-ended.ensures.0,
   rw (
     c.improved_of.ensures,

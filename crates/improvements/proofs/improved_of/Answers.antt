@@ -1,5 +1,4 @@
 -- `improved_of`: one arm for each end.
-use borrow.Author.Rules.{rules}
 use Rattle.improvements.specs.Improve.{improved_of}
 use Rattle.improvements.proofs.improved_of.Goals as goal
 

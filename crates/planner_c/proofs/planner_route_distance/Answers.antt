@@ -1,5 +1,4 @@
 -- `planner_route_distance`: one arm for each case of the entry's answer; a refusal writes nothing.
-use borrow.Author.Rules.{rules}
 use mathlib.Core.Path.{refl}
 use Rattle.written.specs.Written.{distance_code, distance_in}
 use Rattle.planner_c.proofs.planner_route_distance.Goals as goal

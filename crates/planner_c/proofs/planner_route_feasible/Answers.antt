@@ -1,5 +1,4 @@
 -- `planner_route_feasible`: one arm for each case of the entry's answer; a refusal writes nothing.
-use borrow.Author.Rules.{rules}
 use mathlib.Core.Path.{refl}
 use Rattle.written.specs.Written.{feasible_code, passes_in}
 use Rattle.planner_c.proofs.planner_route_feasible.Goals as goal

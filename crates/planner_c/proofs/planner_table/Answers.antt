@@ -1,5 +1,4 @@
 -- `planner_table`: the entry's answer, written out.
-use borrow.Author.Rules.{rules}
 use Rattle.planner_c.proofs.planner_table.Goals as goal
 
 pub returns : goal.returns

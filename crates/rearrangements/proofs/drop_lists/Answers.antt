@@ -1,8 +1,6 @@
 -- `drop_lists`: fewer than two lists stay as they are.
-use borrow.Author.Rules.{rules}
 use lib.ListN.{length}
 use Rattle.rearrangements.specs.Rearrange.{lengths_left, number_left}
-use native.Mathlib.Omega.{arith}
 use borrow.Author.Tests.{lt-ltb, le-ltb}
 use mathlib.Core.Path.{refl}
 use Rattle.rearrangements.proofs.drop_lists.Goals as goal
@@ -16,4 +14,4 @@ pub returns : goal.returns
 unfolding lengths_left number_left
 returns c =
     rw (le-ltb (length c.args.lengths.now) 2 c.if-lengths-lt2.false)
-    c.drop_empty.ensures.TAIL:count|lengths
+    (c.drop_empty.ensures.count, c.drop_empty.ensures.lengths)

@@ -1,5 +1,4 @@
 -- `rearranged_of`: one arm for each end.
-use borrow.Author.Rules.{rules}
 use Rattle.rearrangements.specs.Rearrange.{rearranged_of}
 use Rattle.rearrangements.proofs.rearranged_of.Goals as goal
 

@@ -1,5 +1,4 @@
 -- `bit_of`: one return for each case of the bool.
-use mathlib.Core.Path.{refl}
 use Rattle.written.specs.Written.{bit_of}
 use Rattle.written.proofs.bit_of.Goals as goal
 

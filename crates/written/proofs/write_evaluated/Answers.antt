@@ -1,5 +1,4 @@
 -- `write_evaluated`: one arm for each case of the answer; a refusal writes nothing.
-use borrow.Author.Rules.{rules}
 use mathlib.Core.Path.{refl}
 use Rattle.written.specs.Written.{eval_code, eval_passes, eval_in}
 use Rattle.written.proofs.write_evaluated.Goals as goal

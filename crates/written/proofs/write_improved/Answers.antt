@@ -1,5 +1,4 @@
 -- `write_improved`: one arm for each case of the answer; a refusal writes nothing.
-use borrow.Author.Rules.{rules}
 use Rattle.written.specs.Written.{improve_code, settled_in, moves_in, end_distance_in}
 use mathlib.Core.Path.{refl}
 use Rattle.written.proofs.write_improved.Goals as goal

@@ -1,5 +1,4 @@
 -- `write_rearranged`: one arm for each case of the answer; a refusal writes nothing.
-use borrow.Author.Rules.{rules}
 use Rattle.written.specs.Written.{rearrange_code, over_settled_in, over_moves_in, remaining_written}
 use mathlib.Core.Path.{refl}
 use Rattle.written.proofs.write_rearranged.Goals as goal

@@ -1,5 +1,4 @@
 -- `write_scheduled`: one arm for each case of the answer; a refusal writes nothing.
-use borrow.Author.Rules.{rules}
 use mathlib.Core.Path.{refl}
 use Rattle.written.specs.Written.{schedule_code, found_in, schedule_in, taken_in, position_in, start_in}
 use Rattle.written.proofs.write_scheduled.Goals as goal

@@ -1,5 +1,4 @@
 -- `write_table`: one arm for each case of the answer; a refusal writes nothing.
-use borrow.Author.Rules.{rules}
 use mathlib.Core.Path.{refl}
 use Rattle.written.specs.Written.{table_code, scale_in, floor_in, symmetric_in, fixed_in, depots_in}
 use Rattle.written.proofs.write_table.Goals as goal

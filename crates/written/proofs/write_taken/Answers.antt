@@ -1,5 +1,4 @@
 -- `write_taken`: one arm for each case of the rest.
-use borrow.Author.Rules.{rules}
 use mathlib.Core.Path.{refl}
 use Rattle.written.specs.Written.{taken_code, taken_position, taken_start}
 use Rattle.written.proofs.write_taken.Goals as goal

@@ -1,5 +1,4 @@
 -- `planner_three_opt_improve`: the entry's outcome, and its answer written out.
-use borrow.Author.Rules.{rules}
 use Rattle.planner_c.proofs.improve.planner_three_opt_improve.Goals as goal
 
 pub returns : goal.returns

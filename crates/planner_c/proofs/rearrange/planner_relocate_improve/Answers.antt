@@ -1,5 +1,4 @@
 -- `planner_relocate_improve`: the entry's outcome, and its answer written out.
-use borrow.Author.Rules.{rules}
 use Rattle.planner_c.proofs.rearrange.planner_relocate_improve.Goals as goal
 
 pub returns : goal.returns
