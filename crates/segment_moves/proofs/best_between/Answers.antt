@@ -1,12 +1,7 @@
 -- `best_between`: the best so far and the positions still ahead choose what the best at the start and all positions do.
-use mathlib.Core.Path.{◌≡◌, refl, sym, ◌∙◌}
+use mathlib.Core.Path.{refl, sym, ◌∙◌}
 use mathlib.Core.Logic.{⊎_elim, inl, inr}
-use Prim.Native.Nat.{◌-◌, ◌≤◌}
 use native.Mathlib.Omega.{arith}
-use borrow.Author.Rules.{rules}
-use Rattle.labels.specs.Columns.{columns}
-use Rattle.descent.specs.Order.{range}
-use Rattle.segments.specs.Segments.{choice, to_each, piece_of, Known}
 use Rattle.segments.proofs.Choosing.{turn_one, end_one}
 use Rattle.segment_moves.proofs.best_between.Goals as goal
 
@@ -21,10 +16,10 @@ consider-found-requires-clause-asked c =
 pub consider-found-requires-clause-fits : goal.consider-found-requires-clause-fits
 consider-found-requires-clause-fits c =
     record {
-          inside = c.requires.size_in_bounds.0;
-          there = omega arith;
-          apart = ⊎_elim (λ before. inl (omega arith)) (λ behind. inr (omega arith)) c.requires.fact;
-        }
+      inside = c.requires.size_in_bounds.0;
+      there = omega arith;
+      apart = ⊎_elim (λ before. inl (omega arith)) (λ behind. inr (omega arith)) c.requires.fact;
+    }
 
 pub consider-found-requires-clause-gain_value : goal.consider-found-requires-clause-gain_value
 consider-found-requires-clause-gain_value c =
@@ -35,12 +30,11 @@ consider-found-requires-clause-known c =
     c.loop-to.invariant.2
 
 pub loop-to-preserved : goal.loop-to-preserved
-loop-to-preserved c =
-    (
-      omega arith,
-      turn_one _ _ _ _ _ _ _ c.loop-to-test.true c.consider-found.ensures.0 ∙ c.loop-to.invariant.1,
-      c.consider-found.ensures.1,
-    )
+loop-to-preserved c = (
+  omega arith,
+  turn_one _ _ _ _ _ _ _ c.loop-to-test.true c.consider-found.ensures.0 ∙ c.loop-to.invariant.1,
+  c.consider-found.ensures.1,
+)
 
 pub returns : goal.returns
 returns c =

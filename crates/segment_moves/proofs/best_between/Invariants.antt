@@ -1,13 +1,9 @@
 -- `best_between`: the best so far and the positions still ahead choose what the best at the start and all positions do.
-use mathlib.Core.Path.{◌≡◌, refl, sym, ◌∙◌}
-use mathlib.Core.Logic.{⊎_elim, inl, inr}
+use mathlib.Core.Path.{◌≡◌}
 use Prim.Native.Nat.{◌-◌, ◌≤◌}
-use native.Mathlib.Omega.{arith}
-use borrow.Author.Rules.{rules}
 use Rattle.labels.specs.Columns.{columns}
 use Rattle.descent.specs.Order.{range}
 use Rattle.segments.specs.Segments.{choice, to_each, piece_of, Known}
-use Rattle.segments.proofs.Choosing.{turn_one, end_one}
 use Rattle.segment_moves.proofs.best_between.Given as goal
 
 abbrev pub invariant-loop-to : goal.invariant-loop-to

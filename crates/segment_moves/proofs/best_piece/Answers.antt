@@ -1,12 +1,9 @@
 -- `best_piece`: the best so far and the pieces still ahead choose what all pieces do from nothing on. A piece as long as the list has no position.
-use mathlib.Core.Path.{◌≡◌, refl, sym, ◌∙◌}
+use mathlib.Core.Path.{refl, sym, ◌∙◌}
 use Prim.Native.Nat.{suc, ◌-◌, ◌≤◌, ◌<◌}
 use native.Mathlib.Omega.{arith}
 use lib.ListN.{length}
-use Rattle.labels.specs.Columns.{columns}
-use Rattle.descent.specs.Order.{range, each}
-use Rattle.segments.specs.Segments.{choice, piece_of, Known}
-use Rattle.segment_moves.specs.Row.{row}
+use Rattle.segments.specs.Segments.{Known}
 use Rattle.segments.proofs.Choosing.{turn_each, end_each}
 use Rattle.segment_moves.proofs.Rows.{all_chosen, none_chosen}
 use Rattle.segment_moves.proofs.best_piece.Goals as goal
@@ -50,8 +47,7 @@ loop-from-smaller c =
 
 pub loop-from-preserved : goal.loop-from-preserved
 loop-from-preserved c =
-    let ahead : c.loop-from.from < suc (length c.args.list.now - c.args.size) = omega arith in
-    (
+    let ahead : c.loop-from.from < suc (length c.args.list.now - c.args.size) = omega arith in (
       omega arith,
       turn_each _ _ _ _ _ _ _ ahead c.best_from-best.ensures.0 ∙ c.loop-from.invariant.1,
       c.best_from-best.ensures.1,

@@ -1,14 +1,11 @@
 -- `best_piece`: the best so far and the pieces still ahead choose what all pieces do from nothing on. A piece as long as the list has no position.
-use mathlib.Core.Path.{◌≡◌, refl, sym, ◌∙◌}
-use Prim.Native.Nat.{suc, ◌-◌, ◌≤◌, ◌<◌}
-use native.Mathlib.Omega.{arith}
+use mathlib.Core.Path.{◌≡◌}
+use Prim.Native.Nat.{suc, ◌-◌, ◌≤◌}
 use lib.ListN.{length}
 use Rattle.labels.specs.Columns.{columns}
 use Rattle.descent.specs.Order.{range, each}
 use Rattle.segments.specs.Segments.{choice, piece_of, Known}
 use Rattle.segment_moves.specs.Row.{row}
-use Rattle.segments.proofs.Choosing.{turn_each, end_each}
-use Rattle.segment_moves.proofs.Rows.{all_chosen, none_chosen}
 use Rattle.segment_moves.proofs.best_piece.Given as goal
 
 abbrev pub invariant-loop-from : goal.invariant-loop-from
