@@ -1,5 +1,4 @@
 -- `append_pieces`: one piece behind the other, in the order that the way says.
-use borrow.Author.Rules.{rules}
 use native.Mathlib.Omega.{arith}
 use mathlib.Core.List.{append_assoc}
 use Rattle.reconnections.proofs.append_pieces.Goals as goal

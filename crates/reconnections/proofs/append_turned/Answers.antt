@@ -1,5 +1,4 @@
 -- `append_turned`: the callee of each arm appends what the definition says.
-use borrow.Author.Rules.{rules}
 use Rattle.reconnections.proofs.append_turned.Goals as goal
 
 pub returns-then-turned-clause-value : goal.returns-then-turned-clause-value

@@ -1,5 +1,4 @@
 -- `make_move`: the list is overwritten as a whole by the list that was built, which is as long.
-use borrow.Author.Rules.{rules}
 use mathlib.Core.Path.{ap, ◌∙◌}
 use lib.ListN.{length}
 use Rattle.edits.proofs.Chain.{appended_whole}
