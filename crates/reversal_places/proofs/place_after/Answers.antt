@@ -1,5 +1,4 @@
 -- `place_after`: the test that the code makes is the definition's.
-use borrow.Author.Rules.{rules}
 use borrow.Author.Tests.{lt-ltb, le-ltb}
 use mathlib.Core.Path.{refl}
 use Rattle.tests.specs.Pick.{picked, other}

@@ -1,6 +1,4 @@
 -- `try_reversal`: the delta is tested first; where it counts, the check of the list turned round decides.
-use borrow.Author.Rules.{rules}
-use borrow.Author.Tests.{not-true, not-false}
 use native.Mathlib.Omega.{arith}
 use mathlib.Core.Path.{refl}
 use Rattle.reversal_places.proofs.Tried.{break_checked, delta_asks, no_gain, checked}
@@ -17,7 +15,7 @@ two_opt_delta-delta-requires-clause-first_le_last c =
 pub returns-then-not-gains-clause-value : goal.returns-then-not-gains-clause-value
 returns-then-not-gains-clause-value c =
     no_gain _ _ c.requires.worked.0 _ c.args.place _ c.two_opt_delta-delta.ensures _ c.counts_as_gain-gains.ensures.answer
-          (c.if-not-gains.true)
+    (c.if-not-gains.true)
 
 pub returns-then-not-gains-clause-list_after : goal.returns-then-not-gains-clause-list_after
 returns-then-not-gains-clause-list_after c =
@@ -54,7 +52,7 @@ turn_broken-requires-clause-needed_value c =
 pub returns-in-NoBreak-clause-value : goal.returns-in-NoBreak-clause-value
 returns-in-NoBreak-clause-value c =
     checked _ _ c.requires.worked.0 _ c.args.place _ c.two_opt_delta-delta.ensures _ c.counts_as_gain-gains.ensures.answer
-          (c.if-not-gains.false) _ c.turn_unbroken.ensures.value
+    (c.if-not-gains.false) _ c.turn_unbroken.ensures.value
 
 pub returns-in-NoBreak-clause-list_after : goal.returns-in-NoBreak-clause-list_after
 returns-in-NoBreak-clause-list_after c =
@@ -63,7 +61,7 @@ returns-in-NoBreak-clause-list_after c =
 pub returns-in-Break-clause-value : goal.returns-in-Break-clause-value
 returns-in-Break-clause-value c =
     checked _ _ c.requires.worked.0 _ c.args.place _ c.two_opt_delta-delta.ensures _ c.counts_as_gain-gains.ensures.answer
-          (c.if-not-gains.false) _ c.turn_broken.ensures.value
+    (c.if-not-gains.false) _ c.turn_broken.ensures.value
 
 pub returns-in-Break-clause-list_after : goal.returns-in-Break-clause-list_after
 returns-in-Break-clause-list_after c =

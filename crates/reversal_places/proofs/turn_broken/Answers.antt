@@ -1,5 +1,4 @@
 -- `turn_broken`: the list turned round is checked; turned round once more it is the list again.
-use borrow.Author.Rules.{rules}
 use borrow.Author.Tests.{not-true, not-false}
 use native.Mathlib.Omega.{arith}
 use mathlib.Core.Path.{ap, ◌∙◌}
@@ -28,11 +27,10 @@ outcome_of-outcome-requires-clause-formed c =
     c.requires.worked.0.formed
 
 pub outcome_of-outcome-requires-clause-depot_lt_l : goal.outcome_of-outcome-requires-clause-depot_lt_l
-outcome_of-outcome-requires-clause-depot_lt_l c =
-    (
-        c.requires.worked.0.depot_there,
-        rw c.reverse.ensures (turned-visits _ _ c.args.place c.requires.first_lt_last.0 c.requires.worked.1),
-      )
+outcome_of-outcome-requires-clause-depot_lt_l c = (
+  c.requires.worked.0.depot_there,
+  rw c.reverse.ensures (turned-visits _ _ c.args.place c.requires.first_lt_last.0 c.requires.worked.1),
+)
 
 pub reverse-requires-then-not-passed-clause-from_le_to : goal.reverse-requires-then-not-passed-clause-from_le_to
 reverse-requires-then-not-passed-clause-from_le_to c =
@@ -46,21 +44,21 @@ pub returns-then-not-passed-clause-value : goal.returns-then-not-passed-clause-v
 unfolding passing feasible
 returns-then-not-passed-clause-value c =
     on _ _ _ c.requires.needed_value
-          (c.is_allowed-passed.ensures
-          ∙ ap (allowed _) (c.outcome_of-outcome.ensures ∙ ap (outcome _ _ _) c.reverse.ensures))
+    (c.is_allowed-passed.ensures
+    ∙ ap (allowed _) (c.outcome_of-outcome.ensures ∙ ap (outcome _ _ _) c.reverse.ensures))
 
 pub returns-then-not-passed-clause-list_after : goal.returns-then-not-passed-clause-list_after
 unfolding passing feasible
 returns-then-not-passed-clause-list_after c =
     other _ _ _ _ (not-true c.is_allowed-passed.result (ap not c.if-not-passed.true))
-          (turned_back _ _ _ c.args.place c.requires.first_lt_last.0 c.requires.first_lt_last.1 c.reverse.ensures c.reverse-then-not-passed.ensures)
+    (turned_back _ _ _ c.args.place c.requires.first_lt_last.0 c.requires.first_lt_last.1 c.reverse.ensures c.reverse-then-not-passed.ensures)
 
 pub returns-else-not-passed-clause-value : goal.returns-else-not-passed-clause-value
 unfolding passing feasible
 returns-else-not-passed-clause-value c =
     on _ _ _ c.requires.needed_value
-          (c.is_allowed-passed.ensures
-          ∙ ap (allowed _) (c.outcome_of-outcome.ensures ∙ ap (outcome _ _ _) c.reverse.ensures))
+    (c.is_allowed-passed.ensures
+    ∙ ap (allowed _) (c.outcome_of-outcome.ensures ∙ ap (outcome _ _ _) c.reverse.ensures))
 
 pub returns-else-not-passed-clause-list_after : goal.returns-else-not-passed-clause-list_after
 unfolding passing feasible

@@ -1,5 +1,4 @@
 -- `turn_unbroken`: the list turned round is a layout of the list, and its check decides whether the reversal is made.
-use borrow.Author.Rules.{rules}
 use native.Mathlib.Omega.{arith}
 use mathlib.Core.Path.{refl, ap, ◌∙◌}
 use Rattle.tests.specs.Pick.{picked, other}
@@ -16,12 +15,11 @@ laid_passes-laid-requires-clause-formed c =
     c.requires.worked.0.formed
 
 pub laid_passes-laid-requires-clause-depot_lt_l : goal.laid_passes-laid-requires-clause-depot_lt_l
-laid_passes-laid-requires-clause-depot_lt_l c =
-    (
-          c.requires.worked.0.depot_there,
-          c.requires.worked.1,
-          rw c.reversal-turned.ensures (reversal_cut _ _ _ (omega (arith, c.requires.first_lt_last.0)) (omega (arith, c.requires.first_lt_last.1))),
-        )
+laid_passes-laid-requires-clause-depot_lt_l c = (
+  c.requires.worked.0.depot_there,
+  c.requires.worked.1,
+  rw c.reversal-turned.ensures (reversal_cut _ _ _ (omega (arith, c.requires.first_lt_last.0)) (omega (arith, c.requires.first_lt_last.1))),
+)
 
 pub laid_passes-laid-requires-clause-driven : goal.laid_passes-laid-requires-clause-driven
 laid_passes-laid-requires-clause-driven c =
