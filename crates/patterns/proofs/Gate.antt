@@ -4,7 +4,7 @@ use mathlib.Core.Bool.{Bool, true, false, true≢false, ◌||◌}
 use mathlib.Core.List.{List}
 use Prim.Native.Nat.{ℕ, ◌+◌, ◌<◌}
 use native.Mathlib.Omega.{arith}
-use lib.Ieee.{Float, lt, neg}
+use lib.Ieee.{neg}
 use Rattle.day.specs.Matrix.{leg}
 use Rattle.labels.specs.Columns.{Columns}
 use Rattle.descent.specs.Permitted.{Arrangement}
@@ -14,7 +14,7 @@ use Rattle.deltas.specs.Deltas.{cut_at}
 use Rattle.deltas.specs.declared.Cut.{Cut}
 use Rattle.layouts.specs.Layout.{way_of}
 use Rattle.reconnections.specs.Reconnections.{cut_of}
-use Rattle.patterns.specs.Patterns.{search_of, judge_of, Prepared, move_of, better}
+use Rattle.patterns.specs.Patterns.{search_of, judge_of, Prepared, move_of}
 use Rattle.patterns.specs.Below.{below, any_below}
 use Rattle.patterns.specs.declared.Setup.{Setup}
 use Rattle.reconnections.specs.declared.Place.{Place}

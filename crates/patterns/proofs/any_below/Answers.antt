@@ -1,5 +1,4 @@
 -- `any_below`: seven changes against the bar, joined as the definition joins them.
-use borrow.Author.Rules.{rules}
 use Rattle.patterns.specs.Below.{any_below}
 use Rattle.patterns.proofs.any_below.Goals as goal
 

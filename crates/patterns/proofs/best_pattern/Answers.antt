@@ -1,12 +1,8 @@
 -- `best_pattern`: where none is below minus the floor, none is taken; before each pattern the scan from the best so far comes to what is to be taken.
-use borrow.Author.Rules.{rules}
-use borrow.Author.Tests.{not-true}
-use mathlib.Core.Path.{◌≡◌, refl, sym, ◌∙◌}
-use Prim.Native.Nat.{◌-◌, ◌<◌}
+use mathlib.Core.Path.{refl, sym, ◌∙◌}
+use Prim.Native.Nat.{◌<◌}
 use native.Mathlib.Omega.{arith}
-use lib.ListN.{length}
-use Rattle.labels.specs.Columns.{columns}
-use Rattle.patterns.proofs.Choosing.{Scan, scan_start, scan_turn, scan_end}
+use Rattle.patterns.proofs.Choosing.{scan_start, scan_turn, scan_end}
 use Rattle.patterns.proofs.Judging.{listed, cut_placed}
 use Rattle.patterns.proofs.Gate.{none_below}
 use Rattle.patterns.proofs.best_pattern.Goals as goal
@@ -56,8 +52,7 @@ better_of-best-requires-clause-cut_value c =
 
 pub loop-pattern-preserved : goal.loop-pattern-preserved
 loop-pattern-preserved c =
-    let below : c.loop-pattern.pattern < 8 = omega (arith, c.loop-pattern-test.true) in
-    (
+    let below : c.loop-pattern.pattern < 8 = omega (arith, c.loop-pattern-test.true) in (
       rw c.better_of-best.ensures (scan_turn _ _ _ _ _ _ _ below c.loop-pattern.invariant.0),
       c.better_of-best.auto.buffer ∙ c.loop-pattern.invariant.1,
     )

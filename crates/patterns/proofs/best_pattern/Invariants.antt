@@ -1,14 +1,9 @@
 -- `best_pattern`: where none is below minus the floor, none is taken; before each pattern the scan from the best so far comes to what is to be taken.
-use borrow.Author.Rules.{rules}
-use borrow.Author.Tests.{not-true}
-use mathlib.Core.Path.{◌≡◌, refl, sym, ◌∙◌}
-use Prim.Native.Nat.{◌-◌, ◌<◌}
-use native.Mathlib.Omega.{arith}
+use mathlib.Core.Path.{◌≡◌}
+use Prim.Native.Nat.{◌-◌}
 use lib.ListN.{length}
 use Rattle.labels.specs.Columns.{columns}
-use Rattle.patterns.proofs.Choosing.{Scan, scan_start, scan_turn, scan_end}
-use Rattle.patterns.proofs.Judging.{listed, cut_placed}
-use Rattle.patterns.proofs.Gate.{none_below}
+use Rattle.patterns.proofs.Choosing.{Scan}
 use Rattle.patterns.proofs.best_pattern.Given as goal
 
 abbrev pub invariant-loop-pattern : goal.invariant-loop-pattern

@@ -1,6 +1,4 @@
 -- `better_of`: the delta is the judge's, and each end is the better of the two.
-use borrow.Author.Rules.{rules}
-use borrow.Author.Tests.{not-true, not-false}
 use Rattle.patterns.proofs.Judging.{listed, cut_placed, better_far, better_refused, better_taken}
 use Rattle.patterns.proofs.better_of.Goals as goal
 

@@ -1,5 +1,4 @@
 -- `candidate_passes`: where no check is needed the definition doesn't ask; else the buffer's front is the candidate, and the callee answers.
-use borrow.Author.Rules.{rules}
 use mathlib.Core.Path.{ap, ◌∙◌}
 use borrow.Author.Tests.{not-true}
 use Rattle.tests.specs.All.{off}
@@ -18,13 +17,12 @@ passes-requires-clause-formed c =
     c.requires.prepared.formed
 
 pub passes-requires-clause-depot_lt_l : goal.passes-requires-clause-depot_lt_l
-passes-requires-clause-depot_lt_l c =
-    (
-        c.requires.prepared.depot_there,
-        rw (front c.reconnected_into-end.result c.reconnected_into-end.new.buffer _
-            c.reconnected_into-end.ensures.buffer_after)
-            (visits_reconnected _ _ _ c.requires.inside.0 _ c.requires.visits.0),
-      )
+passes-requires-clause-depot_lt_l c = (
+  c.requires.prepared.depot_there,
+  rw (front c.reconnected_into-end.result c.reconnected_into-end.new.buffer _
+      c.reconnected_into-end.ensures.buffer_after)
+      (visits_reconnected _ _ _ c.requires.inside.0 _ c.requires.visits.0),
+)
 
 pub returns : goal.returns
 returns c =
