@@ -1,12 +1,7 @@
 -- `first_move`: the first move from here on is the first from `first` on; a length that has none is passed over.
-use mathlib.Core.Path.{◌≡◌, refl, sym, ap, ◌∙◌}
-use Prim.Native.Nat.{◌-◌}
+use mathlib.Core.Path.{refl, sym, ap, ◌∙◌}
 use native.Mathlib.Omega.{arith}
-use borrow.Author.Rules.{rules}
-use Rattle.labels.specs.Columns.{columns}
-use Rattle.descent.specs.Order.{range}
-use Rattle.descent.specs.Search.{first_move}
-use Rattle.segments.specs.Segments.{search_of, judge_of, piece_of}
+use Rattle.segments.specs.Segments.{piece_of}
 use Rattle.or_opt.specs.OrOpt.{Apt}
 use Rattle.or_opt.proofs.Sizes.{fits_taken, size-moves, size_passed, sizes_done}
 use Rattle.or_opt.proofs.first_move.Goals as goal

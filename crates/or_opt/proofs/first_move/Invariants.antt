@@ -1,14 +1,10 @@
 -- `first_move`: the first move from here on is the first from `first` on; a length that has none is passed over.
-use mathlib.Core.Path.{◌≡◌, refl, sym, ap, ◌∙◌}
+use mathlib.Core.Path.{◌≡◌}
 use Prim.Native.Nat.{◌-◌}
-use native.Mathlib.Omega.{arith}
-use borrow.Author.Rules.{rules}
 use Rattle.labels.specs.Columns.{columns}
 use Rattle.descent.specs.Order.{range}
 use Rattle.descent.specs.Search.{first_move}
-use Rattle.segments.specs.Segments.{search_of, judge_of, piece_of}
-use Rattle.or_opt.specs.OrOpt.{Apt}
-use Rattle.or_opt.proofs.Sizes.{fits_taken, size-moves, size_passed, sizes_done}
+use Rattle.segments.specs.Segments.{search_of, judge_of}
 use Rattle.or_opt.proofs.first_move.Given as goal
 
 abbrev pub invariant-loop-size : goal.invariant-loop-size

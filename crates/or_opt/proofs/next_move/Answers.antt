@@ -1,6 +1,5 @@
 -- `next_move`: the first move ahead in this sweep or, where there is none, the first of a new one.
 use mathlib.Core.Path.{sym, ap, subst, ◌∙◌}
-use borrow.Author.Rules.{rules}
 use lib.ListN.{length}
 use Rattle.or_opt.specs.OrOpt.{Apt, leads}
 use Rattle.or_opt.proofs.Sizes.{is-ahead, is_anew}

@@ -1,35 +1,30 @@
 -- `or_opt_improve`: after some moves the run from here on, with what is left of the limit, ends as the whole run does; the measure is what is left.
-use mathlib.Core.Path.{◌≡◌, refl, sym, ap, subst, ◌∙◌}
-use mathlib.Core.List.{List, []}
-use Prim.Native.Nat.{ℕ, ◌-◌}
+use mathlib.Core.Path.{refl, sym, ap, subst, ◌∙◌}
+use mathlib.Core.List.{List}
+use Prim.Native.Nat.{ℕ}
 use native.Mathlib.Omega.{arith}
-use borrow.Author.Rules.{rules}
 use lib.ListN.{length}
 use Rattle.numbers.specs.Floor.{gain_floor}
-use Rattle.labels.specs.Columns.{columns}
-use Rattle.descent.specs.Order.{range}
-use Rattle.descent.specs.Search.{Sweep, next}
+use Rattle.descent.specs.Search.{Sweep}
 use Rattle.descent.specs.Engines.{run_of}
-use Rattle.segments.specs.Segments.{search_of, judge_of, Asked}
 use Rattle.or_opt.specs.OrOpt.{Apt, leads}
 use Rattle.or_opt.proofs.Sizes.{moved_on}
-use Rattle.descent.proofs.Going.{Going, going_starts}
+use Rattle.descent.proofs.Going.{going_starts}
 use Rattle.engine.proofs.Running.{going_settles, going_stops}
 use Rattle.or_opt.proofs.or_opt_improve.Goals as goal
 
 pub loop-change-init : goal.loop-change-init
-loop-change-init c =
-    (
-      going_starts _ _ _,
-      record {
-        formed = c.requires.formed;
-        depot_there = c.requires.depot_lt_l.0;
-        visits = c.requires.depot_lt_l.1;
-        needed = c.route_checks_needed-needed.ensures;
-        floor = c.gain_floor-floor.ensures.answer ∙ ap gain_floor c.scale.ensures;
-      },
-      refl,
-    )
+loop-change-init c = (
+  going_starts _ _ _,
+  record {
+    formed = c.requires.formed;
+    depot_there = c.requires.depot_lt_l.0;
+    visits = c.requires.depot_lt_l.1;
+    needed = c.route_checks_needed-needed.ensures;
+    floor = c.gain_floor-floor.ensures.answer ∙ ap gain_floor c.scale.ensures;
+  },
+  refl,
+)
 
 pub next_move-best-requires : goal.next_move-best-requires
 next_move-best-requires c =
