@@ -1,14 +1,9 @@
 -- `best_neighbour`. The invariant: what is chosen from here on is what the whole scan chooses, and the head is driven. The measure: the neighbours left.
-use mathlib.Core.Path.{◌≡◌, refl, ◌∙◌}
-use lib.ListN.{length}
+use mathlib.Core.Path.{refl, ◌∙◌}
 use Rattle.labels.specs.Columns.{columns}
 use Rattle.evaluation.specs.Route.{effective_cost}
-use Rattle.heads.specs.Head.{Driven}
 use Rattle.heads.proofs.Heads.{depot_driven}
-use Rattle.neighbours.specs.Neighbours.{made}
-use Rattle.neighbours.specs.Places.{rest}
-use Rattle.soft_neighbours.proofs.Passes.{Scanning, scan_starts, scan_turns, scan_ends, inside_at, fewer}
-use borrow.Author.Rules.{rules}
+use Rattle.soft_neighbours.proofs.Passes.{scan_starts, scan_turns, scan_ends, inside_at, fewer}
 use Rattle.soft_neighbours.proofs.best_neighbour.Goals as goal
 
 pub first_place-here-requires : goal.first_place-here-requires

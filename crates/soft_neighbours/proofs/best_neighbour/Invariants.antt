@@ -1,14 +1,12 @@
 -- `best_neighbour`. The invariant: what is chosen from here on is what the whole scan chooses, and the head is driven. The measure: the neighbours left.
-use mathlib.Core.Path.{◌≡◌, refl, ◌∙◌}
+use mathlib.Core.Path.{◌≡◌}
 use lib.ListN.{length}
 use Rattle.labels.specs.Columns.{columns}
 use Rattle.evaluation.specs.Route.{effective_cost}
 use Rattle.heads.specs.Head.{Driven}
-use Rattle.heads.proofs.Heads.{depot_driven}
 use Rattle.neighbours.specs.Neighbours.{made}
 use Rattle.neighbours.specs.Places.{rest}
-use Rattle.soft_neighbours.proofs.Passes.{Scanning, scan_starts, scan_turns, scan_ends, inside_at, fewer}
-use borrow.Author.Rules.{rules}
+use Rattle.soft_neighbours.proofs.Passes.{Scanning}
 use Rattle.soft_neighbours.proofs.best_neighbour.Given as goal
 
 abbrev pub invariant-loop-here : goal.invariant-loop-here

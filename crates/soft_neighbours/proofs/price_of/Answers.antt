@@ -4,7 +4,6 @@ use mathlib.Core.Path.{ap, ◌∙◌}
 use Rattle.head_prices.specs.Prices.{price_from}
 use Rattle.head_prices.proofs.Prices.{from_head}
 use Rattle.neighbours.proofs.Layouts.{part_is, made_visits, visits_behind, shares}
-use borrow.Author.Rules.{rules}
 use Rattle.soft_neighbours.proofs.price_of.Goals as goal
 
 pub layout_of-p-requires : goal.layout_of-p-requires
@@ -44,17 +43,15 @@ price_from-price-requires-clause-formed c =
     c.requires.formed
 
 pub price_from-price-requires-clause-depot_lt_l : goal.price_from-price-requires-clause-depot_lt_l
-price_from-price-requires-clause-depot_lt_l c =
-    (
-        c.requires.depot_lt_l.0,
-        c.reach-head.ensures.driven_2.placed,
-        rw (part_is _ _ _ _ _ _ c.layout_of-p.ensures c.lay_out.ensures) (visits_behind _ c.reach-head.result.visits _ (made_visits _ _ _ _ _ c.layout_of-p.ensures c.requires.depot_lt_l.1)),
-      )
+price_from-price-requires-clause-depot_lt_l c = (
+  c.requires.depot_lt_l.0,
+  c.reach-head.ensures.driven_2.placed,
+  rw (part_is _ _ _ _ _ _ c.layout_of-p.ensures c.lay_out.ensures) (visits_behind _ c.reach-head.result.visits _ (made_visits _ _ _ _ _ c.layout_of-p.ensures c.requires.depot_lt_l.1)),
+)
 
 pub returns : goal.returns
-returns c =
-    (
-      c.price_from-price.ensures ∙ ap (price_from _ _ _ _) (part_is _ _ _ _ _ _ c.layout_of-p.ensures c.lay_out.ensures)
-          ∙ from_head _ _ _ _ _ _ c.reach-head.ensures.driven_2 (shares _ _ _ _ c.layout_of-p.ensures c.reach-head.ensures.visits_le_to),
-      c.reach-head.ensures.driven_2,
-    )
+returns c = (
+  c.price_from-price.ensures ∙ ap (price_from _ _ _ _) (part_is _ _ _ _ _ _ c.layout_of-p.ensures c.lay_out.ensures)
+      ∙ from_head _ _ _ _ _ _ c.reach-head.ensures.driven_2 (shares _ _ _ _ c.layout_of-p.ensures c.reach-head.ensures.visits_le_to),
+  c.reach-head.ensures.driven_2,
+)
