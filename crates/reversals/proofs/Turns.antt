@@ -2,12 +2,12 @@
 -- Assumes nothing.
 use mathlib.Core.Path.{◌≡◌, refl, sym, ap, ◌∙◌}
 use mathlib.Core.Bool.{Bool, true, false, cond}
-use mathlib.Core.Option.{Option, none}
+use mathlib.Core.Option.{Option}
 use mathlib.Core.List.{List}
 use Prim.Native.Nat.{ℕ, ◌<◌, ◌≤◌}
 use lib.ListN.{length}
 use Rattle.labels.specs.Columns.{Columns}
-use Rattle.descent.specs.Search.{Sweep, taken, first_move}
+use Rattle.descent.specs.Search.{Sweep, first_move}
 use Rattle.descent.specs.Within.{Reversal}
 use Rattle.descent.proofs.Loops.{place_passed, place_moved, one_taken, one_left, next-ahead, next_sweep}
 use Rattle.reversal_places.specs.declared.Terms.{Terms}

@@ -1,14 +1,10 @@
 -- `first_move`: the first move from the place at hand on is the first from the start on, the list is as it was, and the head reaches no further than the
 -- place. The measure is how many places are left.
-use borrow.Author.Rules.{rules}
-use native.Mathlib.Omega.{arith}
-use mathlib.Core.Path.{◌≡◌, refl, ap, ◌∙◌}
+use mathlib.Core.Path.{◌≡◌}
 use lib.ListN.{length}
 use Rattle.labels.specs.Columns.{columns}
 use Rattle.reversal_places.specs.Places.{Shared}
-use Rattle.reversals.specs.Reversals.{InSweep, from, first_turn, leaves, Inside}
-use Rattle.reversals.proofs.Places.{left_less, still_in, none_shared, still_behind}
-use Rattle.reversals.proofs.Turns.{found_here, not_here, none_left}
+use Rattle.reversals.specs.Reversals.{InSweep, from, first_turn}
 use Rattle.reversals.proofs.first_move.Given as goal
 
 abbrev pub invariant-loop-place : goal.invariant-loop-place

@@ -1,5 +1,4 @@
 -- `next_move`: the first search covers the places ahead; where it finds nothing the list is as it was, and the second covers all places.
-use borrow.Author.Rules.{rules}
 use Rattle.reversals.proofs.Places.{start_in}
 use Rattle.reversals.proofs.Turns.{left_as_it_was, found_ahead, found_anew}
 use Rattle.reversals.proofs.next_move.Goals as goal
