@@ -1,12 +1,9 @@
 -- `descend`: the moves made and the run left are the whole run; from the place on this sweep finds the next move. The limit's rest falls, or the places do.
-use mathlib.Core.Path.{◌≡◌, refl, ◌∙◌}
-use Prim.Native.Nat.{◌+◌, ◌-◌, ◌*◌}
+use mathlib.Core.Path.{refl, ◌∙◌}
 use native.Mathlib.Omega.{arith}
-use lib.ListN.{length}
-use Rattle.labels.specs.Columns.{columns, Visits}
-use Rattle.three_opt.proofs.Places.{cuts_from, standing_inside, cuts_fewer, few_cuts}
+use Rattle.three_opt.proofs.Places.{standing_inside, cuts_fewer, few_cuts}
 use Rattle.reconnections.proofs.Reconnected.{visits_reconnected}
-use Rattle.three_opt.proofs.Going.{Sweeping, sweep_start, sweep_settled, sweep_passed, sweep_stopped, sweep_moved}
+use Rattle.three_opt.proofs.Going.{sweep_start, sweep_settled, sweep_passed, sweep_stopped, sweep_moved}
 use Rattle.three_opt.proofs.descend.Goals as goal
 
 pub loop-place-init : goal.loop-place-init
@@ -35,14 +32,13 @@ loop-place-smaller-then-pattern-eq0 c =
     rw c.place_after-place.ensures (omega arith)
 
 pub loop-place-preserved-then-pattern-eq0 : goal.loop-place-preserved-then-pattern-eq0
-loop-place-preserved-then-pattern-eq0 c =
-    (
-      rw c.place_after-place.ensures
-          (sweep_passed _ _ _ _ _ _ _ _ c.loop-place.invariant.0 c.loop-place-test.true _ c.best_pattern-pattern.ensures.result_value c.if-pattern-eq0.true),
-      c.loop-place.invariant.1,
-      c.loop-place.invariant.2,
-      c.best_pattern-pattern.auto.buffer ∙ c.loop-place.invariant.3,
-    )
+loop-place-preserved-then-pattern-eq0 c = (
+  rw c.place_after-place.ensures
+      (sweep_passed _ _ _ _ _ _ _ _ c.loop-place.invariant.0 c.loop-place-test.true _ c.best_pattern-pattern.ensures.result_value c.if-pattern-eq0.true),
+  c.loop-place.invariant.1,
+  c.loop-place.invariant.2,
+  c.best_pattern-pattern.auto.buffer ∙ c.loop-place.invariant.3,
+)
 
 pub returns-then-limit-moves : goal.returns-then-limit-moves
 returns-then-limit-moves c =
@@ -67,16 +63,15 @@ loop-place-smaller c =
     rw c.make_move.auto.list (omega (arith, c.if-limit-moves.false))
 
 pub loop-place-preserved : goal.loop-place-preserved
-loop-place-preserved c =
-    (
-      rw c.make_move.ensures
-          (sweep_moved _ _ _ _ _ _ _ _ c.loop-place.invariant.0 c.loop-place-test.true _ c.best_pattern-pattern.ensures.result_value
-          c.if-pattern-eq0.false c.if-limit-moves.false),
-      rw c.make_move.ensures
-          (visits_reconnected _ _ _ (standing_inside _ _ c.loop-place.invariant.0.standing c.loop-place-test.true) _ c.loop-place.invariant.1),
-      c.make_move.auto.list ∙ c.loop-place.invariant.2,
-      c.make_move.auto.buffer ∙ c.best_pattern-pattern.auto.buffer ∙ c.loop-place.invariant.3,
-    )
+loop-place-preserved c = (
+  rw c.make_move.ensures
+      (sweep_moved _ _ _ _ _ _ _ _ c.loop-place.invariant.0 c.loop-place-test.true _ c.best_pattern-pattern.ensures.result_value
+      c.if-pattern-eq0.false c.if-limit-moves.false),
+  rw c.make_move.ensures
+      (visits_reconnected _ _ _ (standing_inside _ _ c.loop-place.invariant.0.standing c.loop-place-test.true) _ c.loop-place.invariant.1),
+  c.make_move.auto.list ∙ c.loop-place.invariant.2,
+  c.make_move.auto.buffer ∙ c.best_pattern-pattern.auto.buffer ∙ c.loop-place.invariant.3,
+)
 
 pub returns : goal.returns
 returns c =

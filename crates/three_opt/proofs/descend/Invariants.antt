@@ -1,12 +1,10 @@
 -- `descend`: the moves made and the run left are the whole run; from the place on this sweep finds the next move. The limit's rest falls, or the places do.
-use mathlib.Core.Path.{◌≡◌, refl, ◌∙◌}
+use mathlib.Core.Path.{◌≡◌}
 use Prim.Native.Nat.{◌+◌, ◌-◌, ◌*◌}
-use native.Mathlib.Omega.{arith}
 use lib.ListN.{length}
 use Rattle.labels.specs.Columns.{columns, Visits}
-use Rattle.three_opt.proofs.Places.{cuts_from, standing_inside, cuts_fewer, few_cuts}
-use Rattle.reconnections.proofs.Reconnected.{visits_reconnected}
-use Rattle.three_opt.proofs.Going.{Sweeping, sweep_start, sweep_settled, sweep_passed, sweep_stopped, sweep_moved}
+use Rattle.three_opt.proofs.Places.{cuts_from}
+use Rattle.three_opt.proofs.Going.{Sweeping}
 use Rattle.three_opt.proofs.descend.Given as goal
 
 abbrev pub invariant-loop-place : goal.invariant-loop-place

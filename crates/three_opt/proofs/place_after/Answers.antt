@@ -1,5 +1,4 @@
 -- `place_after`: one arm for each of the three that may go on.
-use borrow.Author.Rules.{rules}
 use mathlib.Core.Path.{refl}
 use borrow.Author.Tests.{lt-ltb, le-ltb}
 use Rattle.tests.specs.Pick.{picked, other}

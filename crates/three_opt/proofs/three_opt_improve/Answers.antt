@@ -1,5 +1,4 @@
 -- `three_opt_improve`: a short list has no places; else what is worked out before the first move is right, and the loop answers.
-use borrow.Author.Rules.{rules}
 use mathlib.Core.Path.{ap, ◌∙◌}
 use native.Mathlib.Omega.{arith}
 use Rattle.numbers.specs.Floor.{gain_floor}
@@ -17,12 +16,12 @@ is_symmetric-symmetric-requires c =
 pub descend-requires-clause-prepared : goal.descend-requires-clause-prepared
 descend-requires-clause-prepared c =
     record {
-        formed = c.requires.formed;
-        depot_there = c.requires.depot_lt_l.0;
-        floor = c.gain_floor-floor.ensures.answer ∙ ap gain_floor c.scale.ensures;
-        marked = record { right = c.is_symmetric-symmetric.ensures; plain = c.requires.distances_value };
-        needed = c.route_checks_needed-needed.ensures;
-      }
+      formed = c.requires.formed;
+      depot_there = c.requires.depot_lt_l.0;
+      floor = c.gain_floor-floor.ensures.answer ∙ ap gain_floor c.scale.ensures;
+      marked = record { right = c.is_symmetric-symmetric.ensures; plain = c.requires.distances_value };
+      needed = c.route_checks_needed-needed.ensures;
+    }
 
 pub descend-requires-clause-visits : goal.descend-requires-clause-visits
 descend-requires-clause-visits c =
