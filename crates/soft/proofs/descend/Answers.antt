@@ -1,19 +1,17 @@
 -- `descend`. The invariant: what is left of the run ends as the whole does, and the cost is the list's. The measure: the moves that are left.
 use native.Mathlib.Omega.{arith}
-use Prim.Native.Nat.{◌-◌, ◌<◌}
-use mathlib.Core.Path.{◌≡◌, refl, ap, ◌∙◌}
+use Prim.Native.Nat.{◌<◌}
+use mathlib.Core.Path.{refl, ap, ◌∙◌}
 use mathlib.Core.List.{List}
-use lib.ListN.{length}
-use Rattle.labels.specs.Columns.{columns, Visits}
+use Rattle.labels.specs.Columns.{columns}
 use Rattle.evaluation.specs.Route.{effective_cost}
 use Rattle.descent.specs.Search.{Sweep}
 use Rattle.soft.specs.Soft.{soft_run}
 use Rattle.soft_neighbours.proofs.Choice.{known_at}
 use Rattle.neighbours.proofs.Layouts.{made_kept}
-use Rattle.soft.proofs.Moves.{step, at, no_step, one_step}
-use Rattle.descent.proofs.Going.{Going, going_starts, going_moves}
+use Rattle.soft.proofs.Moves.{no_step, one_step}
+use Rattle.descent.proofs.Going.{going_starts, going_moves}
 use Rattle.engine.proofs.Running.{going_settles, going_stops}
-use borrow.Author.Rules.{rules}
 use Rattle.soft.proofs.descend.Goals as goal
 
 pub effective_cost-cost-requires-clause-formed : goal.effective_cost-cost-requires-clause-formed
@@ -81,8 +79,7 @@ loop-place-preserved c =
     let price = effective_cost day c.args.limits c.args.depot in
     let room : c.loop-place.moves < c.args.limit = omega (arith, c.loop-place.invariant.0.whole, c.if-moves-limit.false) in
     let known = known_at _ _ _ _ c.best_neighbour-best.ensures.1 c.in-At.is in
-    let move = one_step c.args.which price c.args.floor c.loop-place.list _ _ c.best_neighbour-best.ensures.0 c.in-At.is in
-    (
+    let move = one_step c.args.which price c.args.floor c.loop-place.list _ _ c.best_neighbour-best.ensures.0 c.in-At.is in (
       rw c.make.ensures (going_moves _ _ _ _ _ _ c.loop-place.invariant.0 room move),
       rw c.make.ensures known.1,
       rw c.make.ensures (made_kept _ _ _ known.0 c.loop-place.invariant.2),

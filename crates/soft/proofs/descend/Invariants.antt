@@ -1,19 +1,11 @@
 -- `descend`. The invariant: what is left of the run ends as the whole does, and the cost is the list's. The measure: the moves that are left.
-use native.Mathlib.Omega.{arith}
-use Prim.Native.Nat.{◌-◌, ◌<◌}
-use mathlib.Core.Path.{◌≡◌, refl, ap, ◌∙◌}
-use mathlib.Core.List.{List}
+use Prim.Native.Nat.{◌-◌}
+use mathlib.Core.Path.{◌≡◌}
 use lib.ListN.{length}
 use Rattle.labels.specs.Columns.{columns, Visits}
 use Rattle.evaluation.specs.Route.{effective_cost}
-use Rattle.descent.specs.Search.{Sweep}
-use Rattle.soft.specs.Soft.{soft_run}
-use Rattle.soft_neighbours.proofs.Choice.{known_at}
-use Rattle.neighbours.proofs.Layouts.{made_kept}
-use Rattle.soft.proofs.Moves.{step, at, no_step, one_step}
-use Rattle.descent.proofs.Going.{Going, going_starts, going_moves}
-use Rattle.engine.proofs.Running.{going_settles, going_stops}
-use borrow.Author.Rules.{rules}
+use Rattle.soft.proofs.Moves.{step, at}
+use Rattle.descent.proofs.Going.{Going}
 use Rattle.soft.proofs.descend.Given as goal
 
 abbrev pub invariant-loop-place : goal.invariant-loop-place

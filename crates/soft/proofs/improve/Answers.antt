@@ -2,7 +2,6 @@
 use native.Mathlib.Omega.{arith}
 use mathlib.Core.Path.{ap, ◌∙◌}
 use Rattle.numbers.specs.Floor.{gain_floor}
-use borrow.Author.Rules.{rules}
 use Rattle.soft.proofs.improve.Goals as goal
 
 pub descend-requires-clause-formed : goal.descend-requires-clause-formed
