@@ -1,15 +1,11 @@
 -- `run_moves`: the moves made and the rest of the run make the whole run. The measure is what is left of the limit.
-use borrow.Author.Rules.{rules}
 use native.Mathlib.Omega.{arith}
-use Prim.Native.Nat.{◌-◌}
-use mathlib.Core.Path.{◌≡◌, refl, sym, ap, ◌∙◌}
+use mathlib.Core.Path.{refl, sym, ◌∙◌}
 use lib.ListN.{length}
-use Rattle.labels.specs.Columns.{columns, Visits}
-use Rattle.reversals.specs.Reversals.{InSweep}
 use Rattle.reversals.proofs.Places.{none_ahead, still_in, from_end}
-use Rattle.reversal_places.proofs.Tried.{turned-visits, turned_back}
-use Rattle.reversals.proofs.Turns.{left_as_it_was, left-turned}
-use Rattle.two_opt.proofs.Going.{Turning, turning_starts, settles, stops, goes}
+use Rattle.reversal_places.proofs.Tried.{turned-visits}
+use Rattle.reversals.proofs.Turns.{left-turned}
+use Rattle.two_opt.proofs.Going.{turning_starts, settles, stops, goes}
 use Rattle.two_opt.proofs.run_moves.Goals as goal
 
 pub overflow_add-ahead : goal.overflow_add-ahead
@@ -69,8 +65,7 @@ loop-place-smaller c =
 
 pub loop-place-preserved : goal.loop-place-preserved
 loop-place-preserved c =
-    let turn = left-turned _ c.next_move-found.ensures c.in-At.is in
-    (
+    let turn = left-turned _ c.next_move-found.ensures c.in-At.is in (
       c.loop-place.invariant.0 ∙ sym turn.same_length,
       turn.same_length ∙ c.loop-place.invariant.1,
       rw turn.becomes (turned-visits _ _ _ turn.ordered c.loop-place.invariant.2),

@@ -1,16 +1,11 @@
 -- `run_moves`: the moves made and the rest of the run make the whole run. The measure is what is left of the limit.
 -- the function's entry
-use borrow.Author.Rules.{rules}
-use native.Mathlib.Omega.{arith}
 use Prim.Native.Nat.{◌-◌}
-use mathlib.Core.Path.{◌≡◌, refl, sym, ap, ◌∙◌}
+use mathlib.Core.Path.{◌≡◌}
 use lib.ListN.{length}
 use Rattle.labels.specs.Columns.{columns, Visits}
 use Rattle.reversals.specs.Reversals.{InSweep}
-use Rattle.reversals.proofs.Places.{none_ahead, still_in, from_end}
-use Rattle.reversal_places.proofs.Tried.{turned-visits, turned_back}
-use Rattle.reversals.proofs.Turns.{left_as_it_was, left-turned}
-use Rattle.two_opt.proofs.Going.{Turning, turning_starts, settles, stops, goes}
+use Rattle.two_opt.proofs.Going.{Turning}
 use Rattle.two_opt.proofs.run_moves.Given as goal
 
 abbrev pub invariant-loop-place : goal.invariant-loop-place
