@@ -1,5 +1,4 @@
 -- `improve`: with a soft window the run is `soft::improve`'s, and without one the engine's.
-use borrow.Author.Rules.{rules}
 use Rattle.within.specs.Within.{ran_by}
 use Rattle.within.proofs.improve.Goals as goal
 

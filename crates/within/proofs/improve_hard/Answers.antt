@@ -1,5 +1,4 @@
 -- `improve_hard`: one arm for each neighbourhood.
-use borrow.Author.Rules.{rules}
 use Rattle.within.specs.Within.{hard_ran}
 use Rattle.within.proofs.improve_hard.Goals as goal
 
