@@ -1,12 +1,9 @@
 -- `block_costs`: before each row the costs of those before it are put down.
-use borrow.Author.Rules.{rules}
-use mathlib.Core.Path.{◌≡◌, refl, sym, ◌∙◌}
+use mathlib.Core.Path.{refl, ◌∙◌}
 use Prim.Native.Nat.{◌+◌, ◌-◌, ◌*◌}
 use native.Mathlib.Omega.{arith}
 use lib.ListN.{length}
 use borrow.Rule.Slice.PartMut.{same_len_mid}
-use Rattle.labels.specs.Columns.{columns}
-use Rattle.cross_blocks.specs.Blocks.{CostedBlock}
 use Rattle.cross_blocks.proofs.Tables.{rows_start, rows_turn, rows_end}
 use Rattle.cross_blocks.proofs.Sides.{entries_few, row_there, lent_long, lent_wide, side_few, counts_wide, costed_part}
 use Rattle.cross_blocks.proofs.block_costs.Goals as goal
@@ -61,12 +58,11 @@ cost_one-requires-clause-kept c =
     (c.requires.kept, row_there c.requires.block.0 _ c.loop-i-test.true)
 
 pub cost_one-requires-clause-other_in_bounds : goal.cost_one-requires-clause-other_in_bounds
-cost_one-requires-clause-other_in_bounds c =
-    (
-          lent_wide c.requires.block.0 _ c.loop-i-test.true _ c.requires.block.1,
-          lent_wide c.requires.block.0 _ c.loop-i-test.true _
-              c.loop-i.invariant.0,
-        )
+cost_one-requires-clause-other_in_bounds c = (
+  lent_wide c.requires.block.0 _ c.loop-i-test.true _ c.requires.block.1,
+  lent_wide c.requires.block.0 _ c.loop-i-test.true _
+      c.loop-i.invariant.0,
+)
 
 pub overflow_add-i : goal.overflow_add-i
 overflow_add-i c =
@@ -84,8 +80,7 @@ loop-i-preserved c =
     let from = c.loop-i.i * c.args.width in
     let to = from + c.args.width in
     let few = entries_few c.requires.block.0 c.loop-i.i c.loop-i-test.true in
-    let wide = counts_wide c.args.turned n m c.requires.block.0 in
-    (
+    let wide = counts_wide c.args.turned n m c.requires.block.0 in (
       same_len_mid from (to - from) c.loop-i.costs c.cost_one.new.costs c.cost_one.auto.costs ∙ c.loop-i.invariant.0,
       rows_turn _ _ _ wide c.loop-i.i from to c.loop-i.costs c.cost_one.new.costs refl refl (omega (arith, few, c.loop-i.invariant.0))
           (c.cost_one.auto.costs ∙ lent_long c.requires.block.0 c.loop-i.i c.loop-i-test.true c.loop-i.costs c.loop-i.invariant.0) c.loop-i.invariant.1

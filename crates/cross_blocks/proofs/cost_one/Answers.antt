@@ -1,5 +1,4 @@
 -- `cost_one`: the row lies in both lists and in its entries; what its first list costs is copied on where others are the same.
-use mathlib.Core.Path.{◌∙◌}
 use native.Mathlib.Omega.{arith}
 use lib.ListN.{length}
 use Rattle.cross_kinds.proofs.Along.{row_part}

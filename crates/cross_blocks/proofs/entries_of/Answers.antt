@@ -1,5 +1,4 @@
 -- `entries_of`: the last row begins behind the others, and ends where the block has room.
-use borrow.Author.Rules.{rules}
 use mathlib.Core.Path.{ap}
 use Prim.Native.Nat.{◌-◌, ◌<◌}
 use native.Mathlib.Omega.{arith}

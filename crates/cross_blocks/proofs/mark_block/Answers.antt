@@ -1,12 +1,10 @@
 -- `mark_block`: before each row the marks of those before it are put down.
-use borrow.Author.Rules.{rules}
-use mathlib.Core.Path.{◌≡◌, refl, sym, ◌∙◌}
+use mathlib.Core.Path.{refl, ◌∙◌}
 use Prim.Native.Nat.{◌+◌, ◌-◌, ◌*◌}
 use native.Mathlib.Omega.{arith}
 use lib.ListN.{length}
 use borrow.Rule.Slice.PartMut.{same_len_mid}
 use Rattle.cross_kinds.proofs.Along.{rows_few}
-use Rattle.cross_blocks.specs.Blocks.{MarkedBlock}
 use Rattle.cross_blocks.proofs.Tables.{rows_start, rows_turn, rows_end}
 use Rattle.cross_blocks.proofs.Sides.{entries_few, row_there, lent_long, lent_wide, distinct_wide}
 use Rattle.cross_blocks.proofs.mark_block.Goals as goal
@@ -49,12 +47,11 @@ mark_one-requires-clause-prefixed c =
     c.requires.prefixed
 
 pub mark_one-requires-clause-k_bound : goal.mark_one-requires-clause-k_bound
-mark_one-requires-clause-k_bound c =
-    (
-          row_there c.requires.block.0 _ c.loop-i-test.true,
-          lent_wide c.requires.block.0 _
-              c.loop-i-test.true _ c.loop-i.invariant.0,
-        )
+mark_one-requires-clause-k_bound c = (
+  row_there c.requires.block.0 _ c.loop-i-test.true,
+  lent_wide c.requires.block.0 _
+      c.loop-i-test.true _ c.loop-i.invariant.0,
+)
 
 pub overflow_add-i : goal.overflow_add-i
 overflow_add-i c =
@@ -69,8 +66,7 @@ pub loop-i-preserved : goal.loop-i-preserved
 loop-i-preserved c =
     let from = c.loop-i.i * c.args.width in
     let to = from + c.args.width in
-    let few = entries_few c.requires.block.0 c.loop-i.i c.loop-i-test.true in
-    (
+    let few = entries_few c.requires.block.0 c.loop-i.i c.loop-i-test.true in (
       same_len_mid from (to - from) c.loop-i.marks c.mark_one.new.marks c.mark_one.auto.marks ∙ c.loop-i.invariant.0,
       rows_turn _ _ _ (distinct_wide c.requires.block.0) c.loop-i.i from to c.loop-i.marks c.mark_one.new.marks refl refl (omega (arith, few, c.loop-i.invariant.0))
           (c.mark_one.auto.marks ∙ lent_long c.requires.block.0 c.loop-i.i c.loop-i-test.true c.loop-i.marks c.loop-i.invariant.0) c.loop-i.invariant.1

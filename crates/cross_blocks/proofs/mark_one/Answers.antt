@@ -1,5 +1,4 @@
 -- `mark_one`: the row lies in both lists, and has no more moves than entries.
-use borrow.Author.Rules.{rules}
 use native.Mathlib.Omega.{arith}
 use lib.ListN.{length}
 use Rattle.cross_kinds.proofs.Along.{rows_few, row_some, distinct_few}

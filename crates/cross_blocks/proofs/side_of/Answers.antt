@@ -1,5 +1,4 @@
 -- `side_of`: one return for each side of the test.
-use borrow.Author.Rules.{rules}
 use Rattle.cross_blocks.specs.Blocks.{side_of}
 use Rattle.cross_blocks.proofs.side_of.Goals as goal
 

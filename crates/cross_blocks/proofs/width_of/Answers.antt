@@ -1,5 +1,4 @@
 -- `width_of`: one arm for each kind.
-use borrow.Author.Rules.{rules}
 use Rattle.cross_blocks.specs.Blocks.{width_of}
 use Rattle.cross_blocks.proofs.width_of.Goals as goal
 

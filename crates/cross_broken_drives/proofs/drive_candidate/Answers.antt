@@ -6,13 +6,9 @@ use mathlib.Core.Bool.{not}
 use lib.Dec.{leb}
 use Rattle.tests.specs.All.{and_first, and_second}
 use borrow.Author.Tests.{not-true, leb-true}
-use lib.Seq.{slice}
-use Rattle.labels.specs.Columns.{columns}
-use Rattle.cross_moves.specs.CrossDepot.{replaced}
 use Rattle.cross_moves.proofs.Stretch.{length-changed}
-use Rattle.cross_broken_drives.proofs.Drives.{Driving, driving_starts, driving_turns, driving_begins, driving_stops, driving_ends}
+use Rattle.cross_broken_drives.proofs.Drives.{driving_starts, driving_turns, driving_begins, driving_stops, driving_ends}
 use Rattle.cross_broken_drives.proofs.Drives.{visits_changed}
-use borrow.Author.Rules.{rules}
 use Rattle.cross_broken_drives.proofs.drive_candidate.Goals as goal
 
 pub loop-i-init : goal.loop-i-init
@@ -43,12 +39,11 @@ next_head-head-requires-clause-formed c =
 pub next_head-head-requires-clause-place_lt_l : goal.next_head-head-requires-clause-place_lt_l
 next_head-head-requires-clause-place_lt_l c =
     let long = length-changed c.args.list.now c.args.other.now _ _ c.args.other_from _ c.requires.from_le_to.0 c.requires.from_le_to.1 c.requires.from_le_to.3 in
-    let visits = visits_changed c.args.list.now c.args.other.now _ _ _ _ c.requires.from_le_to.0 c.requires.from_le_to.1 c.requires.from_le_to.2 c.requires.from_le_to.3 c.requires.formed.1 in
-    (
-        c.loop-i.invariant.placed,
-        rw c.visit_at-visit.ensures (visits.below _ (omega (arith, long, c.loop-i-test.true))),
-        omega (arith, c.loop-i.invariant.counted, c.requires.place_lt_l.1, long, visits.few, c.loop-i-test.true),
-      )
+    let visits = visits_changed c.args.list.now c.args.other.now _ _ _ _ c.requires.from_le_to.0 c.requires.from_le_to.1 c.requires.from_le_to.2 c.requires.from_le_to.3 c.requires.formed.1 in (
+      c.loop-i.invariant.placed,
+      rw c.visit_at-visit.ensures (visits.below _ (omega (arith, long, c.loop-i-test.true))),
+      omega (arith, c.loop-i.invariant.counted, c.requires.place_lt_l.1, long, visits.few, c.loop-i-test.true),
+    )
 
 pub overflow_add-i : goal.overflow_add-i
 overflow_add-i c =

@@ -1,18 +1,9 @@
 -- `drive_candidate`: before each visit what is driven so far is the walk up to it; where no label is left, the rest leaves none.
-use native.Mathlib.Omega.{arith}
 use Prim.Native.Nat.{◌-◌}
-use mathlib.Core.Path.{sym, ◌∙◌}
-use mathlib.Core.Bool.{not}
-use lib.Dec.{leb}
-use Rattle.tests.specs.All.{and_first, and_second}
-use borrow.Author.Tests.{not-true, leb-true}
 use lib.Seq.{slice}
 use Rattle.labels.specs.Columns.{columns}
 use Rattle.cross_moves.specs.CrossDepot.{replaced}
-use Rattle.cross_moves.proofs.Stretch.{length-changed}
-use Rattle.cross_broken_drives.proofs.Drives.{Driving, driving_starts, driving_turns, driving_begins, driving_stops, driving_ends}
-use Rattle.cross_broken_drives.proofs.Drives.{visits_changed}
-use borrow.Author.Rules.{rules}
+use Rattle.cross_broken_drives.proofs.Drives.{Driving}
 use Rattle.cross_broken_drives.proofs.drive_candidate.Given as goal
 
 abbrev pub invariant-loop-i : goal.invariant-loop-i

@@ -2,7 +2,6 @@
 use native.Mathlib.Omega.{arith}
 use Prim.Native.Nat.{◌+◌, ◌-◌}
 use Rattle.cross_broken_drives.proofs.Drives.{visit_before, visit_within, visit_behind}
-use borrow.Author.Rules.{rules}
 use Rattle.cross_broken_drives.proofs.visit_at.Goals as goal
 
 pub overflow_cast-result : goal.overflow_cast-result

@@ -2,7 +2,6 @@
 use mathlib.Core.Path.{sym, ◌∙◌}
 use Rattle.evaluation.specs.Route.{evaluated, priced_distance}
 use Rattle.cross_moves.specs.CrossDepot.{price_of, amount}
-use borrow.Author.Rules.{rules}
 use Rattle.cross_broken_prices.proofs.end_cost.Goals as goal
 
 pub returns-in_default : goal.returns-in_default

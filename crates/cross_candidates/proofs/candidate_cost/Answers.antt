@@ -7,7 +7,6 @@ use lib.Ieee.{of_bits}
 use Rattle.cross_moves.specs.CrossDepot.{amount}
 use Rattle.cross_moves.proofs.Stretch.{cost_none}
 use Rattle.cross_candidates.proofs.Candidates.{place_there, cost_lost, price_on_lem, amount-costs, amount_none}
-use borrow.Author.Rules.{rules}
 use Rattle.cross_candidates.proofs.candidate_cost.Goals as goal
 
 pub returns-then-reached-from : goal.returns-then-reached-from

@@ -1,12 +1,10 @@
 -- `drop_costs`: proofs/Dropping.antt has where the loop stands, its start, its turn and its end.
-use borrow.Author.Rules.{rules}
 use Prim.Native.Nat.{◌-◌}
 use native.Mathlib.Omega.{arith}
-use lib.ListN.{length}
 use lib.Seq.{lt-length-set}
 use lib.Ieee.{nan, of_bits}
 use Rattle.numbers.specs.Operations.{zero64}
-use Rattle.cross_changes.proofs.Dropping.{Packing, packing_starts, packing_turns, packing_ends}
+use Rattle.cross_changes.proofs.Dropping.{packing_starts, packing_turns, packing_ends}
 use Rattle.cross_changes.proofs.drop_costs.Goals as goal
 
 pub loop-i-init : goal.loop-i-init

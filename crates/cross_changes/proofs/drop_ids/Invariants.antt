@@ -1,10 +1,7 @@
 -- `drop_ids`: proofs/Dropping.antt has where the loop stands, its start, its turn and its end.
-use borrow.Author.Rules.{rules}
 use Prim.Native.Nat.{◌-◌}
-use native.Mathlib.Omega.{arith}
 use lib.ListN.{length}
-use lib.Seq.{lt-length-set}
-use Rattle.cross_changes.proofs.Dropping.{Packing, packing_starts, packing_turns, packing_ends}
+use Rattle.cross_changes.proofs.Dropping.{Packing}
 use Rattle.cross_changes.proofs.drop_ids.Given as goal
 
 abbrev pub invariant-loop-i : goal.invariant-loop-i

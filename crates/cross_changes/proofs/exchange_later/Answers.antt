@@ -1,5 +1,4 @@
 -- `exchange_later`: the tails are exchanged twice.
-use borrow.Author.Rules.{rules}
 use Rattle.cross_changes.proofs.Exchanging.{cuts_first, cuts-second, exchanged_both}
 use Rattle.cross_changes.proofs.exchange_later.Goals as goal
 

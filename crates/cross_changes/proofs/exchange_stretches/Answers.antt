@@ -1,5 +1,4 @@
 -- `exchange_stretches`: seen from the earlier list.
-use borrow.Author.Rules.{rules}
 use Rattle.cross_changes.proofs.Exchanging.{makes_turned, later_turned, turned_same}
 use Rattle.cross_changes.proofs.exchange_stretches.Goals as goal
 

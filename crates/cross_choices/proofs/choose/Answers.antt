@@ -1,6 +1,6 @@
 -- `choose`: a row of at most 64 moves is a block of one row, of width 64.
-use Rattle.std.proofs.Common.{◌≡◌, ℕ, ◌+◌, ◌/◌, ◌%◌, ◌≤◌, ◌<◌, Bool, true, false, List, arith, ◌∙◌, refl}
-use borrow.Author.Tests.{eqb-true, eqb-false}
+use Rattle.std.proofs.Common.{◌≡◌, ℕ, ◌+◌, ◌/◌, ◌%◌, ◌≤◌, Bool, true, false, List, arith, ◌∙◌, refl}
+use borrow.Author.Tests.{eqb-false}
 use lib.Dec.{eqb}
 use lib.Ieee.{Float}
 use Rattle.cross_kinds.specs.declared.kind.Kind.{Kind}

@@ -1,5 +1,4 @@
 -- `choose_of_block`: one return for each side of the test; the row and the place of an entry aren't above it.
-use borrow.Author.Rules.{rules}
 use borrow.Author.Tests.{eq-eqb, ne_eqb}
 use mathlib.Core.Path.{refl}
 use native.Mathlib.Nat.{div-le_self, mod-le}
@@ -18,11 +17,10 @@ overflow_add-k c =
     omega (arith, c.requires.k_bound.0, c.requires.k_bound.1, c.requires.k_bound.2, div-le_self c.args.least.at c.args.width)
 
 pub move_of-chosen-requires : goal.move_of-chosen-requires
-move_of-chosen-requires c =
-    (
-      omega (arith, c.requires.k_bound.0, c.requires.k_bound.1, c.requires.k_bound.2, div-le_self c.args.least.at c.args.width),
-      omega (arith, c.requires.k_bound.1, c.requires.k_bound.2, c.if-at-count.false, mod-le c.args.least.at c.args.width),
-    )
+move_of-chosen-requires c = (
+  omega (arith, c.requires.k_bound.0, c.requires.k_bound.1, c.requires.k_bound.2, div-le_self c.args.least.at c.args.width),
+  omega (arith, c.requires.k_bound.1, c.requires.k_bound.2, c.if-at-count.false, mod-le c.args.least.at c.args.width),
+)
 
 pub returns : goal.returns
 unfolding chosen_by_block

@@ -1,19 +1,18 @@
 -- `extend`: the entries from `from` on, up to here, are the first one; the others are as they were.
-use borrow.Author.Rules.{rules}
 use mathlib.Core.Path.{refl}
 use Prim.Native.Nat.{◌-◌}
 use native.Mathlib.Omega.{arith}
-use Rattle.cross_choices.proofs.Deciding.{Extending, extending_turns}
+use Rattle.cross_choices.proofs.Deciding.{extending_turns}
 use Rattle.cross_choices.proofs.extend.Goals as goal
 
 pub loop-j-init : goal.loop-j-init
 loop-j-init c =
     record {
-  long = refl;
-  begun = omega arith;
-  kept = λ i below. refl;
-  copied = λ i above some below. absurd (omega (arith, above, below));
-}
+      long = refl;
+      begun = omega arith;
+      kept = λ i below. refl;
+      copied = λ i above some below. absurd (omega (arith, above, below));
+    }
 
 pub bounds-costs-0 : goal.bounds-costs-0
 bounds-costs-0 c =

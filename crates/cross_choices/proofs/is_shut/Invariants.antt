@@ -1,10 +1,7 @@
 -- `is_shut`: all moves before this one are shut; an open one ends the search.
-use borrow.Author.Rules.{rules}
-use mathlib.Core.Path.{◌≡◌, sym, ap}
-use mathlib.Core.Bool.{true, not}
+use mathlib.Core.Path.{◌≡◌}
+use mathlib.Core.Bool.{true}
 use Prim.Native.Nat.{◌-◌, ◌≤◌}
-use native.Mathlib.Omega.{arith}
-use Rattle.tests.specs.All.{all_none, all_more, all_fails, all_end}
 use Rattle.cross_choices.specs.Rows.{all_shut}
 use Rattle.cross_choices.proofs.is_shut.Given as goal
 

@@ -1,11 +1,8 @@
 -- `least_of`: before each move, the scan from here on comes to the first least of all.
-use borrow.Author.Rules.{rules}
-use mathlib.Core.Path.{◌≡◌, refl, sym, ◌∙◌}
+use mathlib.Core.Path.{◌≡◌}
 use Prim.Native.Nat.{◌-◌, ◌≤◌}
-use native.Mathlib.Omega.{arith}
 use Rattle.descent.specs.Order.{range, scan}
 use Rattle.cross_choices.specs.Rows.{lesser_of, delta_at, least_of}
-use Rattle.descent.proofs.Loops.{scan_turn, scan_done}
 use Rattle.cross_choices.proofs.least_of.Given as goal
 
 abbrev pub invariant-loop-j : goal.invariant-loop-j

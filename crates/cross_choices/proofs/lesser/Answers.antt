@@ -1,5 +1,4 @@
 -- `lesser`: one return for each side of the test.
-use borrow.Author.Rules.{rules}
 use mathlib.Core.Path.{refl}
 use Rattle.tests.specs.Pick.{picked, other}
 use Rattle.cross_choices.specs.Rows.{lesser_of}

@@ -1,5 +1,4 @@
 -- `mark`: one return for each side of the test.
-use borrow.Author.Rules.{rules}
 use mathlib.Core.Path.{refl, sym, ◌∙◌}
 use lib.Ieee.{of_bits}
 use Rattle.tests.specs.Pick.{picked, other}

@@ -1,14 +1,9 @@
 -- `mark_row`: the table is filled in from its start; each load is asked by the prefix loads of both lists.
-use borrow.Author.Rules.{rules}
 use mathlib.Core.Path.{refl}
 use Prim.Native.Nat.{◌-◌}
 use native.Mathlib.Omega.{arith}
-use lib.ListN.{length}
-use Rattle.cross_moves.specs.CrossDepot.{holds}
-use Rattle.cross_rows.specs.Row.{changed}
-use Rattle.cross_choices.specs.Rows.{mark_of}
 use Rattle.loads.proofs.Visits.{two_turned}
-use Rattle.cross_choices.proofs.Deciding.{Filled, filled_turns, marked}
+use Rattle.cross_choices.proofs.Deciding.{filled_turns, marked}
 use Rattle.cross_choices.proofs.mark_row.Goals as goal
 
 pub loop-j-init : goal.loop-j-init
@@ -46,16 +41,15 @@ fits-first-requires-clause-prefixed c =
     c.requires.prefixed
 
 pub fits-first-requires-clause-from_le_to : goal.fits-first-requires-clause-from_le_to
-fits-first-requires-clause-from_le_to c =
-    (
-          rw (c.start_at-from1.ensures, c.end_at-to1.ensures) (c.requires.rowed.0.ordered _ c.loop-j-test.true),
-          rw c.end_at-to1.ensures
-              (c.requires.rowed.0.within _ c.loop-j-test.true),
-          rw (c.start_at-from2.ensures, c.end_at-to2.ensures)
-              (c.requires.rowed.0.others_ordered _ c.loop-j-test.true),
-          rw c.end_at-to2.ensures
-              (c.requires.rowed.0.others_within _ c.loop-j-test.true),
-        )
+fits-first-requires-clause-from_le_to c = (
+  rw (c.start_at-from1.ensures, c.end_at-to1.ensures) (c.requires.rowed.0.ordered _ c.loop-j-test.true),
+  rw c.end_at-to1.ensures
+      (c.requires.rowed.0.within _ c.loop-j-test.true),
+  rw (c.start_at-from2.ensures, c.end_at-to2.ensures)
+      (c.requires.rowed.0.others_ordered _ c.loop-j-test.true),
+  rw c.end_at-to2.ensures
+      (c.requires.rowed.0.others_within _ c.loop-j-test.true),
+)
 
 pub fits-second-requires-clause-loaded : goal.fits-second-requires-clause-loaded
 fits-second-requires-clause-loaded c =
@@ -66,15 +60,14 @@ fits-second-requires-clause-prefixed c =
     (c.requires.prefixed.1, c.requires.prefixed.0)
 
 pub fits-second-requires-clause-from_le_to : goal.fits-second-requires-clause-from_le_to
-fits-second-requires-clause-from_le_to c =
-    (
-          rw (c.start_at-from2.ensures, c.end_at-to2.ensures) (c.requires.rowed.0.others_ordered _ c.loop-j-test.true),
-          rw c.end_at-to2.ensures
-              (c.requires.rowed.0.others_within _ c.loop-j-test.true),
-          rw (c.start_at-from1.ensures, c.end_at-to1.ensures)
-              (c.requires.rowed.0.ordered _ c.loop-j-test.true),
-          rw c.end_at-to1.ensures (c.requires.rowed.0.within _ c.loop-j-test.true),
-        )
+fits-second-requires-clause-from_le_to c = (
+  rw (c.start_at-from2.ensures, c.end_at-to2.ensures) (c.requires.rowed.0.others_ordered _ c.loop-j-test.true),
+  rw c.end_at-to2.ensures
+      (c.requires.rowed.0.others_within _ c.loop-j-test.true),
+  rw (c.start_at-from1.ensures, c.end_at-to1.ensures)
+      (c.requires.rowed.0.ordered _ c.loop-j-test.true),
+  rw c.end_at-to1.ensures (c.requires.rowed.0.within _ c.loop-j-test.true),
+)
 
 pub offset_bounds-marks-j : goal.offset_bounds-marks-j
 offset_bounds-marks-j c =

@@ -1,14 +1,10 @@
 -- `mark_row`: the table is filled in from its start; each load is asked by the prefix loads of both lists.
-use borrow.Author.Rules.{rules}
-use mathlib.Core.Path.{refl}
 use Prim.Native.Nat.{◌-◌}
-use native.Mathlib.Omega.{arith}
 use lib.ListN.{length}
 use Rattle.cross_moves.specs.CrossDepot.{holds}
 use Rattle.cross_rows.specs.Row.{changed}
 use Rattle.cross_choices.specs.Rows.{mark_of}
-use Rattle.loads.proofs.Visits.{two_turned}
-use Rattle.cross_choices.proofs.Deciding.{Filled, filled_turns, marked}
+use Rattle.cross_choices.proofs.Deciding.{Filled}
 use Rattle.cross_choices.proofs.mark_row.Given as goal
 
 abbrev pub invariant-loop-j : goal.invariant-loop-j

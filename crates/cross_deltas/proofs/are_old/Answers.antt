@@ -1,5 +1,4 @@
 -- `are_old`: the tests as the definition has them.
-use borrow.Author.Rules.{rules}
 use Rattle.cross_deltas.proofs.are_old.Goals as goal
 
 pub returns : goal.returns

@@ -1,5 +1,4 @@
 -- `is_old`: the tests as the definition has them.
-use borrow.Author.Rules.{rules}
 use Rattle.cross_deltas.specs.Deltas.{is_old}
 use Rattle.cross_deltas.proofs.is_old.Goals as goal
 

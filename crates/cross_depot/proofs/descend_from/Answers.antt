@@ -1,5 +1,4 @@
 -- `descend_from`: after the start the tables hold the plan that is lent.
-use borrow.Author.Rules.{rules}
 use mathlib.Core.Path.{refl, sym, ap, ◌∙◌}
 use native.Mathlib.Omega.{arith}
 use Rattle.numbers.specs.Floor.{gain_floor}

@@ -1,5 +1,4 @@
 -- `improve`: as given, or by the search; proofs/Answering.antt has both.
-use borrow.Author.Rules.{rules}
 use mathlib.Core.Path.{sym, ◌∙◌}
 use native.Mathlib.Omega.{arith}
 use lib.Dec.{ltb}

@@ -3,7 +3,6 @@ use mathlib.Core.Path.{refl, sym, ap, ◌∙◌}
 use Rattle.tests.specs.Pick.{picked, other}
 use Rattle.cross_moves.specs.declared.price.Price.TheVariants.{Costs}
 use Rattle.cross_head_prices.specs.Prices.{ended_price}
-use borrow.Author.Rules.{rules}
 use Rattle.cross_head_prices.proofs.ended_price.Goals as goal
 
 pub returns-then-allow : goal.returns-then-allow

@@ -1,7 +1,6 @@
 -- `price_from`: the stretch is driven from the head on, and the tail from there; where a visit can't be served, the list can't.
 use native.Mathlib.Omega.{arith}
 use Rattle.cross_head_prices.proofs.Prices.{part_lost, tail_lost, price_driven}
-use borrow.Author.Rules.{rules}
 use Rattle.cross_head_prices.proofs.price_from.Goals as goal
 
 pub drive-part-requires-clause-formed : goal.drive-part-requires-clause-formed

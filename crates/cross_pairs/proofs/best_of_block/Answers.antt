@@ -62,26 +62,24 @@ block_costs-requires-2-clause-block c =
     (c.requires.roomy.1, c.block_costs.auto.costs ∙ c.requires.roomy.0.costs1_long, c.mark_block.auto.marks ∙ c.requires.roomy.0.costs2_long)
 
 pub least_of-least-requires : goal.least_of-least-requires
-least_of-least-requires c =
-    (
-      c.block_costs.auto.costs ∙ c.requires.roomy.0.costs1_long,
-      c.block_costs-2.auto.costs ∙ c.mark_block.auto.marks ∙ c.requires.roomy.0.costs2_long,
-      rw c.entries_of-count.ensures (block_few c.requires.roomy.1),
-    )
+least_of-least-requires c = (
+  c.block_costs.auto.costs ∙ c.requires.roomy.0.costs1_long,
+  c.block_costs-2.auto.costs ∙ c.mark_block.auto.marks ∙ c.requires.roomy.0.costs2_long,
+  rw c.entries_of-count.ensures (block_few c.requires.roomy.1),
+)
 
 pub choose_of_block-requires-clause-k_bound : goal.choose_of_block-requires-clause-k_bound
 choose_of_block-requires-clause-k_bound c =
-    let is = rw c.entries_of-count.ensures at c.least_of-least.ensures in
-    (
-        omega (arith, c.requires.roomy.1.within, c.requires.roomy.1.some, rows_few c.args.kind (length c.args.one.now), c.requires.ready.two.few),
-        rw c.entries_of-count.ensures
-            (least_few _ c.args.demand.now c.args.pair c.args.one.now c.args.other.now c.args.kind c.args.k
-            c.args.width c.args.rows _ _ c.requires.roomy.1
-            _ _ c.requires.roomy.2 c.requires.roomy.3 c.mark_block.ensures c.block_costs.ensures _
-            c.block_costs-2.ensures c.args.best _ is),
-        rw c.entries_of-count.ensures (block_few c.requires.roomy.1),
-        rw c.entries_of-count.ensures (block_wide c.requires.roomy.1 (omega (arith, c.requires.ready.two.few))),
-      )
+    let is = rw c.entries_of-count.ensures at c.least_of-least.ensures in (
+      omega (arith, c.requires.roomy.1.within, c.requires.roomy.1.some, rows_few c.args.kind (length c.args.one.now), c.requires.ready.two.few),
+      rw c.entries_of-count.ensures
+          (least_few _ c.args.demand.now c.args.pair c.args.one.now c.args.other.now c.args.kind c.args.k
+          c.args.width c.args.rows _ _ c.requires.roomy.1
+          _ _ c.requires.roomy.2 c.requires.roomy.3 c.mark_block.ensures c.block_costs.ensures _
+          c.block_costs-2.ensures c.args.best _ is),
+      rw c.entries_of-count.ensures (block_few c.requires.roomy.1),
+      rw c.entries_of-count.ensures (block_wide c.requires.roomy.1 (omega (arith, c.requires.ready.two.few))),
+    )
 
 pub choose_of_block-requires-clause-costs1_len : goal.choose_of_block-requires-clause-costs1_len
 choose_of_block-requires-clause-costs1_len c =

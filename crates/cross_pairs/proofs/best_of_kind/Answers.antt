@@ -1,13 +1,10 @@
 -- `best_of_kind`: before each block, the scan from here on comes to all rows of the kind.
-use mathlib.Core.Path.{◌≡◌, refl, sym, ◌∙◌}
+use mathlib.Core.Path.{refl, sym, ◌∙◌}
 use Prim.Native.Nat.{◌-◌}
 use native.Mathlib.Omega.{arith}
 use lib.ListN.{length}
-use Rattle.labels.specs.Columns.{columns}
-use Rattle.descent.specs.Order.{range, scan}
 use Rattle.cross_kinds.specs.Kinds.{rows_in}
-use Rattle.cross_choices.specs.Scan.{Roomy}
-use Rattle.cross_choices.specs.Rows.{best_of_row, best_of_kind}
+use Rattle.cross_choices.specs.Rows.{best_of_kind}
 use Rattle.cross_kinds.proofs.Along.{rows_few}
 use Rattle.cross_blocks.proofs.Blocks.{scan_on, width_few}
 use Rattle.cross_pairs.proofs.Between.{roomy_kept}
@@ -33,8 +30,7 @@ overflow_sub-rows c =
 
 pub rows_at_once-some-requires : goal.rows_at_once-some-requires
 rows_at_once-some-requires c =
-    let rows = rows_few c.args.kind (length c.args.one.now) in
-    (
+    let rows = rows_few c.args.kind (length c.args.one.now) in (
       omega (arith, c.width_of-width.ensures, width_few c.args.kind (length c.args.other.now), c.requires.ready.two.few),
       omega (arith, c.loop-k-test.true),
       omega (arith, c.rows_of-rows.ensures, rows, c.requires.ready.two.few),
@@ -45,18 +41,17 @@ best_of_block-found-requires-clause-ready c =
     c.requires.ready
 
 pub best_of_block-found-requires-clause-roomy : goal.best_of_block-found-requires-clause-roomy
-best_of_block-found-requires-clause-roomy c =
-    (
-        c.loop-k.invariant.0,
-        record {
-          within = omega (arith, c.rows_of-rows.ensures, c.rows_at_once-some.ensures.1, c.loop-k-test.true);
-          some = c.rows_at_once-some.ensures.0;
-          room = c.rows_at_once-some.ensures.2;
-          is_width = c.width_of-width.ensures;
-        },
-        refl,
-        refl,
-      )
+best_of_block-found-requires-clause-roomy c = (
+  c.loop-k.invariant.0,
+  record {
+    within = omega (arith, c.rows_of-rows.ensures, c.rows_at_once-some.ensures.1, c.loop-k-test.true);
+    some = c.rows_at_once-some.ensures.0;
+    room = c.rows_at_once-some.ensures.2;
+    is_width = c.width_of-width.ensures;
+  },
+  refl,
+  refl,
+)
 
 pub overflow_add-k : goal.overflow_add-k
 overflow_add-k c =
@@ -69,8 +64,7 @@ loop-k-smaller c =
 
 pub loop-k-preserved : goal.loop-k-preserved
 loop-k-preserved c =
-    let all = rows_in c.args.kind (length c.args.one.now) in
-    (
+    let all = rows_in c.args.kind (length c.args.one.now) in (
       roomy_kept c.loop-k.invariant.0 c.best_of_block-found.auto.costs1 c.best_of_block-found.auto.costs2,
       scan_on _ _ _ all _ _ c.best_of_block-found.ensures
           (omega (arith, c.rows_of-rows.ensures, c.rows_at_once-some.ensures.1, c.loop-k-test.true)) ∙ c.loop-k.invariant.1,

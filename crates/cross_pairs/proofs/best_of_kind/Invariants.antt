@@ -1,17 +1,12 @@
 -- `best_of_kind`: before each block, the scan from here on comes to all rows of the kind.
-use mathlib.Core.Path.{◌≡◌, refl, sym, ◌∙◌}
+use mathlib.Core.Path.{◌≡◌}
 use Prim.Native.Nat.{◌-◌}
-use native.Mathlib.Omega.{arith}
 use lib.ListN.{length}
 use Rattle.labels.specs.Columns.{columns}
 use Rattle.descent.specs.Order.{range, scan}
 use Rattle.cross_kinds.specs.Kinds.{rows_in}
 use Rattle.cross_choices.specs.Scan.{Roomy}
 use Rattle.cross_choices.specs.Rows.{best_of_row, best_of_kind}
-use Rattle.cross_kinds.proofs.Along.{rows_few}
-use Rattle.cross_blocks.proofs.Blocks.{scan_on, width_few}
-use Rattle.cross_pairs.proofs.Between.{roomy_kept}
-use Rattle.descent.proofs.Loops.{scan_done}
 use Rattle.cross_pairs.proofs.best_of_kind.Given as goal
 
 abbrev pub invariant-loop-k : goal.invariant-loop-k

@@ -1,13 +1,8 @@
 -- `best_of_kinds`: before each kind, the scan from here on comes to all moves between the two lists.
-use borrow.Author.Rules.{rules}
-use mathlib.Core.Path.{◌≡◌, sym, ◌∙◌}
+use mathlib.Core.Path.{sym, ◌∙◌}
 use Prim.Native.Nat.{◌-◌}
 use native.Mathlib.Omega.{arith}
-use Rattle.labels.specs.Columns.{columns}
-use Rattle.descent.specs.Order.{range, scan}
 use Rattle.descent.proofs.Loops.{scan_turn, scan_done}
-use Rattle.cross_choices.specs.Scan.{Roomy, best_between}
-use Rattle.cross_choices.specs.Rows.{best_of_kind}
 use Rattle.cross_pairs.specs.Kinds.{kind_at, kinds_of}
 use Rattle.cross_pairs.proofs.Between.{roomy_kept, kinds_few, kinds_are}
 use Rattle.cross_pairs.proofs.best_of_kinds.Goals as goal
@@ -33,12 +28,11 @@ loop-n-smaller c =
     omega (arith, c.loop-n-test.true)
 
 pub loop-n-preserved : goal.loop-n-preserved
-loop-n-preserved c =
-    (
-      roomy_kept c.loop-n.invariant.0 c.best_of_kind-found.auto.costs1 c.best_of_kind-found.auto.costs2,
-      scan_turn _ _ _ _ _ (rw (← c.kinds_of-kinds.ensures) c.loop-n-test.true)
-          (rw c.kind_at.ensures at c.best_of_kind-found.ensures) ∙ c.loop-n.invariant.1,
-    )
+loop-n-preserved c = (
+  roomy_kept c.loop-n.invariant.0 c.best_of_kind-found.auto.costs1 c.best_of_kind-found.auto.costs2,
+  scan_turn _ _ _ _ _ (rw (← c.kinds_of-kinds.ensures) c.loop-n-test.true)
+      (rw c.kind_at.ensures at c.best_of_kind-found.ensures) ∙ c.loop-n.invariant.1,
+)
 
 pub returns : goal.returns
 returns c =

@@ -1,15 +1,11 @@
 -- `best_of_kinds`: before each kind, the scan from here on comes to all moves between the two lists.
-use borrow.Author.Rules.{rules}
-use mathlib.Core.Path.{◌≡◌, sym, ◌∙◌}
+use mathlib.Core.Path.{◌≡◌}
 use Prim.Native.Nat.{◌-◌}
-use native.Mathlib.Omega.{arith}
 use Rattle.labels.specs.Columns.{columns}
 use Rattle.descent.specs.Order.{range, scan}
-use Rattle.descent.proofs.Loops.{scan_turn, scan_done}
 use Rattle.cross_choices.specs.Scan.{Roomy, best_between}
 use Rattle.cross_choices.specs.Rows.{best_of_kind}
 use Rattle.cross_pairs.specs.Kinds.{kind_at, kinds_of}
-use Rattle.cross_pairs.proofs.Between.{roomy_kept, kinds_few, kinds_are}
 use Rattle.cross_pairs.proofs.best_of_kinds.Given as goal
 
 abbrev pub invariant-loop-n : goal.invariant-loop-n

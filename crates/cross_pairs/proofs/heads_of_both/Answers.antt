@@ -1,5 +1,4 @@
 -- `heads_of_both`: each part of the table is read as it was written.
-use borrow.Author.Rules.{rules}
 use mathlib.Core.Path.{◌∙◌}
 use Prim.Native.Nat.{◌+◌, ◌≤◌}
 use native.Mathlib.Omega.{arith}
@@ -14,13 +13,12 @@ fill_heads-reached1-requires-clause-formed c =
 
 pub fill_heads-reached1-requires-clause-depot_lt_l : goal.fill_heads-reached1-requires-clause-depot_lt_l
 fill_heads-reached1-requires-clause-depot_lt_l c =
-    let few : 256 + 256 ≤ length c.args.heads.now = omega (arith, c.requires.heads_len) in
-    (
-        c.requires.formed.1.driven1.depot_there,
-        visits_first _ _ _
-            c.requires.formed.2,
-        lent_long 256 c.args.heads.now c.args.heads.now c.args.heads.now few,
-      )
+    let few : 256 + 256 ≤ length c.args.heads.now = omega (arith, c.requires.heads_len) in (
+      c.requires.formed.1.driven1.depot_there,
+      visits_first _ _ _
+          c.requires.formed.2,
+      lent_long 256 c.args.heads.now c.args.heads.now c.args.heads.now few,
+    )
 
 pub fill_heads-reached2-requires-clause-formed : goal.fill_heads-reached2-requires-clause-formed
 fill_heads-reached2-requires-clause-formed c =
@@ -36,8 +34,7 @@ pub returns : goal.returns
 returns c =
     let few : 256 + 256 ≤ length c.args.heads.now = omega (arith, c.requires.heads_len) in
     let long = c.fill_heads-reached1.auto.heads ∙ lent_long 256 c.args.heads.now c.fill_heads-reached1.new.heads c.fill_heads-reached2.new.heads few in
-    let long2 = c.fill_heads-reached2.auto.heads ∙ lent_long2 256 c.args.heads.now c.fill_heads-reached1.new.heads c.fill_heads-reached2.new.heads few long in
-    (
+    let long2 = c.fill_heads-reached2.auto.heads ∙ lent_long2 256 c.args.heads.now c.fill_heads-reached1.new.heads c.fill_heads-reached2.new.heads few long in (
       kept_part (first_part 256 c.args.heads.now c.fill_heads-reached1.new.heads c.fill_heads-reached2.new.heads few long long2) c.fill_heads-reached1.ensures,
       kept_part (second_part 256 c.args.heads.now c.fill_heads-reached1.new.heads c.fill_heads-reached2.new.heads few long long2) c.fill_heads-reached2.ensures,
     )

@@ -1,5 +1,4 @@
 -- `price_of`: one arm for each case.
-use borrow.Author.Rules.{rules}
 use Rattle.cross_moves.specs.CrossDepot.{price_of}
 use Rattle.cross_prices.proofs.price_of.Goals as goal
 

@@ -1,5 +1,4 @@
 -- `priced`: an empty list costs nothing, another what its evaluation says.
-use borrow.Author.Rules.{rules}
 use lib.Ieee.{of_bits}
 use Rattle.cross_prices.proofs.Stretch.{priced_none, priced_some}
 use Rattle.cross_prices.proofs.priced.Goals as goal

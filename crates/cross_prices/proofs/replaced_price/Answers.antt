@@ -1,5 +1,4 @@
 -- `replaced_price`: the buffer's front is the list, and the callee answers.
-use borrow.Author.Rules.{rules}
 use mathlib.Core.Path.{ap, ◌∙◌}
 use Rattle.cross_moves.specs.CrossDepot.{priced_as}
 use Rattle.edits.proofs.Cuts.{front}
@@ -12,11 +11,10 @@ priced-requires-clause-formed c =
 
 pub priced-requires-clause-driven : goal.priced-requires-clause-driven
 priced-requires-clause-driven c =
-    let whole = front c.replaced_into-end.result c.replaced_into-end.new.buffer _ c.replaced_into-end.ensures.buffer_after in
-    (
-        c.requires.formed.1,
-        rw whole (visits-replaced _ _ _ c.requires.two.0 _ _ _ _ c.requires.two.1 c.requires.two.2 c.requires.other_from_le_other_to.0 c.requires.other_from_le_other_to.1),
-      )
+    let whole = front c.replaced_into-end.result c.replaced_into-end.new.buffer _ c.replaced_into-end.ensures.buffer_after in (
+      c.requires.formed.1,
+      rw whole (visits-replaced _ _ _ c.requires.two.0 _ _ _ _ c.requires.two.1 c.requires.two.2 c.requires.other_from_le_other_to.0 c.requires.other_from_le_other_to.1),
+    )
 
 pub returns : goal.returns
 returns c =

@@ -1,16 +1,10 @@
 -- `broken_row`: before each candidate the costs of those before it are put down, and the head isn't beyond where its stretch begins.
-use mathlib.Core.Path.{refl, ◌∙◌}
 use Prim.Native.Nat.{◌-◌, ◌≤◌}
-use native.Mathlib.Omega.{arith}
-use lib.ListN.{length, length-set}
-use borrow.Author.Rules.{rules}
-use Rattle.tests.specs.Pick.{yes, no}
+use lib.ListN.{length}
 use Rattle.labels.specs.Columns.{columns}
 use Rattle.broken_heads.specs.Head.{HeadOf}
-use Rattle.broken_heads.proofs.Heads.{head_starts}
 use Rattle.cross_rows.specs.Row.{from_at}
-use Rattle.cross_rows.proofs.Rows.{from_later, cost_skipped, cost_asked}
-use Rattle.cross_rows.proofs.Rows.{Costing, costing_starts, costing_turns, costing_turns_twice, costing_ends}
+use Rattle.cross_rows.proofs.Rows.{Costing}
 use Rattle.cross_rows.proofs.broken_row.Given as goal
 
 abbrev pub invariant-loop-next : goal.invariant-loop-next

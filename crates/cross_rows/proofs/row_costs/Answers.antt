@@ -1,5 +1,4 @@
 -- `row_costs`: one arm for each case of the break.
-use borrow.Author.Rules.{rules}
 use Rattle.cross_rows.proofs.row_costs.Goals as goal
 
 pub unbroken_row-requires-clause-formed : goal.unbroken_row-requires-clause-formed

@@ -1,11 +1,8 @@
 -- `unbroken_row`: before each candidate the costs of those before it are put down.
 use mathlib.Core.Path.{refl, ◌∙◌}
-use Prim.Native.Nat.{◌-◌, ◌≤◌}
+use Prim.Native.Nat.{◌-◌}
 use native.Mathlib.Omega.{arith}
-use lib.ListN.{length}
-use borrow.Author.Rules.{rules}
-use Rattle.labels.specs.Columns.{columns}
-use Rattle.cross_rows.proofs.Rows.{Costing, cost_skipped, cost_asked, costing_starts, costing_turns, costing_ends}
+use Rattle.cross_rows.proofs.Rows.{cost_skipped, cost_asked, costing_starts, costing_turns, costing_ends}
 use Rattle.cross_rows.proofs.unbroken_row.Goals as goal
 use Rattle.cross_rows.proofs.unbroken_row.Goals.{then-skip-j, else-skip-j}
 
@@ -46,13 +43,12 @@ candidate_cost-cost-requires-clause-unbroken c =
     c.requires.unbroken
 
 pub candidate_cost-cost-requires-clause-from_le_to : goal.candidate_cost-cost-requires-clause-from_le_to
-candidate_cost-cost-requires-clause-from_le_to c =
-    (
-          rw (c.start_at.ensures, c.end_at.ensures) (c.requires.rowed.0.ordered _ c.loop-j-test.true),
-          rw c.end_at.ensures (c.requires.rowed.0.within _ c.loop-j-test.true),
-          rw (c.start_at-then-skip-j.ensures, c.end_at-then-skip-j.ensures) (c.requires.rowed.0.others_ordered _ c.loop-j-test.true),
-          rw c.end_at-then-skip-j.ensures (c.requires.rowed.0.others_within _ c.loop-j-test.true),
-        )
+candidate_cost-cost-requires-clause-from_le_to c = (
+  rw (c.start_at.ensures, c.end_at.ensures) (c.requires.rowed.0.ordered _ c.loop-j-test.true),
+  rw c.end_at.ensures (c.requires.rowed.0.within _ c.loop-j-test.true),
+  rw (c.start_at-then-skip-j.ensures, c.end_at-then-skip-j.ensures) (c.requires.rowed.0.others_ordered _ c.loop-j-test.true),
+  rw c.end_at-then-skip-j.ensures (c.requires.rowed.0.others_within _ c.loop-j-test.true),
+)
 
 pub offset_bounds-costs-j : goal.offset_bounds-costs-j
 offset_bounds-costs-j c =
@@ -71,17 +67,16 @@ loop-j-smaller c =
     omega (arith, c.loop-j-test.true)
 
 pub loop-j-preserved : goal.loop-j-preserved
-loop-j-preserved c =
-    (
-      omega (arith, c.loop-j-test.true),
-      costing_turns _ _ _ _ _ _ _ _ _ _ c.loop-j.invariant.1 (omega (arith, c.loop-j-test.true, c.requires.rowed.2)) c.if-skip-j.cost
-          (elim c.if-skip-j.branch [
-            then-skip-j w ↦
-              w.cost-is ∙ cost_asked _ _ _ _ _ _ _ _ _ c.infinite.ensures.answer w.if-skip-j.true w.start_at.ensures w.end_at.ensures
-              w.start_at-then-skip-j.ensures w.end_at-then-skip-j.ensures w.candidate_cost-cost.ensures
-          | else-skip-j w ↦ w.cost-is ∙ c.infinite-cost.ensures.answer ∙ cost_skipped _ _ _ _ _ c.infinite.ensures.answer w.if-skip-j.false
-          ]),
-    )
+loop-j-preserved c = (
+  omega (arith, c.loop-j-test.true),
+  costing_turns _ _ _ _ _ _ _ _ _ _ c.loop-j.invariant.1 (omega (arith, c.loop-j-test.true, c.requires.rowed.2)) c.if-skip-j.cost
+      (elim c.if-skip-j.branch [
+        | then-skip-j w ↦
+            w.cost-is ∙ cost_asked _ _ _ _ _ _ _ _ _ c.infinite.ensures.answer w.if-skip-j.true w.start_at.ensures w.end_at.ensures
+            w.start_at-then-skip-j.ensures w.end_at-then-skip-j.ensures w.candidate_cost-cost.ensures
+        | else-skip-j w ↦ w.cost-is ∙ c.infinite-cost.ensures.answer ∙ cost_skipped _ _ _ _ _ c.infinite.ensures.answer w.if-skip-j.false
+      ]),
+)
 
 pub returns : goal.returns
 returns c =

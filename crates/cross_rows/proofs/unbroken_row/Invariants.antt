@@ -1,11 +1,8 @@
 -- `unbroken_row`: before each candidate the costs of those before it are put down.
-use mathlib.Core.Path.{refl, ◌∙◌}
 use Prim.Native.Nat.{◌-◌, ◌≤◌}
-use native.Mathlib.Omega.{arith}
 use lib.ListN.{length}
-use borrow.Author.Rules.{rules}
 use Rattle.labels.specs.Columns.{columns}
-use Rattle.cross_rows.proofs.Rows.{Costing, cost_skipped, cost_asked, costing_starts, costing_turns, costing_ends}
+use Rattle.cross_rows.proofs.Rows.{Costing}
 use Rattle.cross_rows.proofs.unbroken_row.Given as goal
 
 abbrev pub invariant-loop-j : goal.invariant-loop-j

@@ -1,20 +1,11 @@
 -- `descend`: the moves made and the run that is left are the whole run, the first entries of the tables are the plan, and the table of least deltas has the
 -- pairs of old lists; proofs/Going.antt has the start, the turn and the end.
-use borrow.Author.Rules.{rules}
 use borrow.Author.Tests.{eq-eqb, ne_eqb, ltb-true}
-use mathlib.Core.Path.{◌≡◌, refl, sym, ◌∙◌}
+use mathlib.Core.Path.{refl, ◌∙◌}
 use Prim.Native.Nat.{◌-◌}
 use native.Mathlib.Omega.{arith}
-use lib.ListN.{length}
-use Rattle.edits.specs.Total.{SameVisits}
-use Rattle.edits.proofs.Kept.{same_length as kept-length}
-use Rattle.labels.specs.Columns.{columns}
-use Rattle.fleet.specs.Fleet.{fleet_of}
-use Rattle.cross_moves.specs.CrossDepot.{plan_of}
-use Rattle.cross_deltas.specs.Deltas.{Kept}
 use Rattle.cross_search.proofs.Keeping.{kept_start}
-use Rattle.cross_steps.specs.Tables.{plan_in, Live}
-use Rattle.cross_runs.proofs.Going.{Running, begins, had_room, answers, goes_on}
+use Rattle.cross_runs.proofs.Going.{begins, had_room, answers, goes_on}
 use Rattle.cross_runs.proofs.descend.Goals as goal
 
 pub loop-turn-init : goal.loop-turn-init
@@ -75,8 +66,7 @@ loop-turn-smaller c =
 pub loop-turn-preserved : goal.loop-turn-preserved
 loop-turn-preserved c =
     let on = goes_on _ _ _ _ _ _ _ _ _ _ c.args.visits.now _ _ _ _ c.loop-turn.invariant.1 c.loop-turn.invariant.2
-    c.loop-turn.invariant.3 c.loop-turn.invariant.0 _ _ _ _ _ _ _ c.take_turn-turn.ensures refl (eq-eqb _ _ c.if-turn-ne1.false) in
-    (
+    c.loop-turn.invariant.3 c.loop-turn.invariant.0 _ _ _ _ _ _ _ c.take_turn-turn.ensures refl (eq-eqb _ _ c.if-turn-ne1.false) in (
       on.0,
       on.1,
       c.take_turn-turn.auto.lengths ∙ c.loop-turn.invariant.2,

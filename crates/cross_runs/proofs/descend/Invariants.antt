@@ -1,20 +1,15 @@
 -- `descend`: the moves made and the run that is left are the whole run, the first entries of the tables are the plan, and the table of least deltas has the
 -- pairs of old lists; proofs/Going.antt has the start, the turn and the end.
-use borrow.Author.Rules.{rules}
-use borrow.Author.Tests.{eq-eqb, ne_eqb, ltb-true}
-use mathlib.Core.Path.{◌≡◌, refl, sym, ◌∙◌}
+use mathlib.Core.Path.{◌≡◌}
 use Prim.Native.Nat.{◌-◌}
-use native.Mathlib.Omega.{arith}
 use lib.ListN.{length}
 use Rattle.edits.specs.Total.{SameVisits}
-use Rattle.edits.proofs.Kept.{same_length as kept-length}
 use Rattle.labels.specs.Columns.{columns}
 use Rattle.fleet.specs.Fleet.{fleet_of}
 use Rattle.cross_moves.specs.CrossDepot.{plan_of}
 use Rattle.cross_deltas.specs.Deltas.{Kept}
-use Rattle.cross_search.proofs.Keeping.{kept_start}
 use Rattle.cross_steps.specs.Tables.{plan_in, Live}
-use Rattle.cross_runs.proofs.Going.{Running, begins, had_room, answers, goes_on}
+use Rattle.cross_runs.proofs.Going.{Running}
 use Rattle.cross_runs.proofs.descend.Given as goal
 
 abbrev pub invariant-loop-turn : goal.invariant-loop-turn

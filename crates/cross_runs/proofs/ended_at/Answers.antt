@@ -1,5 +1,4 @@
 -- `ended_at`: by the test of what was found.
-use borrow.Author.Rules.{rules}
 use borrow.Author.Tests.{eq-eqb, ne_eqb}
 use Rattle.cross_runs.proofs.ended_at.Goals as goal
 

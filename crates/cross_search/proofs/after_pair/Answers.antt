@@ -1,5 +1,4 @@
 -- `after_pair`: a pair that is left out has its entry, which isn't below the best; another is searched from nothing on.
-use borrow.Author.Rules.{rules}
 use borrow.Author.Tests.{not-true}
 use mathlib.Core.Path.{sym, ap, ◌∙◌}
 use native.Mathlib.Omega.{arith}

@@ -1,14 +1,7 @@
 -- `best_from`: before each second list, the scan from here on comes to the scan over all of them, and the table has the pairs before.
-use mathlib.Core.Path.{◌≡◌, sym, ◌∙◌}
-use Prim.Native.Nat.{◌+◌, ◌*◌, ◌-◌}
+use mathlib.Core.Path.{sym, ◌∙◌}
+use Prim.Native.Nat.{◌-◌}
 use native.Mathlib.Omega.{arith}
-use lib.ListN.{length}
-use Rattle.labels.specs.Columns.{columns}
-use Rattle.descent.specs.Order.{range, scan}
-use Rattle.fleet.specs.Fleet.{fleet_of}
-use Rattle.cross_choices.specs.Scan.{best_of_pair, best_from}
-use Rattle.cross_moves.specs.CrossDepot.{plan_of}
-use Rattle.cross_deltas.specs.Deltas.{Sunk, Kept}
 use Rattle.descent.proofs.Loops.{scan_turn, scan_done}
 use Rattle.cross_search.proofs.Pairs.{from_start}
 use Rattle.cross_search.proofs.Joining.{after_sunk}
@@ -16,16 +9,15 @@ use Rattle.cross_search.proofs.Keeping.{kept_at, table_turn, table_row}
 use Rattle.cross_search.proofs.best_from.Goals as goal
 
 pub loop-b-init : goal.loop-b-init
-loop-b-init c =
-    (
-      from_start _ _ _ _ _ _ _ _ _,
-      c.requires.deltas_len.1,
-      kept_at _ _ _ _ _ _ _ _ _ _ _ (omega arith) c.requires.kept,
-      c.requires.deltas_len.0,
-      c.requires.sums_len.0,
-      c.requires.sums_len.1,
-      c.requires.sums_len.2,
-    )
+loop-b-init c = (
+  from_start _ _ _ _ _ _ _ _ _,
+  c.requires.deltas_len.1,
+  kept_at _ _ _ _ _ _ _ _ _ _ _ (omega arith) c.requires.kept,
+  c.requires.deltas_len.0,
+  c.requires.sums_len.0,
+  c.requires.sums_len.1,
+  c.requires.sums_len.2,
+)
 
 pub after_pair-found-requires-clause-asked : goal.after_pair-found-requires-clause-asked
 after_pair-found-requires-clause-asked c =
@@ -64,17 +56,16 @@ loop-b-smaller c =
     omega (arith, c.loop-b-test.true)
 
 pub loop-b-preserved : goal.loop-b-preserved
-loop-b-preserved c =
-    (
-      scan_turn _ _ _ _ _ c.loop-b-test.true c.after_pair-found.ensures.value ∙ c.loop-b.invariant.0,
-      after_sunk _ _ _ _ _ _ _ _ c.loop-b.invariant.1 _ c.after_pair-found.ensures.value,
-      table_turn _ _ _ _ _ _ _ _ _ _ _ c.requires.held.0.laid.few _ _ c.requires.a_in_bounds c.loop-b-test.true _
-          c.loop-b.invariant.3 c.loop-b.invariant.2 _ c.after_pair-found.ensures.deltas_after,
-      c.after_pair-found.auto.deltas ∙ c.loop-b.invariant.3,
-      c.after_pair-found.auto.sums ∙ c.loop-b.invariant.4,
-      c.after_pair-found.auto.heads ∙ c.loop-b.invariant.5,
-      c.after_pair-found.auto.tried_costs ∙ c.loop-b.invariant.6,
-    )
+loop-b-preserved c = (
+  scan_turn _ _ _ _ _ c.loop-b-test.true c.after_pair-found.ensures.value ∙ c.loop-b.invariant.0,
+  after_sunk _ _ _ _ _ _ _ _ c.loop-b.invariant.1 _ c.after_pair-found.ensures.value,
+  table_turn _ _ _ _ _ _ _ _ _ _ _ c.requires.held.0.laid.few _ _ c.requires.a_in_bounds c.loop-b-test.true _
+      c.loop-b.invariant.3 c.loop-b.invariant.2 _ c.after_pair-found.ensures.deltas_after,
+  c.after_pair-found.auto.deltas ∙ c.loop-b.invariant.3,
+  c.after_pair-found.auto.sums ∙ c.loop-b.invariant.4,
+  c.after_pair-found.auto.heads ∙ c.loop-b.invariant.5,
+  c.after_pair-found.auto.tried_costs ∙ c.loop-b.invariant.6,
+)
 
 pub returns-clause-value : goal.returns-clause-value
 returns-clause-value c =

@@ -1,7 +1,6 @@
 -- `best_from`: before each second list, the scan from here on comes to the scan over all of them, and the table has the pairs before.
-use mathlib.Core.Path.{◌≡◌, sym, ◌∙◌}
+use mathlib.Core.Path.{◌≡◌}
 use Prim.Native.Nat.{◌+◌, ◌*◌, ◌-◌}
-use native.Mathlib.Omega.{arith}
 use lib.ListN.{length}
 use Rattle.labels.specs.Columns.{columns}
 use Rattle.descent.specs.Order.{range, scan}
@@ -9,10 +8,6 @@ use Rattle.fleet.specs.Fleet.{fleet_of}
 use Rattle.cross_choices.specs.Scan.{best_of_pair, best_from}
 use Rattle.cross_moves.specs.CrossDepot.{plan_of}
 use Rattle.cross_deltas.specs.Deltas.{Sunk, Kept}
-use Rattle.descent.proofs.Loops.{scan_turn, scan_done}
-use Rattle.cross_search.proofs.Pairs.{from_start}
-use Rattle.cross_search.proofs.Joining.{after_sunk}
-use Rattle.cross_search.proofs.Keeping.{kept_at, table_turn, table_row}
 use Rattle.cross_search.proofs.best_from.Given as goal
 
 abbrev pub invariant-loop-b : goal.invariant-loop-b

@@ -1,16 +1,9 @@
 -- `best_move`: before each first list, the scan from here on comes to the scan over all of them, and the table has the rows before.
-use borrow.Author.Rules.{rules}
-use mathlib.Core.Path.{◌≡◌, sym, ap, ◌∙◌}
+use mathlib.Core.Path.{sym, ap, ◌∙◌}
 use mathlib.Core.Logic.{inl}
-use Prim.Native.Nat.{◌*◌, ◌-◌}
+use Prim.Native.Nat.{◌-◌}
 use native.Mathlib.Omega.{arith}
-use lib.ListN.{length}
-use Rattle.labels.specs.Columns.{columns}
-use Rattle.descent.specs.Order.{range, scan}
-use Rattle.fleet.specs.Fleet.{fleet_of}
-use Rattle.cross_choices.specs.Scan.{best_from, best_of, nothing}
-use Rattle.cross_moves.specs.CrossDepot.{plan_of}
-use Rattle.cross_deltas.specs.Deltas.{Sunk, Kept}
+use Rattle.cross_choices.specs.Scan.{best_of}
 use Rattle.descent.proofs.Loops.{scan_turn, scan_done}
 use Rattle.cross_search.proofs.Pairs.{all_start}
 use Rattle.cross_search.proofs.Joining.{from_sunk}
@@ -18,16 +11,15 @@ use Rattle.cross_search.proofs.Keeping.{kept_at, table_whole}
 use Rattle.cross_search.proofs.best_move.Goals as goal
 
 pub loop-a-init : goal.loop-a-init
-loop-a-init c =
-    (
-      all_start _ _ _ _ _ _ _ _ ∙ ap (best_of _ _ _ _) c.no_choice-found.ensures,
-      inl c.no_choice-found.ensures,
-      kept_at _ _ _ _ _ _ _ _ _ _ _ (omega arith) c.requires.kept,
-      c.requires.deltas_len,
-      c.requires.sums_len.0,
-      c.requires.sums_len.1,
-      c.requires.sums_len.2,
-    )
+loop-a-init c = (
+  all_start _ _ _ _ _ _ _ _ ∙ ap (best_of _ _ _ _) c.no_choice-found.ensures,
+  inl c.no_choice-found.ensures,
+  kept_at _ _ _ _ _ _ _ _ _ _ _ (omega arith) c.requires.kept,
+  c.requires.deltas_len,
+  c.requires.sums_len.0,
+  c.requires.sums_len.1,
+  c.requires.sums_len.2,
+)
 
 pub best_from-found-requires-clause-asked : goal.best_from-found-requires-clause-asked
 best_from-found-requires-clause-asked c =
@@ -66,16 +58,15 @@ loop-a-smaller c =
     omega (arith, c.loop-a-test.true)
 
 pub loop-a-preserved : goal.loop-a-preserved
-loop-a-preserved c =
-    (
-      scan_turn _ _ _ _ _ c.loop-a-test.true c.best_from-found.ensures.value ∙ c.loop-a.invariant.0,
-      from_sunk _ _ _ _ _ _ _ _ c.loop-a.invariant.1 c.best_from-found.ensures.value,
-      c.best_from-found.ensures.kept_2,
-      c.best_from-found.auto.deltas ∙ c.loop-a.invariant.3,
-      c.best_from-found.auto.sums ∙ c.loop-a.invariant.4,
-      c.best_from-found.auto.heads ∙ c.loop-a.invariant.5,
-      c.best_from-found.auto.tried_costs ∙ c.loop-a.invariant.6,
-    )
+loop-a-preserved c = (
+  scan_turn _ _ _ _ _ c.loop-a-test.true c.best_from-found.ensures.value ∙ c.loop-a.invariant.0,
+  from_sunk _ _ _ _ _ _ _ _ c.loop-a.invariant.1 c.best_from-found.ensures.value,
+  c.best_from-found.ensures.kept_2,
+  c.best_from-found.auto.deltas ∙ c.loop-a.invariant.3,
+  c.best_from-found.auto.sums ∙ c.loop-a.invariant.4,
+  c.best_from-found.auto.heads ∙ c.loop-a.invariant.5,
+  c.best_from-found.auto.tried_costs ∙ c.loop-a.invariant.6,
+)
 
 pub returns-clause-value : goal.returns-clause-value
 returns-clause-value c =

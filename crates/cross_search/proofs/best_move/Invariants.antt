@@ -1,9 +1,6 @@
 -- `best_move`: before each first list, the scan from here on comes to the scan over all of them, and the table has the rows before.
-use borrow.Author.Rules.{rules}
-use mathlib.Core.Path.{◌≡◌, sym, ap, ◌∙◌}
-use mathlib.Core.Logic.{inl}
+use mathlib.Core.Path.{◌≡◌}
 use Prim.Native.Nat.{◌*◌, ◌-◌}
-use native.Mathlib.Omega.{arith}
 use lib.ListN.{length}
 use Rattle.labels.specs.Columns.{columns}
 use Rattle.descent.specs.Order.{range, scan}
@@ -11,10 +8,6 @@ use Rattle.fleet.specs.Fleet.{fleet_of}
 use Rattle.cross_choices.specs.Scan.{best_from, best_of, nothing}
 use Rattle.cross_moves.specs.CrossDepot.{plan_of}
 use Rattle.cross_deltas.specs.Deltas.{Sunk, Kept}
-use Rattle.descent.proofs.Loops.{scan_turn, scan_done}
-use Rattle.cross_search.proofs.Pairs.{all_start}
-use Rattle.cross_search.proofs.Joining.{from_sunk}
-use Rattle.cross_search.proofs.Keeping.{kept_at, table_whole}
 use Rattle.cross_search.proofs.best_move.Given as goal
 
 abbrev pub invariant-loop-a : goal.invariant-loop-a

@@ -2,10 +2,8 @@
 use mathlib.Core.Path.{ap}
 use Prim.Native.Nat.{◌-◌}
 use native.Mathlib.Omega.{arith}
-use lib.ListN.{length}
 use Rattle.day.specs.declared.vehicle.Van.{Van}
-use Rattle.fleet.specs.Fleet.{fleet_of, fleet_vehicle}
-use Rattle.cross_starts.proofs.Starting.{Mapping, mapping_starts, mapping_turns, mapping_ends}
+use Rattle.cross_starts.proofs.Starting.{mapping_starts, mapping_turns, mapping_ends}
 use Rattle.cross_starts.proofs.found_ids.Goals as goal
 
 pub loop-i-init : goal.loop-i-init

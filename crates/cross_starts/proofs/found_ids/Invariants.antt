@@ -1,11 +1,8 @@
 -- `found_ids`: the entries so far are the ids found, and the rest is as it was.
-use mathlib.Core.Path.{ap}
 use Prim.Native.Nat.{◌-◌}
-use native.Mathlib.Omega.{arith}
 use lib.ListN.{length}
-use Rattle.day.specs.declared.vehicle.Van.{Van}
 use Rattle.fleet.specs.Fleet.{fleet_of, fleet_vehicle}
-use Rattle.cross_starts.proofs.Starting.{Mapping, mapping_starts, mapping_turns, mapping_ends}
+use Rattle.cross_starts.proofs.Starting.{Mapping}
 use Rattle.cross_starts.proofs.found_ids.Given as goal
 
 abbrev pub invariant-loop-i : goal.invariant-loop-i

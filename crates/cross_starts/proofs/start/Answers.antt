@@ -1,5 +1,4 @@
 -- `start`: the ids are found first, and the costs are those of the ids found.
-use borrow.Author.Rules.{rules}
 use mathlib.Core.Path.{sym, ◌∙◌}
 use native.Mathlib.Omega.{arith}
 use Rattle.cross_starts.proofs.Starting.{start_is}

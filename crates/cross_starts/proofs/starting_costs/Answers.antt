@@ -1,14 +1,12 @@
 -- `starting_costs`: the costs so far are those of the first lists.
-use borrow.Author.Rules.{rules}
-use mathlib.Core.Path.{sym, ap, ◌∙◌}
+use mathlib.Core.Path.{ap, ◌∙◌}
 use Prim.Native.Nat.{◌-◌}
 use native.Mathlib.Omega.{arith}
-use lib.ListN.{length, get_or}
+use lib.ListN.{get_or}
 use lib.Ieee.{nan}
 use Rattle.day.specs.declared.vehicle.Van.{Van}
 use Rattle.day.specs.Vehicle.{route_cost}
-use Rattle.fleet.specs.Fleet.{fleet_of}
-use Rattle.cross_starts.proofs.Starting.{Costing, costing_starts, costing_turns, costing_ends}
+use Rattle.cross_starts.proofs.Starting.{costing_starts, costing_turns, costing_ends}
 use Rattle.cross_starts.proofs.starting_costs.Goals as goal
 
 pub loop-i-init : goal.loop-i-init

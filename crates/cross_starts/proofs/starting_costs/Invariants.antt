@@ -1,14 +1,8 @@
 -- `starting_costs`: the costs so far are those of the first lists.
-use borrow.Author.Rules.{rules}
-use mathlib.Core.Path.{sym, ap, ◌∙◌}
 use Prim.Native.Nat.{◌-◌}
-use native.Mathlib.Omega.{arith}
-use lib.ListN.{length, get_or}
-use lib.Ieee.{nan}
-use Rattle.day.specs.declared.vehicle.Van.{Van}
-use Rattle.day.specs.Vehicle.{route_cost}
+use lib.ListN.{length}
 use Rattle.fleet.specs.Fleet.{fleet_of}
-use Rattle.cross_starts.proofs.Starting.{Costing, costing_starts, costing_turns, costing_ends}
+use Rattle.cross_starts.proofs.Starting.{Costing}
 use Rattle.cross_starts.proofs.starting_costs.Given as goal
 
 abbrev pub invariant-loop-i : goal.invariant-loop-i

@@ -1,5 +1,4 @@
 -- `make_best`: the move is made in the first n entries, and the others are as they were.
-use borrow.Author.Rules.{rules}
 use native.Mathlib.Omega.{arith}
 use Rattle.cross_steps.proofs.Parts.{part, parts_even, made_in}
 use Rattle.cross_steps.proofs.make_best.Goals as goal
@@ -21,11 +20,10 @@ make_move-requires-clause-makes c =
     rw (part _ c.args.lengths.now) c.requires.makes.0
 
 pub make_move-requires-clause-ids_len : goal.make_move-requires-clause-ids_len
-make_move-requires-clause-ids_len c =
-    (
-        parts_even _ _ _ c.requires.makes.1 c.requires.ids_len.0,
-        parts_even _ _ _ c.requires.makes.1 c.requires.ids_len.1,
-      )
+make_move-requires-clause-ids_len c = (
+  parts_even _ _ _ c.requires.makes.1 c.requires.ids_len.0,
+  parts_even _ _ _ c.requires.makes.1 c.requires.ids_len.1,
+)
 
 pub returns : goal.returns
 returns c =

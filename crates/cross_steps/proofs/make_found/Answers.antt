@@ -1,6 +1,5 @@
 -- `make_found`: the tables are as they were where there is no move or no room, and else the move is made in them.
-use borrow.Author.Rules.{rules}
-use borrow.Author.Tests.{eq-eqb, ne_eqb, not-true, not-false}
+use borrow.Author.Tests.{eq-eqb, ne_eqb}
 use mathlib.Core.Logic.{inl, inr}
 use Rattle.cross_steps.proofs.Parts.{none_made, one_made}
 use Rattle.cross_steps.proofs.make_found.Goals as goal

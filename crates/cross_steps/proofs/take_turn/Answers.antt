@@ -1,5 +1,4 @@
 -- `take_turn`: the scan over all pairs is the definition's choice, its move can be made, and the tables are then what the run's own step leads to.
-use borrow.Author.Rules.{rules}
 use native.Mathlib.Omega.{arith}
 use Rattle.cross_steps.proofs.Turns.{asks_part, kept_part, chosen_in, turned}
 use Rattle.cross_steps.proofs.take_turn.Goals as goal

@@ -1,5 +1,4 @@
 -- `cost_columns_ok`: the callees join the definition's tests.
-use borrow.Author.Rules.{rules}
 use Rattle.fleet.specs.Refusal.{cost_columns_ok}
 use Rattle.fleet_columns.proofs.cost_columns_ok.Goals as goal
 

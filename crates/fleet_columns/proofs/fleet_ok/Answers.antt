@@ -1,5 +1,4 @@
 -- `fleet_ok`: the callees join the definition's tests.
-use borrow.Author.Rules.{rules}
 use Rattle.fleet.specs.Refusal.{columns_ok, fleet_ok}
 use Rattle.fleet_columns.proofs.fleet_ok.Goals as goal
 

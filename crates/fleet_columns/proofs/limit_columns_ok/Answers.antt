@@ -1,5 +1,4 @@
 -- `limit_columns_ok`: the callees join the definition's tests.
-use borrow.Author.Rules.{rules}
 use Rattle.fleet.specs.Refusal.{limit_columns_ok}
 use Rattle.fleet_columns.proofs.limit_columns_ok.Goals as goal
 

@@ -1,5 +1,4 @@
 -- `prices_refusal`: the callee answers the number where the test fails.
-use borrow.Author.Rules.{rules}
 use Rattle.fleet.specs.Refusal.{prices_refusal}
 use Rattle.fleet_columns.proofs.prices_refusal.Goals as goal
 

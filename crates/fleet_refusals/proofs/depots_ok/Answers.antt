@@ -1,12 +1,11 @@
 -- `depots_ok`: the depots passed are depot locations.
 use borrow.Author.Rules.{rules}
-use Prim.Native.Nat.{◌-◌, ◌≤◌}
-use mathlib.Core.Path.{◌≡◌, sym, ap, ◌∙◌}
+use Prim.Native.Nat.{◌-◌}
+use mathlib.Core.Path.{sym, ap, ◌∙◌}
 use mathlib.Core.Bool.{true}
 use borrow.Author.Tests.{lt-ltb, le-ltb}
 use lib.Dec.{ltb}
-use lib.ListN.{length, get_or}
-use Rattle.tests.specs.All.{all_below, all_none, all_more, all_fails, all_end}
+use Rattle.tests.specs.All.{all_none, all_more, all_fails, all_end}
 use Rattle.day.specs.Refusal.{is_depot}
 use Rattle.fleet_refusals.proofs.depots_ok.Goals as goal
 

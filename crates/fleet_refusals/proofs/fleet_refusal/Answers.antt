@@ -1,5 +1,4 @@
 -- `fleet_refusal`: each return is one case of the definition; what one test finds is what the next requires.
-use borrow.Author.Rules.{rules}
 use mathlib.Core.Path.{refl, ◌∙◌}
 use Rattle.tests.specs.All.{refuse, pass, no, yes}
 use Rattle.fleet.specs.Refusal.{columns_fine}

@@ -1,14 +1,11 @@
 -- `vans_ok`: the numbers of the vans passed are in range, since each stands at a depot, so that nothing but 7 is refused.
 use borrow.Author.Rules.{rules}
-use Prim.Native.Nat.{◌-◌, ◌≤◌}
-use mathlib.Core.Path.{◌≡◌, sym, ◌∙◌}
+use Prim.Native.Nat.{◌-◌}
+use mathlib.Core.Path.{sym, ◌∙◌}
 use mathlib.Core.Bool.{true}
 use native.Mathlib.Omega.{arith}
-use lib.ListN.{length}
-use Rattle.tests.specs.All.{all_below, all_none, all_more, all_fails, all_end, all_at}
-use Rattle.day.specs.Refusal.{van_ok}
+use Rattle.tests.specs.All.{all_none, all_more, all_fails, all_end, all_at}
 use Rattle.van_refusals.specs.Order.{van_fine}
-use Rattle.fleet.specs.Fleet.{fleet_of, van_at}
 use Rattle.fleet.specs.Refusal.{depots_ok, vans_ok}
 use Rattle.fleet.proofs.Refused.{van_refused}
 use Rattle.fleet_refusals.proofs.vans_ok.Goals as goal

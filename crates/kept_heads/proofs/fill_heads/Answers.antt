@@ -1,11 +1,7 @@
 -- `fill_heads`: before each visit the table holds the heads up to it.
-use mathlib.Core.Path.{sym, ◌∙◌}
 use Prim.Native.Nat.{◌-◌}
 use native.Mathlib.Omega.{arith}
-use lib.ListN.{length}
-use borrow.Author.Rules.{rules}
-use Rattle.labels.specs.Columns.{columns}
-use Rattle.kept_heads.proofs.Keeping.{Keeping, keeping_starts, keeping_turns, keeping_stops, keeping_ends}
+use Rattle.kept_heads.proofs.Keeping.{keeping_starts, keeping_turns, keeping_stops, keeping_ends}
 use Rattle.kept_heads.proofs.fill_heads.Goals as goal
 
 pub store_head-requires : goal.store_head-requires

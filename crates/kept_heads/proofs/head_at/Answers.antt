@@ -1,6 +1,5 @@
 -- `head_at`: field by field.
 use lib.Ieee.{of_bits}
-use borrow.Author.Rules.{rules}
 use Rattle.kept_heads.proofs.head_at.Goals as goal
 
 pub returns : goal.returns

@@ -2,7 +2,6 @@
 use native.Mathlib.Omega.{arith}
 use Prim.Native.Nat.{◌-◌}
 use Rattle.kept_heads.proofs.Keeping.{place-behind}
-use borrow.Author.Rules.{rules}
 use Rattle.kept_heads.proofs.place_before.Goals as goal
 
 pub overflow_cast-result : goal.overflow_cast-result

@@ -1,7 +1,6 @@
 -- `store_head`: what the checker reads off the four stores.
 use native.Mathlib.Omega.{arith}
 use lib.ListN.{length-set}
-use borrow.Author.Rules.{rules}
 use Rattle.kept_heads.proofs.store_head.Goals as goal
 
 pub bounds-heads-k-2 : goal.bounds-heads-k-2

@@ -1,5 +1,4 @@
 -- `day_and_van_refusal`: the callee puts the day's refusals before the van's.
-use borrow.Author.Rules.{rules}
 use Rattle.refusals.specs.Refusal.{day_and_van_refusal}
 use Rattle.refusals.proofs.day_and_van_refusal.Goals as goal
 

@@ -1,5 +1,4 @@
 -- `refusal_of_fleet`: the day's refusals come first, then the fleet's, the lists' and the prices'; each return is one case of the definition.
-use borrow.Author.Rules.{rules}
 use mathlib.Core.Path.{sym, ◌∙◌}
 use Rattle.tests.specs.All.{first_some, first_none}
 use Rattle.day_refusals.specs.Order.{day_fine}
@@ -14,8 +13,10 @@ returns-then-of_day-ne0 c =
 pub returns-then-of_fleet-ne0 : goal.returns-then-of_fleet-ne0
 unfolding refusal_of_fleet
 returns-then-of_fleet-ne0 c =
-    record { answer = first_none _ _ _ (sym c.day_refusal-of_day.ensures ∙ c.if-of_day-ne0.false) (rw (← c.fleet_refusal-of_fleet.ensures)
-    (first_some _ _ c.if-of_fleet-ne0.true)) }
+    record {
+      answer = first_none _ _ _ (sym c.day_refusal-of_day.ensures ∙ c.if-of_day-ne0.false) (rw (← c.fleet_refusal-of_fleet.ensures)
+          (first_some _ _ c.if-of_fleet-ne0.true));
+    }
 
 pub table_refusal-of_lists-requires : goal.table_refusal-of_lists-requires
 table_refusal-of_lists-requires c =
@@ -25,6 +26,8 @@ table_refusal-of_lists-requires c =
 pub returns : goal.returns
 unfolding refusal_of_fleet
 returns c =
-    record { answer = first_none _ _ _ (sym c.day_refusal-of_day.ensures ∙ c.if-of_day-ne0.false)
-    (first_none _ _ _ (sym c.fleet_refusal-of_fleet.ensures ∙ c.if-of_fleet-ne0.false)
-    (c.first_of.ensures ∙ rw (c.table_refusal-of_lists.ensures, c.prices_refusal.ensures, c.num_depots.ensures))) }
+    record {
+      answer = first_none _ _ _ (sym c.day_refusal-of_day.ensures ∙ c.if-of_day-ne0.false)
+          (first_none _ _ _ (sym c.fleet_refusal-of_fleet.ensures ∙ c.if-of_fleet-ne0.false)
+          (c.first_of.ensures ∙ rw (c.table_refusal-of_lists.ensures, c.prices_refusal.ensures, c.num_depots.ensures)));
+    }

@@ -1,5 +1,4 @@
 -- `refusal_of_lists`: the day's refusals come first, then the van's, then the lists'; each return is one case of the definition.
-use borrow.Author.Rules.{rules}
 use mathlib.Core.Path.{sym, ◌∙◌}
 use Rattle.tests.specs.All.{first_some, first_none}
 use Rattle.day_refusals.specs.Order.{day_fine}
@@ -14,8 +13,10 @@ returns-then-of_day-ne0 c =
 pub returns-then-of_van-ne0 : goal.returns-then-of_van-ne0
 unfolding refusal_of_lists
 returns-then-of_van-ne0 c =
-    record { answer = first_none _ _ _ (sym c.day_refusal-of_day.ensures ∙ c.if-of_day-ne0.false) (rw (← c.van_refusal-of_van.ensures)
-    (first_some _ _ c.if-of_van-ne0.true)) }
+    record {
+      answer = first_none _ _ _ (sym c.day_refusal-of_day.ensures ∙ c.if-of_day-ne0.false) (rw (← c.van_refusal-of_van.ensures)
+          (first_some _ _ c.if-of_van-ne0.true));
+    }
 
 pub table_refusal-requires : goal.table_refusal-requires
 table_refusal-requires c =
@@ -25,6 +26,8 @@ table_refusal-requires c =
 pub returns : goal.returns
 unfolding refusal_of_lists
 returns c =
-    record { answer = first_none _ _ _ (sym c.day_refusal-of_day.ensures ∙ c.if-of_day-ne0.false)
-    (first_none _ _ _ (sym c.van_refusal-of_van.ensures ∙ c.if-of_van-ne0.false) (c.table_refusal.ensures ∙ rw
-    c.num_depots.ensures)) }
+    record {
+      answer = first_none _ _ _ (sym c.day_refusal-of_day.ensures ∙ c.if-of_day-ne0.false)
+          (first_none _ _ _ (sym c.van_refusal-of_van.ensures ∙ c.if-of_van-ne0.false) (c.table_refusal.ensures ∙ rw
+          c.num_depots.ensures));
+    }

@@ -1,5 +1,4 @@
 -- `break_ok`: the callees join the definition's tests.
-use borrow.Author.Rules.{rules}
 use Rattle.day.specs.Refusal.{break_ok}
 use Rattle.van_refusals.proofs.break_ok.Goals as goal
 

@@ -1,5 +1,4 @@
 -- `capacity_ok`: the callee joins the definition's two tests.
-use borrow.Author.Rules.{rules}
 use mir.Syntax.{w32}
 use mir.ValLaws.{to_z-of_z}
 use Rattle.day.specs.Refusal.{capacity_ok}

@@ -1,5 +1,4 @@
 -- `cost_ok`: the callees join the definition's tests.
-use borrow.Author.Rules.{rules}
 use lib.Ieee.{of_bits}
 use Rattle.day.specs.Refusal.{cost_ok}
 use Rattle.van_refusals.proofs.cost_ok.Goals as goal

@@ -1,5 +1,4 @@
 -- `limits_ok`: the callees join the definition's tests.
-use borrow.Author.Rules.{rules}
 use Rattle.day.specs.Refusal.{limits_ok}
 use Rattle.van_refusals.proofs.limits_ok.Goals as goal
 

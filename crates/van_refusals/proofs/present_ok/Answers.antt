@@ -1,5 +1,4 @@
 -- `present_ok`: the callee joins the definition's two tests.
-use borrow.Author.Rules.{rules}
 use Rattle.day.specs.Refusal.{present_ok}
 use Rattle.van_refusals.proofs.present_ok.Goals as goal
 

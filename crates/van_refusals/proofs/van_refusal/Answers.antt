@@ -1,5 +1,4 @@
 -- `van_refusal`: the callees put the two tests in the order of their numbers.
-use borrow.Author.Rules.{rules}
 use Rattle.day.specs.Refusal.{is_depot}
 use Rattle.van_refusals.specs.Order.{van_refusal}
 use Rattle.van_refusals.proofs.van_refusal.Goals as goal

@@ -1,5 +1,4 @@
 -- `fleet_vehicle`: the number that was found is one of the fleet's.
-use borrow.Author.Rules.{rules}
 use mathlib.Core.Path.{ap, ◌∙◌}
 use Rattle.fleet.specs.Fleet.{van_at}
 use Rattle.fleet.proofs.Numbered.{number_below}

@@ -1,11 +1,8 @@
 -- `van_number`: the number in the rest of the fleet, counted on from here, is the number in all of it.
-use borrow.Author.Rules.{rules}
-use mathlib.Core.Path.{◌≡◌, refl, sym, ◌∙◌}
+use mathlib.Core.Path.{◌≡◌}
 use Prim.Native.Nat.{◌-◌, ◌≤◌}
-use native.Mathlib.Omega.{arith}
 use lib.ListN.{length, drop}
 use Rattle.fleet.specs.Fleet.{number_from}
-use Rattle.fleet.proofs.Numbered.{number_here, number_later, number_none}
 use Rattle.vehicles.proofs.van_number.Given as goal
 
 abbrev pub invariant-loop-k : goal.invariant-loop-k

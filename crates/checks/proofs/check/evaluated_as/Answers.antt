@@ -1,5 +1,4 @@
 -- `evaluated_as`: one arm for each case of the evaluation.
-use borrow.Author.Rules.{rules}
 use Rattle.checks.specs.Answer.{evaluated_as}
 use Rattle.checks.proofs.check.evaluated_as.Goals as goal
 

@@ -1,6 +1,5 @@
 -- `route_distance`: an input that is not refused has its list in the table and its tables in shape.
-use borrow.Author.Rules.{rules}
-use mathlib.Core.Path.{sym, ap, ◌∙◌}
+use mathlib.Core.Path.{sym, ◌∙◌}
 use Rattle.refusals.specs.Answered.{refused_by, answered}
 use Rattle.checks.specs.Answer.{distance_answer}
 use Rattle.refusals.specs.Refusal.{listed, drivable}
@@ -22,5 +21,7 @@ route_distance-requires c =
 pub returns : goal.returns
 unfolding distance_answer
 returns c =
-    record { answer = answered _ _ c.refusal_of-refused.result _ _ c.if-refused-ne0.false c.refusal_of-refused.ensures.answer
-    (rw (c.route_distance.ensures, c.list_of.ensures)) }
+    record {
+      answer = answered _ _ c.refusal_of-refused.result _ _ c.if-refused-ne0.false c.refusal_of-refused.ensures.answer
+          (rw (c.route_distance.ensures, c.list_of.ensures));
+    }

@@ -1,5 +1,4 @@
 -- `route_eval`: an input that is not refused has its list in the table and its columns in shape.
-use borrow.Author.Rules.{rules}
 use mathlib.Core.Path.{sym, ◌∙◌}
 use Rattle.refusals.specs.Answered.{refused_by, answered}
 use Rattle.checks.specs.Answer.{eval_answer}
@@ -26,6 +25,8 @@ route_eval-requires-clause-depot_lt_l c =
 pub returns : goal.returns
 unfolding eval_answer
 returns c =
-    record { answer = answered _ _ c.refusal_of-refused.result _ _ c.if-refused-ne0.false
-    c.refusal_of-refused.ensures.answer (rw
-    (c.evaluated_as.ensures, c.route_eval.ensures, c.list_of-visited.ensures, c.of-limits.ensures)) }
+    record {
+      answer = answered _ _ c.refusal_of-refused.result _ _ c.if-refused-ne0.false
+          c.refusal_of-refused.ensures.answer (rw
+          (c.evaluated_as.ensures, c.route_eval.ensures, c.list_of-visited.ensures, c.of-limits.ensures));
+    }

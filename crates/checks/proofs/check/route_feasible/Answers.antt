@@ -1,5 +1,4 @@
 -- `route_feasible`: an input that is not refused has its list in the table and its columns in shape.
-use borrow.Author.Rules.{rules}
 use mathlib.Core.Path.{refl, sym, ◌∙◌}
 use Rattle.tests.specs.Pick.{picked, other}
 use Rattle.refusals.specs.Answered.{refused_by, answered}
@@ -27,15 +26,19 @@ route_feasible-requires-clause-depot_lt_l c =
 pub returns-then-route_feasible : goal.returns-then-route_feasible
 unfolding feasible_answer
 returns-then-route_feasible c =
-    record { answer = answered _ _ c.refusal_of-refused.result _ _ c.if-refused-ne0.false
-    c.refusal_of-refused.ensures.answer (rw
-    (← c.list_of-visited.ensures, ← c.of-limits.ensures, ← c.route_feasible.ensures) (picked _ _ _ _
-    c.if-route_feasible.true refl)) }
+    record {
+      answer = answered _ _ c.refusal_of-refused.result _ _ c.if-refused-ne0.false
+          c.refusal_of-refused.ensures.answer (rw
+          (← c.list_of-visited.ensures, ← c.of-limits.ensures, ← c.route_feasible.ensures) (picked _ _ _ _
+          c.if-route_feasible.true refl));
+    }
 
 pub returns : goal.returns
 unfolding feasible_answer
 returns c =
-    record { answer = answered _ _ c.refusal_of-refused.result _ _ c.if-refused-ne0.false
-    c.refusal_of-refused.ensures.answer (rw
-    (← c.list_of-visited.ensures, ← c.of-limits.ensures, ← c.route_feasible.ensures) (other _ _ _ _
-    c.if-route_feasible.false refl)) }
+    record {
+      answer = answered _ _ c.refusal_of-refused.result _ _ c.if-refused-ne0.false
+          c.refusal_of-refused.ensures.answer (rw
+          (← c.list_of-visited.ensures, ← c.of-limits.ensures, ← c.route_feasible.ensures) (other _ _ _ _
+          c.if-route_feasible.false refl));
+    }

@@ -1,5 +1,4 @@
 -- `schedule`: an input that is not refused has its list in the table and its columns in shape.
-use borrow.Author.Rules.{rules}
 use mathlib.Core.Path.{sym, ◌∙◌}
 use Rattle.refusals.specs.Answered.{refused_by, answered}
 use Rattle.checks.specs.Answer.{schedule_answer}
@@ -26,6 +25,8 @@ outcome_of-requires-clause-depot_lt_l c =
 pub returns : goal.returns
 unfolding schedule_answer
 returns c =
-    record { answer = answered _ _ c.refusal_of-refused.result _ _ c.if-refused-ne0.false
-    c.refusal_of-refused.ensures.answer (rw
-    (c.scheduled_as.ensures, c.outcome_of.ensures, c.list_of-visited.ensures, c.of-rest.ensures)) }
+    record {
+      answer = answered _ _ c.refusal_of-refused.result _ _ c.if-refused-ne0.false
+          c.refusal_of-refused.ensures.answer (rw
+          (c.scheduled_as.ensures, c.outcome_of.ensures, c.list_of-visited.ensures, c.of-rest.ensures));
+    }

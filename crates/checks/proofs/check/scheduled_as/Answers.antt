@@ -1,5 +1,4 @@
 -- `scheduled_as`: one arm for each case of the outcome.
-use borrow.Author.Rules.{rules}
 use Rattle.checks.specs.Answer.{scheduled_as}
 use Rattle.checks.proofs.check.scheduled_as.Goals as goal
 

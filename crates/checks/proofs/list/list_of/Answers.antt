@@ -1,5 +1,4 @@
 -- `list_of`: a refusal hands back an empty part; otherwise the lists are laid out, so that the list asked for is a part of the table.
-use borrow.Author.Rules.{rules}
 use mathlib.Core.Path.{sym, ◌∙◌}
 use Rattle.refusals.specs.Answered.{refused_by, answered}
 use Rattle.checks.specs.Answer.{list_answer}

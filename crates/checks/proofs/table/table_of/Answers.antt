@@ -1,5 +1,4 @@
 -- `table_of`: a day that is not refused has a square table, so that its symmetry may be asked; the rest is what the callees ensure.
-use borrow.Author.Rules.{rules}
 use mathlib.Core.Path.{sym, ◌∙◌}
 use Rattle.refusals.specs.Refusal.{square_fine}
 use Rattle.refusals.specs.Answered.{refused_by, answered}
@@ -18,12 +17,14 @@ is_symmetric-requires c =
 pub returns : goal.returns
 unfolding table_answer
 returns c =
-    record { answer = answered _ _ c.day_and_van_refusal-refused.result _ _
-    c.if-refused-ne0.false c.day_and_van_refusal-refused.ensures.answer
-    (rw (
-      c.gain_floor.ensures.answer,
-      c.scale-largest.ensures,
-      c.is_symmetric.ensures,
-      c.fixed_cost_in_distance.ensures,
-      c.num_depots.ensures,
-    )) }
+    record {
+      answer = answered _ _ c.day_and_van_refusal-refused.result _ _
+          c.if-refused-ne0.false c.day_and_van_refusal-refused.ensures.answer
+          (rw (
+            c.gain_floor.ensures.answer,
+            c.scale-largest.ensures,
+            c.is_symmetric.ensures,
+            c.fixed_cost_in_distance.ensures,
+            c.num_depots.ensures,
+          ));
+    }

@@ -1,5 +1,4 @@
 -- `cuts_of`: one return for each side of the test.
-use borrow.Author.Rules.{rules}
 use borrow.Author.Tests.{eq-eqb, ne_eqb}
 use mathlib.Core.Path.{refl}
 use Rattle.tests.specs.Pick.{picked, other}

@@ -1,6 +1,5 @@
 -- `is_tested`: one arm for each kind.
 use Rattle.cross_kinds.specs.Kinds.{tested_in}
-use borrow.Author.Rules.{rules}
 use Rattle.cross_kinds.proofs.kind.is_tested.Goals as goal
 
 pub returns-in-Relocation : goal.returns-in-Relocation

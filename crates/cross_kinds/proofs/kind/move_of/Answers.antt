@@ -1,6 +1,5 @@
 -- `move_of`: one arm for each kind.
 use Rattle.cross_kinds.specs.Kinds.{move_at}
-use borrow.Author.Rules.{rules}
 use Rattle.cross_kinds.proofs.kind.move_of.Goals as goal
 
 pub returns-in-Relocation : goal.returns-in-Relocation

@@ -1,6 +1,5 @@
 -- `row_of`: one arm for each kind.
 use Rattle.cross_kinds.specs.Kinds.{row_of}
-use borrow.Author.Rules.{rules}
 use Rattle.cross_kinds.proofs.kind.row_of.Goals as goal
 
 pub returns-in-Relocation : goal.returns-in-Relocation

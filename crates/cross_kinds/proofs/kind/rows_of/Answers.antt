@@ -1,6 +1,5 @@
 -- `rows_of`: one arm for each kind.
 use Rattle.cross_kinds.specs.Kinds.{rows_in}
-use borrow.Author.Rules.{rules}
 use Rattle.cross_kinds.proofs.kind.rows_of.Goals as goal
 
 pub returns-in-Relocation : goal.returns-in-Relocation

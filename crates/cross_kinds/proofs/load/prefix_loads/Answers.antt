@@ -1,10 +1,8 @@
 -- `prefix_loads`: before each visit the table holds the loads up to it, and no running sum can wrap.
-use mathlib.Core.Path.{sym, ◌∙◌}
 use Prim.Native.Nat.{◌-◌}
 use native.Mathlib.Omega.{arith}
-use lib.ListN.{length}
 use Rattle.loads.proofs.Boxes.{sum_small}
-use Rattle.cross_kinds.proofs.Fitting.{Filling, filling_starts, filling_turns, filling_ends}
+use Rattle.cross_kinds.proofs.Fitting.{filling_starts, filling_turns, filling_ends}
 use Rattle.cross_kinds.proofs.load.prefix_loads.Goals as goal
 
 pub bounds-loads-0 : goal.bounds-loads-0
