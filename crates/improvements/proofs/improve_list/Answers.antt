@@ -53,14 +53,14 @@ improve_part-requires-clause-depot_lt_l c =
     (improvable c.args.which _ _ _
     _ _ c.args.limit (sym
     c.refusal_of-refused.ensures.answer ∙ c.if-refused-ne0.false) _ (part_is _ _ _ _ _
-    c.start_of-start.ensures c.end_of-end.ensures)).1
+    c.start_of-start.ensures c.end_of-end.ensures)).1.0
 
 pub improve_part-requires-clause-distances_value : goal.improve_part-requires-clause-distances_value
 improve_part-requires-clause-distances_value c =
     (improvable c.args.which _ _ _
     _ _ c.args.limit (sym
     c.refusal_of-refused.ensures.answer ∙ c.if-refused-ne0.false) _ (part_is _ _ _ _ _
-    c.start_of-start.ensures c.end_of-end.ensures)).2
+    c.start_of-start.ensures c.end_of-end.ensures)).1.1
 
 pub returns : goal.returns
 unfolding answer_of
