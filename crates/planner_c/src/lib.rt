@@ -1,4 +1,4 @@
-// The planner's entries for C and Rust, as a static library (`rt staticlib planner_c`; include/planner.h declares them). Each is thin: it calls the
+// The planner's entries for C and Rust, as a static library (`rt lib` in this folder; include/planner.h declares them). Each is thin: it calls the
 // entry of crate `planner`, answers the refusal's number or 0, and writes the values of the answer's case. Where it refuses, it writes nothing.
 
 #![tactic(auto)]
