@@ -21,7 +21,8 @@ use Rattle.neighbours.specs.declared.Neighbourhood.{Neighbourhood}
 use Rattle.neighbours.specs.declared.Neighbourhood.TheVariants.{Reverse, Relocate, Reconnect}
 use Rattle.within.specs.Within.{Ran, hard_ran}
 use Rattle.within.proofs.Kept.{ran_hard}
-use Rattle.refusals.specs.Refusal.{refusal, Fine, fine, visits_fine}
+use Rattle.refusals.specs.Refusal.{refusal, Fine, visits_fine}
+use Rattle.refusals.proofs.NotRefused.{fine}
 use Rattle.improvements.specs.Improve.{run_on, improved_as, answer_of, improve_answer, improve_visits, reported}
 use Rattle.claims.specs.Demand3.{map_for, checks_for, Report, Claimed}
 use Rattle.claims.proofs.Whole.{whole_map}

@@ -23,7 +23,8 @@ use Rattle.engine.specs.Engine.{ended_as}
 use Rattle.neighbours.specs.declared.Neighbourhood.{Neighbourhood}
 use Rattle.within.specs.Within.{Ran, ran_by}
 use Rattle.within.proofs.Kept.{ran_same}
-use Rattle.refusals.specs.Refusal.{refusal, Fine, fine, visits_fine}
+use Rattle.refusals.specs.Refusal.{refusal, Fine, visits_fine}
+use Rattle.refusals.proofs.NotRefused.{fine}
 use Rattle.refusals.specs.Answered.{refused_by, answered}
 use Rattle.improvements.specs.Improve.{run_on, improved_as, improved_of, answer_of, improve_answer, improve_visits}
 use Rattle.improvements.specs.declared.Improved.{Improved}

@@ -1,6 +1,6 @@
 -- What an entry refuses, and what an input that it doesn't refuse tells. Every entry's contract starts here. Assumes nothing.
-use Rattle.std.specs.Prelude.{ℕ, ◌+◌, ◌<◌, ◌≤◌, ◌≡◌, List, true, Float, length, get_or, drop}
-use Rattle.std.proofs.Common.{arith, lt_of_lt_of_le, length-take, length-drop, get_or-take, get_or-drop}
+use Rattle.std.specs.Prelude.{ℕ, ◌+◌, ◌<◌, ◌≡◌, List, true, Float, length, get_or, drop}
+use Rattle.std.proofs.Common.{arith, lt_of_lt_of_le, get_or-take, get_or-drop}
 use Rattle.tests.specs.All.{first_of, first_zero}
 use Rattle.day.specs.Day.{Day}
 use Rattle.day.specs.Matrix.{Square}
@@ -11,13 +11,13 @@ use Rattle.van_refusals.specs.Order.{van_refusal, VanFine, van_fine}
 use Rattle.day.specs.declared.vehicle.Van.{Van}
 use Rattle.lists.specs.Fine.{TableFine, ListsFine}
 use Rattle.list_refusals.specs.Refused.{table_refusal, lists_refusal}
-use Rattle.lists.specs.Table.{Laid, start_of, list_of}
+use Rattle.lists.specs.Table.{start_of, list_of}
 use Rattle.lists.proofs.Tables.{length_list, list_within}
-use Rattle.list_refusals.proofs.Fine.{table_fine, lists_fine}
+use Rattle.list_refusals.proofs.Fine.{table_fine}
 use Rattle.fleet.specs.Fleet.{Fleet}
 use Rattle.fleet.specs.Refusal.{prices_refusal, prices_fine}
 use Rattle.fleet_refusals.specs.Order.{fleet_refusal, FleetFine, fleet_fine}
-use Rattle.labels.specs.Columns.{Formed, Visits, columns_of, formed}
+use Rattle.labels.specs.Columns.{Visits}
 
 -- 01, 'Refused, by place': 'The order is by number': the first of 1 to 10 that an input meets, and 0 where it meets none, of an entry that asks for a list
 unfoldable pub refusal : Day → Van → List ℕ → List ℕ → ℕ → ℕ
@@ -61,10 +61,10 @@ pub record FineFleet (d : Day) (fleet : Fleet) (visits lengths ids : List ℕ) (
   pub table : TableFine (num_depots d.flags) d.l visits lengths
   pub plain : all_plain prices ≡ true
 
--- ---- laws
+-- ---- laws; that of an entry that asks for a list is in proofs/NotRefused.antt
 
 -- a day and a van that are not refused, whatever is tested behind them
-day_and_van : (d : Day) (van : Van) (rest : ℕ) → first_of (day_refusal d) (first_of (van_refusal d.flags van) rest) ≡ 0
+pub day_and_van : (d : Day) (van : Van) (rest : ℕ) → first_of (day_refusal d) (first_of (van_refusal d.flags van) rest) ≡ 0
     → DayFine d × VanFine d.flags van × (van.depot < d.l) × (rest ≡ 0)
 day_and_van d van rest h =
     let of-day = first_zero _ _ h in
@@ -73,14 +73,7 @@ day_and_van d van rest h =
     let v-fine = van_fine d.flags van of-van.0 in
     (d-fine, v-fine, lt_of_lt_of_le v-fine.depot d-fine.depots, of-van.1)
 
--- an input that is not refused is fine
-pub fine : (d : Day) (van : Van) (visits lengths : List ℕ) (list : ℕ) → refusal d van visits lengths list ≡ 0 → Fine d van visits lengths list
-unfolding refusal
-fine d van visits lengths list h =
-    let f = day_and_van d van _ h in
-    record { day = f.0; van_fine = f.1; depot = f.2; lists = lists_fine _ _ visits lengths list f.3 }
-
--- the same of an entry that asks for no list
+-- an input that is not refused is fine, of an entry that asks for no list
 pub fine_lists : (d : Day) (van : Van) (visits lengths : List ℕ) → refusal_of_lists d van visits lengths ≡ 0 → FineLists d van visits lengths
 unfolding refusal_of_lists
 fine_lists d van visits lengths h =
@@ -123,22 +116,3 @@ visits_fine d van visits lengths list f =
 pub square_fine : (d : Day) (van : Van) → day_and_van_refusal d van ≡ 0 → Square d.l d.distances
 unfolding day_and_van_refusal
 square_fine d van h = (day_fine d (first_zero _ _ h).0).shaped.tables.of_distances
-
--- ---- what an entry that found no refusal may call
-
-module _ (d : Day) (van : Van) (visits lengths : List ℕ) (list : ℕ) (none : refusal d van visits lengths list ≡ 0) where
-  -- `lists::list_of`
-  pub listed : Laid visits lengths × (list < length lengths)
-  listed = let f = fine d van visits lengths list none in (f.lists.table.laid, f.lists.there)
-
-  -- `evaluation::distance::route_distance`, of the part that is the list asked for
-  pub drivable : (part : List ℕ) → part ≡ list_of visits lengths list → Square d.l d.distances × (van.depot < d.l) × Visits d.l part
-  drivable part e =
-      let f = fine d van visits lengths list none in
-      (f.day.shaped.tables.of_distances, f.depot, rw e (visits_fine d van visits lengths list f))
-
-  -- the checks of `evaluation::route`
-  pub checkable : (part : List ℕ) → part ≡ list_of visits lengths list → Formed (columns_of d) × ((van.depot < d.l) × Visits d.l part)
-  checkable part e =
-      let f = fine d van visits lengths list none in
-      (formed f.day.shaped, (f.depot, rw e (visits_fine d van visits lengths list f)))

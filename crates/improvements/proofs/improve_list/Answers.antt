@@ -1,7 +1,7 @@
 -- `improve_list`: a refusal changes nothing; otherwise the list asked for lies in the table, and the run is on its part.
 use Rattle.improvements.specs.Improve.{answer_of}
 use Rattle.improvements.proofs.Improving.{refused_call, improved_call, improvable}
-use Rattle.refusals.specs.Refusal.{listed}
+use Rattle.refusals.proofs.NotRefused.{listed}
 use Rattle.lists.proofs.Tables.{list_within, part_is}
 use mathlib.Core.Path.{refl, sym, ◌∙◌}
 use native.Mathlib.Omega.{arith}

@@ -2,7 +2,7 @@
 use mathlib.Core.Path.{sym, ◌∙◌}
 use Rattle.refusals.specs.Answered.{refused_by, answered}
 use Rattle.checks.specs.Answer.{distance_answer}
-use Rattle.refusals.specs.Refusal.{listed, drivable}
+use Rattle.refusals.proofs.NotRefused.{listed, drivable}
 use Rattle.checks.proofs.check.route_distance.Goals as goal
 
 pub returns-then-refused-ne0 : goal.returns-then-refused-ne0

@@ -3,7 +3,7 @@ use mathlib.Core.Path.{refl, sym, ◌∙◌}
 use Rattle.tests.specs.Pick.{picked, other}
 use Rattle.refusals.specs.Answered.{refused_by, answered}
 use Rattle.checks.specs.Answer.{feasible_answer}
-use Rattle.refusals.specs.Refusal.{listed, checkable}
+use Rattle.refusals.proofs.NotRefused.{listed, checkable}
 use Rattle.checks.proofs.check.route_feasible.Goals as goal
 
 pub returns-then-refused-ne0 : goal.returns-then-refused-ne0

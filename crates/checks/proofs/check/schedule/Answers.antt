@@ -2,7 +2,7 @@
 use mathlib.Core.Path.{sym, ◌∙◌}
 use Rattle.refusals.specs.Answered.{refused_by, answered}
 use Rattle.checks.specs.Answer.{schedule_answer}
-use Rattle.refusals.specs.Refusal.{listed, checkable}
+use Rattle.refusals.proofs.NotRefused.{listed, checkable}
 use Rattle.checks.proofs.check.schedule.Goals as goal
 
 pub returns-then-refused-ne0 : goal.returns-then-refused-ne0

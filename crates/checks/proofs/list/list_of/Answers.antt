@@ -2,7 +2,7 @@
 use mathlib.Core.Path.{sym, ◌∙◌}
 use Rattle.refusals.specs.Answered.{refused_by, answered}
 use Rattle.checks.specs.Answer.{list_answer}
-use Rattle.refusals.specs.Refusal.{listed}
+use Rattle.refusals.proofs.NotRefused.{listed}
 use Rattle.checks.proofs.list.list_of.Goals as goal
 
 pub returns-then-refusal_of-ne0 : goal.returns-then-refusal_of-ne0
