@@ -40,7 +40,7 @@ introduction() {
 # Benchmarks
 
 Written by \`bench/run.sh OUT\` on $(date -u +%F), on a machine of $(nproc) cores ($(uname -m)), load $(cut -d' ' -f1 /proc/loadavg) at the start. The Rust is
-compiled by $(rustc --version | cut -d' ' -f1,2), opt-level 3.
+compiled by $(rustc --version | cut -d' ' -f1,2), opt-level 3. The library is built by $(rt version | cut -d' ' -f1).
 The figures are what one run measured; nothing is put in by hand.
 
 - Every entry of include/planner.h that answers more than a refusal runs against the published Rust's function of the same work, in
