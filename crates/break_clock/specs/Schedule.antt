@@ -1,27 +1,23 @@
 -- The clock with the driver's break, evaluation/schedule.rs. Assumes nothing.
-use Rattle.std.specs.Prelude.{ℕ, ◌+◌, ◌<◌, ◌≤◌, ◌≡◌, refl, List, Bool, false, cond, ◌||◌, length, get_or, drop, Float}
+use Rattle.std.specs.Prelude.{ℕ, ◌+◌, ◌<◌, ◌≤◌, ◌≡◌, refl, List, Bool, false, cond, ◌||◌, length, get_or, drop, Float, Option, Some, None, is_some}
 use Rattle.std.proofs.Common.{sym, ap, subst, ◌∙◌, true≢false}
 use Rattle.std.specs.Float.Ieee.{le}
 use Rattle.numbers.specs.Operations.{◌⊕◌, zero64}
 use Rattle.day.specs.declared.vehicle.VehicleBreak.{VehicleBreak}
 use Rattle.labels.specs.Columns.{Columns, stop_at, leg_in, travel_in}
 use Rattle.labels.specs.Walk.{Tour, tour_of, walk, walk_turn, walk_end, walk_lost}
-use Rattle.labels.specs.Label.{at_start, served_from, served_rested_from, earlier_of, is_served}
+use Rattle.labels.specs.Label.{at_start, served_from, served_rested_from, earlier_of}
 use Rattle.labels.specs.declared.label.Taken.{Taken}
-use Rattle.labels.specs.declared.label.Taken.TheVariants.{Untaken, At}
 use Rattle.labels.specs.declared.label.Label.{Label}
-use Rattle.labels.specs.declared.label.Reached.{Reached}
-use Rattle.labels.specs.declared.label.Reached.TheVariants.{Missed, Served}
-use Rattle.break_clock.specs.declared.Outcome.{Outcome}
-use Rattle.break_clock.specs.declared.Outcome.TheVariants.{Impossible, Possible}
+use Rattle.break_clock.specs.declared.Scheduled.{Scheduled}
 use Rattle.break_clock.specs.declared.BreakClock.{BreakClock}
 
 -- ---- the end of a list
 
 -- a list that ends with this label
-unfoldable pub ended : Label → Taken → Float → Float → Outcome
+unfoldable pub ended : Label → Option Taken → Float → Float → Option Scheduled
 ended label taken distance back =
-    Possible (record {
+    Some (record {
       distance = distance;
       duration = label.time ⊕ back;
       lateness = label.lateness;
@@ -30,15 +26,15 @@ ended label taken distance back =
     })
 
 -- a list that ends here with the break taken, if it got here
-unfoldable pub end_of : Reached → Float → Float → Outcome
-end_of Missed distance back = Impossible
-end_of (Served label) distance back = ended label (At label.position label.start) distance back
+unfoldable pub end_of : Option Label → Float → Float → Option Scheduled
+end_of None distance back = None
+end_of (Some label) distance back = ended label (Some (record { position = label.position; start = label.start })) distance back
 
 -- ---- the clock with the break
 
 -- the van at the depot at time 0, the break still to take
 unfoldable pub begun : VehicleBreak → ℕ → BreakClock
-begun rest depot = record { rest = rest; before = Served at_start; after = Missed; prev = depot; index = 0 }
+begun rest depot = record { rest = rest; before = Some at_start; after = None; prev = depot; index = 0 }
 
 -- the visit is reached with the break still to take, taken there, or taken before
 unfoldable pub pushed : Columns → BreakClock → ℕ → BreakClock
@@ -59,37 +55,36 @@ tick_break c clock place visit = pushed c clock visit
 
 -- a label is left
 unfoldable pub any_left_of : BreakClock → Bool
-any_left_of clock = is_served clock.before || is_served clock.after
+any_left_of clock = is_some clock.before || is_some clock.after
 
 -- 01, 5: 'It is left out exactly when the label without it exists and its time plus travel back is at most earliest'
-unfoldable pub end_before : VehicleBreak → Reached → Reached → Float → Float → Outcome
-end_before rest Missed after distance back = end_of after distance back
-end_before rest (Served label) after distance back =
-    cond (le (label.time ⊕ back) rest.earliest) (ended label Untaken distance back) (end_of after distance back)
+unfoldable pub end_before : VehicleBreak → Option Label → Option Label → Float → Float → Option Scheduled
+end_before rest None after distance back = end_of after distance back
+end_before rest (Some label) after distance back =
+    cond (le (label.time ⊕ back) rest.earliest) (ended label None distance back) (end_of after distance back)
 
 -- the clock at the return to the depot
-unfoldable pub finished : BreakClock → Float → Float → Outcome
+unfoldable pub finished : BreakClock → Float → Float → Option Scheduled
 finished clock distance back = end_before clock.rest clock.before clock.after distance back
 
 -- a list driven with the break, back at the depot
-unfoldable pub home_break : Columns → ℕ → Tour BreakClock → Outcome
+unfoldable pub home_break : Columns → ℕ → Tour BreakClock → Option Scheduled
 home_break c depot t = finished t.clock (t.distance ⊕ leg_in c t.place depot) (travel_in c t.clock.prev depot)
 
 -- `schedule`: the clock of a list with the break
-unfoldable pub scheduled : Columns → VehicleBreak → ℕ → List ℕ → Outcome
+unfoldable pub scheduled : Columns → VehicleBreak → ℕ → List ℕ → Option Scheduled
 scheduled c rest depot list = home_break c depot (walk c (tick_break c) (tour_of zero64 (begun rest depot) depot) list)
 
 -- ---- laws
 
 -- no label is left
 abbrev pub Lost : BreakClock → Type 0
-Lost clock = (clock.before ≡ Missed) × (clock.after ≡ Missed)
+Lost clock = (clock.before ≡ None) × (clock.after ≡ None)
 
-none_left : (before after : Reached) → is_served before || is_served after ≡ false → (before ≡ Missed) × (after ≡ Missed)
-unfolding is_served
-none_left Missed Missed h = (refl, refl)
-none_left Missed (Served a) h = absurd (true≢false h)
-none_left (Served b) after h = absurd (true≢false h)
+none_left : (before after : Option Label) → is_some before || is_some after ≡ false → (before ≡ None) × (after ≡ None)
+none_left None None h = (refl, refl)
+none_left None (Some a) h = absurd (true≢false h)
+none_left (Some b) after h = absurd (true≢false h)
 
 -- where none is left, none comes again
 pub stays_lost : (c : Columns) (clock : BreakClock) (place visit : ℕ) → Lost clock → Lost (tick_break c clock place visit)
@@ -104,14 +99,14 @@ schedule_turns c list i clock next distance x place h e f = walk_turn c (tick_br
 
 module _ (c : Columns) (depot : ℕ) where
   -- and the list can't be scheduled
-  pub home_lost : (t : Tour BreakClock) → Lost t.clock → Impossible ≡ home_break c depot t
+  pub home_lost : (t : Tour BreakClock) → Lost t.clock → None ≡ home_break c depot t
   unfolding home_break finished end_before end_of
   home_lost t h = rw (h.0, h.1)
 
   module _ (list : List ℕ) (i : ℕ) (clock : BreakClock) (distance : Float) (place : ℕ) where
     -- the visit at i leaves no label
     pub schedule_stops : (next : BreakClock) (left : Bool) → i < length list → next ≡ pushed c clock (get_or list i 0) → left ≡ any_left_of next → left ≡ false →
-        Impossible ≡ home_break c depot (walk c (tick_break c) (tour_of distance clock place) (drop i list))
+        None ≡ home_break c depot (walk c (tick_break c) (tour_of distance clock place) (drop i list))
     unfolding any_left_of
     schedule_stops next left h e f g =
         home_lost _ (walk_lost c (tick_break c) list i Lost (stays_lost c) (tour_of distance clock place) h

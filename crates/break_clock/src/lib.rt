@@ -5,14 +5,14 @@
 
 ghost use Rattle.std.specs.Prelude.{◌≡◌, ◌<◌};
 ghost use Rattle.day.specs.Matrix.{Tables, travel};
-ghost use Rattle.labels.specs.Columns.{columns_at, Formed, Visits};
+ghost use Rattle.labels.specs.Columns.{Visits};
+ghost use Rattle.labels.specs.Lent.{lent};
 ghost use Rattle.break_clock.specs.Schedule.{begun, pushed, any_left_of, ended, end_of, finished, scheduled};
 
-use day::matrix::{get, travel_time};
+use day::matrix::travel_time;
 use day::vehicle::VehicleBreak;
-use labels::label::{Label, Reached, Taken, at_start, earlier};
-use labels::stop::stop_of;
-use tests::either;
+use labels::columns::Columns;
+use labels::label::{Label, Taken, at_start, earlier, serve_next, serve_next_rested};
 
 // What the clock tells of a list that is served.
 #[derive(Clone, Copy)]
@@ -25,16 +25,8 @@ pub struct Scheduled {
     pub lateness: f64,
     // That lateness, times each visit's penalty.
     pub lateness_cost: f64,
-    // Where the break goes; untaken where the van is back by its earliest, or has none to take.
-    pub rest: Taken,
-}
-
-// The schedule of a list.
-#[derive(Clone, Copy)]
-pub enum Outcome {
-    // A hard window can't be kept, or the break can't be placed.
-    Impossible,
-    Possible(Scheduled),
+    // Where the break goes; None where the van is back by its earliest, or has none to take.
+    pub rest: Option<Taken>,
 }
 
 // The clock of a list that grows by one visit at a time.
@@ -42,18 +34,18 @@ pub enum Outcome {
 pub struct BreakClock {
     pub rest: VehicleBreak,
     // The break is still to take.
-    pub before: Reached,
+    pub before: Option<Label>,
     // The break is taken.
-    pub after: Reached,
+    pub after: Option<Label>,
     pub prev: usize,
     pub index: usize,
 }
 
 // A list that ends with this label.
-pub fn end_with(label: Label, taken: Taken, distance: f64, back: f64) -> Outcome
+pub fn end_with(label: Label, taken: Option<Taken>, distance: f64, back: f64) -> Option<Scheduled>
     ensures { result ≡ ended label taken distance back }
 {
-    Outcome::Possible(Scheduled {
+    Some(Scheduled {
         distance: distance,
         duration: label.time + back,
         lateness: label.lateness,
@@ -63,20 +55,16 @@ pub fn end_with(label: Label, taken: Taken, distance: f64, back: f64) -> Outcome
 }
 
 // A list that ends here with the break taken, if it got here.
-fn end_of(reached: Reached, distance: f64, back: f64) -> Outcome
+#[tactic(auto, unfolding(crate::specs::Schedule::end_of))]
+fn end_of(reached: Option<Label>, distance: f64, back: f64) -> Option<Scheduled>
     ensures { result ≡ end_of reached distance back }
 {
-    match reached {
-        Reached::Missed => Outcome::Impossible,
-        Reached::Served(label) => {
-            end_with(
-                label,
-                Taken::At(label.position, label.start),
-                distance,
-                back,
-            )
-        }
-    }
+    let label = reached?;
+    let taken = Taken {
+        position: label.position,
+        start: label.start,
+    };
+    end_with(label, Some(taken), distance, back)
 }
 
 impl BreakClock {
@@ -86,43 +74,28 @@ impl BreakClock {
     {
         BreakClock {
             rest: rest,
-            before: Reached::Served(at_start()),
-            after: Reached::Missed,
+            before: Some(at_start()),
+            after: None,
             prev: depot,
             index: 0,
         }
     }
 
     // Drives on to a visit.
-    pub fn push(
-        self,
-        l: usize,
-        flags: &[u8],
-        service: &[f64],
-        ready: &[f64],
-        due: &[f64],
-        penalty: &[f64],
-        distances: &[f64],
-        times: &[f64],
-        visit: usize,
-    ) -> BreakClock
-        requires formed { Formed (columns_at l flags service ready due penalty distances times) }
-        requires prev_lt_l { (self.prev < l) × (visit < l) × (self.index < 64) }
-        ensures { result ≡ pushed
-            (columns_at l flags.entry service.entry ready.entry due.entry penalty.entry distances.entry times.entry)
-            self
-            visit }
+    pub fn push(self, columns: &Columns, visit: usize) -> BreakClock
+        requires { (self.prev < columns.now.locations) × (visit < columns.now.locations) × (self.index < 64) }
+        ensures { result ≡ pushed (lent columns.now) self visit }
     {
         let rest = self.rest;
         let before = self.before;
         let after = self.after;
         let prev = self.prev;
         let index = self.index;
-        let travel = travel_time(l, distances, times, prev, visit);
-        let stop = stop_of(flags, service, ready, due, penalty, visit);
-        let skipped = before.serve_next(travel, stop);
-        let here = before.serve_next_rested(travel, stop, index, rest);
-        let carried = after.serve_next(travel, stop);
+        let travel = columns.travel_time(prev, visit);
+        let stop = columns.stop(visit);
+        let skipped = serve_next(before, travel, stop);
+        let here = serve_next_rested(before, travel, stop, index, rest);
+        let carried = serve_next(after, travel, stop);
         BreakClock {
             rest: rest,
             before: skipped,
@@ -133,15 +106,15 @@ impl BreakClock {
     }
 
     // Whether a label is left: where none is, no longer list can be served.
+    #[tactic(auto, unfolding(crate::specs::Schedule::any_left_of))]
     pub fn any_left(self) -> bool
         ensures { result ≡ any_left_of self }
     {
-        let before = self.before;
-        let after = self.after;
-        either(before.is_served(), after.is_served())
+        self.before.is_some() || self.after.is_some()
     }
 
     // The list of this distance, ended by the return to the depot. The break is left out where the van is back by its earliest.
+    #[tactic(auto, unfolding(crate::specs::Schedule::finished, crate::specs::Schedule::end_before))]
     pub fn finish(
         self,
         l: usize,
@@ -149,7 +122,7 @@ impl BreakClock {
         times: &[f64],
         distance: f64,
         depot: usize,
-    ) -> Outcome
+    ) -> Option<Scheduled>
         requires tables { Tables l distances.now times.now }
         requires prev_lt_l { (self.prev < l) × (depot < l) }
         ensures { result ≡ finished self distance (travel l distances.now times.now self.prev depot) }
@@ -159,56 +132,44 @@ impl BreakClock {
         let after = self.after;
         let prev = self.prev;
         let back = travel_time(l, distances, times, prev, depot);
-        match before {
-            Reached::Missed => end_of(after, distance, back),
-            Reached::Served(label) => {
-                if label.time + back <= rest.earliest {
-                    return end_with(label, Taken::Untaken, distance, back);
-                }
-                end_of(after, distance, back)
+        if let Some(label) = before {
+            if label.time + back <= rest.earliest {
+                return end_with(label, None, distance, back);
             }
         }
+        end_of(after, distance, back)
     }
 }
 
-// The clock of a list with the break. It stops at the first visit after which no label is left.
+// The clock of a list with the break. None where a hard window can't be kept, or the break can't be placed. It stops at the first visit after which no label
+// is left.
 pub fn schedule(
-    l: usize,
-    flags: &[u8],
-    service: &[f64],
-    ready: &[f64],
-    due: &[f64],
-    penalty: &[f64],
-    distances: &[f64],
-    times: &[f64],
+    columns: &Columns,
     rest: VehicleBreak,
     depot: usize,
     list: &[u16],
-) -> Outcome
-    requires formed { Formed (columns_at l flags service ready due penalty distances times) }
-    requires depot_lt_l { (depot < l) × Visits l list.now }
-    ensures { result ≡ scheduled
-        (columns_at l flags.entry service.entry ready.entry due.entry penalty.entry distances.entry times.entry)
-        rest
-        depot
-        list.now }
+) -> Option<Scheduled>
+    requires { (depot < columns.now.locations) × Visits columns.now.locations list.now }
+    ensures { result ≡ scheduled (lent columns.now) rest depot list.now }
 {
     let mut clock = BreakClock::new(rest, depot);
     let mut distance = 0.0;
     let mut place = depot;
-    let mut i = 0;
-    while i < list.len() {
-        let visit = list[i] as usize;
-        distance = distance + get(l, distances, place, visit);
-        clock = clock.push(
-            l, flags, service, ready, due, penalty, distances, times, visit,
-        );
+    for visit in list {
+        let visit = *visit as usize;
+        distance = distance + columns.distance(place, visit);
+        clock = clock.push(columns, visit);
         if !clock.any_left() {
-            return Outcome::Impossible;
+            return None;
         }
         place = visit;
-        i += 1;
     }
-    distance = distance + get(l, distances, place, depot);
-    clock.finish(l, distances, times, distance, depot)
+    distance = distance + columns.distance(place, depot);
+    clock.finish(
+        columns.locations,
+        columns.distances,
+        columns.times,
+        distance,
+        depot,
+    )
 }

@@ -9,13 +9,12 @@ use mathlib.Core.List.{List, [], ◌∷◌, ◌++◌}
 use lib.Dec.{eqb}
 use lib.ListN.{length, get_or, take, drop, take-append-drop}
 use lib.Seq.{slice, take-suc, take-take, drop-append-le, length-take-le}
+use Rattle.std.specs.Prelude.{Option, Some, None, is_some}
 use Rattle.numbers.specs.Operations.{zero64}
 use Rattle.day.specs.declared.vehicle.VehicleBreak.{VehicleBreak}
 use Rattle.labels.specs.Columns.{Columns}
 use Rattle.labels.specs.Walk.{Tour, tour_of, onward, walk, walk_on, walk_keeps}
-use Rattle.labels.specs.Label.{is_served}
-use Rattle.labels.specs.declared.label.Reached.{Reached}
-use Rattle.labels.specs.declared.label.Reached.TheVariants.{Missed, Served}
+use Rattle.labels.specs.declared.label.Label.{Label}
 use Rattle.break_clock.specs.Schedule.{begun, tick_break, home_break, Lost, any_left_of, stays_lost, home_lost}
 use Rattle.break_clock.specs.declared.BreakClock.{BreakClock}
 use Rattle.broken_heads.specs.Head.{reached_as, clock_of, tour_at, Alike, HeadOf, Drove}
@@ -25,11 +24,11 @@ use Rattle.broken_heads.specs.declared.BrokenHead.{BrokenHead}
 -- ---- the labels of a head
 
 -- a label is there
-served_as : (kept : MaybeLabel) → eqb kept.there 1 ≡ is_served (reached_as kept)
-unfolding reached_as is_served
+served_as : (kept : MaybeLabel) → eqb kept.there 1 ≡ is_some (reached_as kept)
+unfolding reached_as
 served_as kept = by_case (eqb kept.there 1)
   where
-    by_case : (there : Bool) → there ≡ is_served (cond there (Served kept.label) Missed)
+    by_case : (there : Bool) → there ≡ is_some (cond there (Some kept.label) None)
     by_case true = refl
     by_case false = refl
 
@@ -39,11 +38,10 @@ left_is head left e = rw (← served_as head.before, ← served_as head.after) e
 
 -- ---- tours that are alike
 
-none_left : (before after : Reached) → is_served before || is_served after ≡ false → (before ≡ Missed) × (after ≡ Missed)
-unfolding is_served
-none_left Missed Missed h = (refl, refl)
-none_left Missed (Served label) h = absurd (true≢false h)
-none_left (Served label) after h = absurd (true≢false h)
+none_left : (before after : Option Label) → is_some before || is_some after ≡ false → (before ≡ None) × (after ≡ None)
+none_left None None h = (refl, refl)
+none_left None (Some label) h = absurd (true≢false h)
+none_left (Some label) after h = absurd (true≢false h)
 
 module _ (c : Columns) where
   pub alike_same : {t u : Tour BreakClock} → t ≡ u → Alike c t u

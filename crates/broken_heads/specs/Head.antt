@@ -1,5 +1,5 @@
 -- A head of a list with the driver's break, driven once. For the searches that price many lists with one head. Assumes nothing.
-use Rattle.std.specs.Prelude.{ℕ, ◌+◌, ◌-◌, ◌<◌, ◌≤◌, ◌≡◌, cond, List, eqb, take}
+use Rattle.std.specs.Prelude.{ℕ, ◌+◌, ◌-◌, ◌<◌, ◌≤◌, ◌≡◌, cond, List, eqb, take, Option, Some, None}
 use Rattle.std.proofs.Math.Seq.{slice}
 use Rattle.numbers.specs.Operations.{zero64}
 use Rattle.day.specs.declared.vehicle.VehicleBreak.{VehicleBreak}
@@ -7,14 +7,13 @@ use Rattle.labels.specs.Columns.{Columns}
 use Rattle.labels.specs.Walk.{Tour, tour_of, walk}
 use Rattle.break_clock.specs.Schedule.{begun, tick_break, home_break}
 use Rattle.break_clock.specs.declared.BreakClock.{BreakClock}
-use Rattle.labels.specs.declared.label.Reached.{Reached}
-use Rattle.labels.specs.declared.label.Reached.TheVariants.{Missed, Served}
+use Rattle.labels.specs.declared.label.Label.{Label}
 use Rattle.broken_heads.specs.declared.MaybeLabel.{MaybeLabel}
 use Rattle.broken_heads.specs.declared.BrokenHead.{BrokenHead}
 
 -- the label, where it is there
-unfoldable pub reached_as : MaybeLabel → Reached
-reached_as kept = cond (eqb kept.there 1) (Served kept.label) Missed
+unfoldable pub reached_as : MaybeLabel → Option Label
+reached_as kept = cond (eqb kept.there 1) (Some kept.label) None
 
 -- the clock of a head
 unfoldable pub clock_of : BrokenHead → BreakClock

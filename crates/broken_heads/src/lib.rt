@@ -4,20 +4,19 @@
 #![tactic(auto)]
 
 ghost use Rattle.std.specs.Prelude.{◌≡◌, ◌+◌, ◌<◌};
-ghost use Rattle.labels.specs.Columns.{columns_at, Formed};
 ghost use Rattle.labels.specs.Walk.{onward, tour_of};
 ghost use Rattle.break_clock.specs.Schedule.{begun, tick_break, any_left_of};
 ghost use Rattle.numbers.specs.Operations.{zero64};
 ghost use Rattle.broken_heads.specs.Head.{reached_as, clock_of, tour_at};
+ghost use Rattle.labels.specs.Lent.{lent};
 
 use break_clock::BreakClock;
-use day::matrix::{get, travel_time};
 use day::vehicle::VehicleBreak;
-use labels::label::{Label, Reached, at_start, earlier};
-use labels::stop::stop_of;
-use tests::either;
+use labels::columns::Columns;
+use labels::label::{Label, at_start, earlier, serve_next, serve_next_rested};
 
 // A label, if it is there: 1 in place of an enum's tag, so that a loop carries words alone.
+// Not an Option, for speed: with tags, cross-depot on 10 offices of 4 lists took 1.01 of the Rust's time in place of .86 (docs/PROOFS.md, Speed).
 #[derive(Clone, Copy)]
 pub struct MaybeLabel {
     pub there: usize,
@@ -36,26 +35,26 @@ pub struct BrokenHead {
 }
 
 // What the clock has for it.
-fn reached_as(kept: MaybeLabel) -> Reached
+fn reached_as(kept: MaybeLabel) -> Option<Label>
     ensures { result ≡ reached_as kept }
 {
     let label = kept.label;
     if kept.there == 1 {
-        return Reached::Served(label);
+        return Some(label);
     }
-    Reached::Missed
+    None
 }
 
 // And back: what stands for it.
-fn label_of(reached: Reached) -> MaybeLabel
+fn label_of(reached: Option<Label>) -> MaybeLabel
     ensures { reached_as result ≡ reached }
 {
     match reached {
-        Reached::Missed => MaybeLabel {
+        None => MaybeLabel {
             there: 0,
             label: at_start(),
         },
-        Reached::Served(label) => MaybeLabel {
+        Some(label) => MaybeLabel {
             there: 1,
             label: label,
         },
@@ -83,7 +82,7 @@ impl BrokenHead {
     pub fn any_left(self) -> bool
         ensures { result ≡ any_left_of (clock_of self) }
     {
-        either(self.before.there == 1, self.after.there == 1)
+        self.before.there == 1 || self.after.there == 1
     }
 }
 
@@ -108,36 +107,24 @@ pub fn broken_start(rest: VehicleBreak, depot: usize) -> BrokenHead
 }
 
 // Drives on to a visit. What the clock's `push` does stands here again: with two callers it would be compiled into the loop of neither.
-pub fn next_head(
-    l: usize,
-    flags: &[u8],
-    service: &[f64],
-    ready: &[f64],
-    due: &[f64],
-    penalty: &[f64],
-    distances: &[f64],
-    times: &[f64],
-    head: BrokenHead,
-    visit: usize,
-) -> BrokenHead
-    requires formed { Formed (columns_at l flags service ready due penalty distances times) }
-    requires place_lt_l { (head.place < l) × (visit < l) × (head.index < 64) }
-    ensures { let c = columns_at l flags.entry service.entry ready.entry due.entry penalty.entry distances.entry times.entry in
+pub fn next_head(columns: &Columns, head: BrokenHead, visit: usize) -> BrokenHead
+    requires { (head.place < columns.now.locations) × (visit < columns.now.locations) × (head.index < 64) }
+    ensures { let c = lent columns.now in
         (tour_at result ≡ onward c (tick_break c) (tour_at head) visit) × (result.place ≡ visit) × (result.index ≡ head.index + 1) }
 {
     let rest = head.rest;
     let place = head.place;
     let index = head.index;
-    let leg = get(l, distances, place, visit);
-    let travel = travel_time(l, distances, times, place, visit);
-    let stop = stop_of(flags, service, ready, due, penalty, visit);
+    let leg = columns.distance(place, visit);
+    let travel = columns.travel_time(place, visit);
+    let stop = columns.stop(visit);
     let kept_before = head.before;
     let kept_after = head.after;
     let before = reached_as(kept_before);
     let after = reached_as(kept_after);
-    let skipped = before.serve_next(travel, stop);
-    let here = before.serve_next_rested(travel, stop, index, rest);
-    let carried = after.serve_next(travel, stop);
+    let skipped = serve_next(before, travel, stop);
+    let here = serve_next_rested(before, travel, stop, index, rest);
+    let carried = serve_next(after, travel, stop);
     BrokenHead {
         distance: head.distance + leg,
         rest: rest,

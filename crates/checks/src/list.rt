@@ -1,37 +1,23 @@
 // The list asked for, as the caller's own part of the table that it lent.
 ghost use Rattle.std.specs.Prelude.{◌≡◌};
-ghost use Rattle.day.specs.Day.{day_at};
 ghost use Rattle.checks.specs.Answer.{list_answer};
 
+use day::day::Day;
 use day::vehicle::Van;
 use refusals::refusal_of;
 
-// The visits of the list asked for. An enum can't hold a reference, so a refusal is an empty part; `refusal_of` gives its number.
+// The visits of the list asked for. It always answers a part: an empty one where the call is refused; `refusal_of` says by which refusal.
 pub fn list_of<'a>(
-    l: usize,
-    flags: &[u8],
-    demand: &[i32],
-    service: &[f64],
-    ready: &[f64],
-    due: &[f64],
-    penalty: &[f64],
-    distances: &[f64],
-    times: &[f64],
+    day: &Day,
     van: Van,
     visits: &'a [u16],
     lengths: &[u16],
     list: usize,
 ) -> &'a [u16]
-    ensures answer { result.now ≡ list_answer
-        (day_at l flags.entry demand.entry service.entry ready.entry due.entry penalty.entry distances.entry times.entry) van
-        visits.now lengths.now list }
+    ensures answer { result.now ≡ list_answer day.now van visits.now lengths.now list }
 {
-    if refusal_of(
-        l, flags, demand, service, ready, due, penalty, distances, times, van, visits, lengths,
-        list,
-    ) != 0
-    {
-        return &visits[0..0];
+    match refusal_of(day, van, visits, lengths, list) {
+        Ok(()) => lists::list_of(visits, lengths, list),
+        Err(_) => &visits[0..0],
     }
-    lists::list_of(visits, lengths, list)
 }

@@ -5,18 +5,19 @@
 
 ghost use Rattle.std.specs.Prelude.{◌≡◌, cond, ◌*◌, ◌+◌, ◌≤◌, ◌<◌, length};
 ghost use Rattle.fleet.specs.Fleet.{Driven};
-ghost use Rattle.labels.specs.Columns.{columns_at, Formed};
 ghost use Rattle.kept_heads.specs.Kept.{Kept};
 ghost use Rattle.cross_moves.specs.Boxes.{Prefixed};
 ghost use Rattle.loads.specs.Loads.{Two, Loaded};
 ghost use Rattle.cross_kinds.specs.Kinds.{tested_in, row_of, rows_in};
 ghost use Rattle.cross_choices.specs.Rows.{Marked};
 ghost use Rattle.cross_blocks.specs.Blocks.{width_of, Block, entries_in, side_of, CostedRow, CostedBlock, MarkedBlock};
+ghost use Rattle.labels.specs.Lent.{lent};
 
 use cross_choices::{extend, mark_row};
 use cross_kinds::kind::{Kind, Row, is_tested, row_of};
 use cross_rows::row_costs;
 use day::vehicle::Van;
+use labels::columns::Columns;
 
 // ---- the size of a block
 
@@ -116,8 +117,7 @@ pub fn mark_block(
     requires block { Block kind (length one.now) (length other.now) k width rows × (length marks.old ≡ 64) }
     ensures { MarkedBlock demand.now van1 van2 one.now other.now kind k width rows marks.new }
 {
-    let mut i = 0;
-    while i < rows {
+    for i in 0..rows {
         let from = i * width;
         let to = from + width;
         mark_one(
@@ -133,7 +133,6 @@ pub fn mark_block(
             k + i,
             &mut marks[from..to],
         );
-        i += 1;
     }
 }
 
@@ -160,14 +159,7 @@ fn side_of(kind: Kind, turned: bool, n: usize, m: usize, k: usize) -> Row
 
 // What the lists that the moves of row k make of a list cost.
 fn cost_one(
-    l: usize,
-    flags: &[u8],
-    service: &[f64],
-    ready: &[f64],
-    due: &[f64],
-    penalty: &[f64],
-    distances: &[f64],
-    times: &[f64],
+    columns: &Columns,
     van: Van,
     heads: &[f64],
     reached: usize,
@@ -179,32 +171,18 @@ fn cost_one(
     skip: &[f64],
     costs: &mut [f64],
 )
-    requires formed { Formed (columns_at l flags service ready due penalty distances times) × Driven l van × Two l list.now other.now }
-    requires kept { Kept (columns_at l flags service ready due penalty distances times) van.depot list.now heads.now reached
+    requires driven { Driven columns.now.locations van × Two columns.now.locations list.now other.now }
+    requires kept { Kept (lent columns.now) van.depot list.now heads.now reached
         × (k < rows_in kind (cond turned (length other.now) (length list.now))) }
     requires other_in_bounds { (width_of kind (cond turned (length list.now) (length other.now)) ≤ length skip.now)
         × (width_of kind (cond turned (length list.now) (length other.now)) ≤ length costs.old) }
-    ensures { CostedRow
-        (columns_at l flags.entry service.entry ready.entry due.entry penalty.entry distances.entry times.entry)
-        van
-        list.now
-        other.now
-        (side_of kind turned (length list.now) (length other.now) k)
-        skip.now
-        costs.new }
+    ensures { CostedRow (lent columns.now) van list.now other.now (side_of kind turned (length list.now) (length other.now) k) skip.now costs.new }
 {
     let side = side_of(kind, turned, list.len(), other.len(), k);
     let own = side.own;
     let others = side.others;
     row_costs(
-        l,
-        flags,
-        service,
-        ready,
-        due,
-        penalty,
-        distances,
-        times,
+        columns,
         van,
         heads,
         reached,
@@ -221,14 +199,7 @@ fn cost_one(
 
 // What the lists that the moves of a block make of a list cost: the first, or turned the second. No other function calls `cost_one`, so that it is inlined.
 pub fn block_costs(
-    l: usize,
-    flags: &[u8],
-    service: &[f64],
-    ready: &[f64],
-    due: &[f64],
-    penalty: &[f64],
-    distances: &[f64],
-    times: &[f64],
+    columns: &Columns,
     van: Van,
     heads: &[f64],
     reached: usize,
@@ -242,27 +213,17 @@ pub fn block_costs(
     skip: &[f64],
     costs: &mut [f64],
 )
-    requires formed { Formed (columns_at l flags service ready due penalty distances times) × Driven l van × Two l list.now other.now }
-    requires kept { Kept (columns_at l flags service ready due penalty distances times) van.depot list.now heads.now reached }
+    requires driven { Driven columns.now.locations van × Two columns.now.locations list.now other.now }
+    requires kept { Kept (lent columns.now) van.depot list.now heads.now reached }
     requires block { Block kind (cond turned (length other.now) (length list.now)) (cond turned (length list.now) (length other.now)) k width rows
         × (length skip.now ≡ 64) × (length costs.old ≡ 64) }
-    ensures { CostedBlock
-        (columns_at l flags.entry service.entry ready.entry due.entry penalty.entry distances.entry times.entry)
-        van list.now other.now kind turned k width rows skip.now costs.new }
+    ensures { CostedBlock (lent columns.now) van list.now other.now kind turned k width rows skip.now costs.new }
 {
-    let mut i = 0;
-    while i < rows {
+    for i in 0..rows {
         let from = i * width;
         let to = from + width;
         cost_one(
-            l,
-            flags,
-            service,
-            ready,
-            due,
-            penalty,
-            distances,
-            times,
+            columns,
             van,
             heads,
             reached,
@@ -274,6 +235,5 @@ pub fn block_costs(
             &skip[from..to],
             &mut costs[from..to],
         );
-        i += 1;
     }
 }

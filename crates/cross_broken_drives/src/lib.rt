@@ -5,13 +5,13 @@
 
 ghost use Rattle.std.specs.Prelude.{◌≡◌, ◌+◌, ◌-◌, ◌<◌, ◌≤◌, length, get_or};
 ghost use Rattle.std.proofs.Math.Seq.{slice};
-ghost use Rattle.labels.specs.Columns.{columns_at, Formed};
 ghost use Rattle.loads.specs.Loads.{Two};
 ghost use Rattle.cross_moves.specs.CrossDepot.{replaced};
 ghost use Rattle.cross_broken_drives.specs.Drive.{Driven};
+ghost use Rattle.labels.specs.Lent.{lent};
 
 use broken_heads::{BrokenHead, next_head};
-use tests::both;
+use labels::columns::Columns;
 
 // How far a candidate is driven: to where its stretch begins, and to its end.
 #[derive(Clone, Copy)]
@@ -35,26 +35,19 @@ fn visit_at(
     ensures { result ≡ get_or (replaced list.now from to (slice other_from other_to other.now)) i 0 }
 {
     if i < from {
-        return list[i] as usize;
+        return usize::from(list[i]);
     }
     let k = i - from;
     let size = other_to - other_from;
     if k < size {
-        return other[other_from + k] as usize;
+        return usize::from(other[other_from + k]);
     }
-    list[to + (k - size)] as usize
+    usize::from(list[to + (k - size)])
 }
 
 // Drives a candidate from the head of its list's first `driven` visits on. Behind the begin of its stretch it ends before a visit where no label is left.
 pub fn drive_candidate(
-    l: usize,
-    flags: &[u8],
-    service: &[f64],
-    ready: &[f64],
-    due: &[f64],
-    penalty: &[f64],
-    distances: &[f64],
-    times: &[f64],
+    columns: &Columns,
     start: BrokenHead,
     driven: usize,
     list: &[u16],
@@ -64,37 +57,26 @@ pub fn drive_candidate(
     other_from: usize,
     other_to: usize,
 ) -> Drive
-    requires formed { Formed (columns_at l flags service ready due penalty distances times) × Two l list.now other.now }
-    requires place_lt_l { (start.place < l) × (start.index ≤ driven) × (driven ≤ from) }
+    requires two { Two columns.now.locations list.now other.now }
+    requires place_lt_l { (start.place < columns.now.locations) × (start.index ≤ driven) × (driven ≤ from) }
     requires from_le_to { (from ≤ to) × (to ≤ length list.now) × (other_from ≤ other_to) × (other_to ≤ length other.now) }
-    ensures { Driven
-        (columns_at l flags.entry service.entry ready.entry due.entry penalty.entry distances.entry times.entry)
-        start
-        (replaced list.now from to (slice other_from other_to other.now))
-        driven
-        from
-        result }
+    ensures { Driven (lent columns.now) start (replaced list.now from to (slice other_from other_to other.now)) driven from result }
 {
     let end = from + (other_to - other_from) + (list.len() - to);
     let mut kept = start;
     let mut head = start;
-    let mut i = driven;
-    while i < end {
-        if both(from <= i, !head.any_left()) {
+    for i in driven..end {
+        if from <= i && !head.any_left() {
             return Drive {
                 head: kept,
                 end: head,
             };
         }
         let visit = visit_at(list, from, to, other, other_from, other_to, i);
-        head = next_head(
-            l, flags, service, ready, due, penalty, distances, times, head, visit,
-        );
-        i += 1;
-        if i != from {
-            continue;
+        head = next_head(columns, head, visit);
+        if i + 1 == from {
+            kept = head;
         }
-        kept = head;
     }
     Drive {
         head: kept,

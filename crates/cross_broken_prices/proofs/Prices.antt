@@ -8,17 +8,16 @@ use native.Mathlib.Omega.{arith}
 use lib.ListN.{length, take, drop}
 use lib.Seq.{slice, take-append-le, take-take, take-length, length-take-le}
 use lib.Ieee.{Float}
+use Rattle.std.specs.Prelude.{Option, Some}
 use Rattle.numbers.specs.Operations.{◌⊕◌, zero64}
 use Rattle.day.specs.declared.vehicle.Van.{Van}
-use Rattle.day.specs.declared.vehicle.Rest.{Rest}
-use Rattle.day.specs.declared.vehicle.Rest.TheVariants.{Break}
 use Rattle.day.specs.declared.vehicle.RouteLimits.{RouteLimits}
 use Rattle.day.specs.declared.vehicle.VehicleBreak.{VehicleBreak}
 use Rattle.labels.specs.Columns.{Columns, leg_in, travel_in}
 use Rattle.labels.specs.Walk.{Tour, tour_of, walk}
 use Rattle.break_clock.specs.Schedule.{begun, tick_break, finished, home_break, scheduled}
 use Rattle.break_clock.specs.declared.BreakClock.{BreakClock}
-use Rattle.break_clock.specs.declared.Outcome.{Outcome}
+use Rattle.break_clock.specs.declared.Scheduled.{Scheduled}
 use Rattle.evaluation.specs.Route.{outcome, evaluated, eval}
 use Rattle.broken_heads.specs.Head.{clock_of, tour_at, Alike, HeadOf, Drove}
 use Rattle.broken_heads.specs.declared.BrokenHead.{BrokenHead}
@@ -50,7 +49,7 @@ module _ (c : Columns) (van : Van) (limits : RouteLimits) (pause : VehicleBreak)
     unfolding eval outcome scheduled
     priced_walk o = priced_some c van whole _ limits _ o broken.limits_are (by_rest limits.rest broken.has_break) refl
       where
-        by_rest : (rest : Rest) → rest ≡ Break pause →
+        by_rest : (rest : Option VehicleBreak) → rest ≡ Some pause →
             evaluated limits (home_break c van.depot (walk c (tick_break c) start whole)) ≡ evaluated limits (outcome c rest van.depot whole)
         by_rest rest e = rw e
 
@@ -72,13 +71,13 @@ module _ (c : Columns) (van : Van) (limits : RouteLimits) (pause : VehicleBreak)
             same_head list whole from next (shares from (omega arith) within) (head_on c pause van.depot whole driven from head next behind of_whole drove)
 
         -- the return, from where the drive ended
-        pub cost_on : (end : BrokenHead) (clock : BreakClock) (x r : Float) (o : Outcome) → driven ≤ length whole →
+        pub cost_on : (end : BrokenHead) (clock : BreakClock) (x r : Float) (o : Option Scheduled) → driven ≤ length whole →
             Drove c head whole driven (length whole) end → length whole ≢ 0 →
             x ≡ leg_in c end.place van.depot → clock ≡ clock_of end → o ≡ finished clock (end.distance ⊕ x) (travel_in c clock.prev van.depot) →
             r ≡ amount (price_of van (evaluated limits o)) → r ≡ amount (priced_as c van whole)
         unfolding home_break
         cost_on end clock x r o few drove some e k f is =
-            is ∙ ap (λ (p : Outcome). amount (price_of van (evaluated limits p))) (f ∙ rw (e, k) (sym driven_whole)) ∙ ap amount (priced_walk some)
+            is ∙ ap (λ (p : Option Scheduled). amount (price_of van (evaluated limits p))) (f ∙ rw (e, k) (sym driven_whole)) ∙ ap amount (priced_walk some)
           where
             driven_whole : home_break c van.depot (walk c (tick_break c) start whole) ≡ home_break c van.depot (tour_at end)
             driven_whole =

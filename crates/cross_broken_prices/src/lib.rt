@@ -6,18 +6,18 @@
 ghost use Rattle.std.specs.Prelude.{◌≡◌, ◌≤◌, length};
 ghost use Rattle.std.proofs.Math.Seq.{slice};
 ghost use Rattle.fleet.specs.Fleet.{Driven};
-ghost use Rattle.labels.specs.Columns.{columns_at, Formed};
 ghost use Rattle.evaluation.specs.Route.{evaluated};
 ghost use Rattle.broken_heads.specs.Head.{HeadOf};
 ghost use Rattle.cross_moves.specs.CrossDepot.{price_of, priced_as, amount, replaced};
 ghost use Rattle.loads.specs.Loads.{Two};
 ghost use Rattle.cross_broken_prices.specs.Broken.{Broken};
+ghost use Rattle.labels.specs.Lent.{lent};
 
-use break_clock::Outcome;
+use break_clock::Scheduled;
 use broken_heads::BrokenHead;
 use cross_broken_drives::drive_candidate;
-use day::matrix::get;
 use day::vehicle::{RouteLimits, Van, VehicleBreak};
+use labels::columns::Columns;
 use numbers::infinite;
 
 // What a candidate costs, and the head of the visits before its stretch.
@@ -28,10 +28,10 @@ pub struct Priced {
 }
 
 // What a list that ends so costs, infinite where the van doesn't allow it.
-fn end_cost(van: Van, limits: RouteLimits, outcome: Outcome) -> f64
+fn end_cost(van: Van, limits: RouteLimits, outcome: Option<Scheduled>) -> f64
     ensures { result ≡ amount (price_of van (evaluated limits outcome)) }
 {
-    let Outcome::Possible(end) = outcome else {
+    let Some(end) = outcome else {
         return infinite();
     };
     if limits.allow(end.distance, end.duration) {
@@ -42,14 +42,7 @@ fn end_cost(van: Van, limits: RouteLimits, outcome: Outcome) -> f64
 
 // What a list with a stretch of another in the place of its own costs with a break to take, driven from a head that ends at the stretch or before it.
 pub fn broken_candidate(
-    l: usize,
-    flags: &[u8],
-    service: &[f64],
-    ready: &[f64],
-    due: &[f64],
-    penalty: &[f64],
-    distances: &[f64],
-    times: &[f64],
+    columns: &Columns,
     van: Van,
     limits: RouteLimits,
     rest: VehicleBreak,
@@ -62,24 +55,14 @@ pub fn broken_candidate(
     other_from: usize,
     other_to: usize,
 ) -> Priced
-    requires formed { Formed (columns_at l flags service ready due penalty distances times) × Driven l van × Two l list.now other.now }
-    requires broken { Broken van limits rest × HeadOf (columns_at l flags service ready due penalty distances times) rest van.depot list.now driven head }
+    requires driven { Driven columns.now.locations van × Two columns.now.locations list.now other.now }
+    requires broken { Broken van limits rest × HeadOf (lent columns.now) rest van.depot list.now driven head }
     requires driven_le_from { (driven ≤ from) × (from ≤ to) × (to ≤ length list.now) × (other_from ≤ other_to) × (other_to ≤ length other.now) }
-    ensures head_of { HeadOf
-        (columns_at l flags.entry service.entry ready.entry due.entry penalty.entry distances.entry times.entry)
-        rest
-        van.depot
-        list.now
-        from
-        result.head }
-    ensures cost_value { result.cost ≡ amount (priced_as
-        (columns_at l flags.entry service.entry ready.entry due.entry penalty.entry distances.entry times.entry)
-        van
-        (replaced list.now from to (slice other_from other_to other.now))) }
+    ensures head_of { HeadOf (lent columns.now) rest van.depot list.now from result.head }
+    ensures cost_value { result.cost ≡ amount (priced_as (lent columns.now) van (replaced list.now from to (slice other_from other_to other.now))) }
 {
     let drive = drive_candidate(
-        l, flags, service, ready, due, penalty, distances, times, head, driven, list, from, to,
-        other, other_from, other_to,
+        columns, head, driven, list, from, to, other, other_from, other_to,
     );
     let kept = drive.head;
     if from + (other_to - other_from) + (list.len() - to) == 0 {
@@ -90,9 +73,15 @@ pub fn broken_candidate(
     }
     let end = drive.end;
     let depot = van.depot;
-    let distance = end.distance + get(l, distances, end.place, depot);
+    let distance = end.distance + columns.distance(end.place, depot);
     let clock = end.clock();
-    let outcome = clock.finish(l, distances, times, distance, depot);
+    let outcome = clock.finish(
+        columns.locations,
+        columns.distances,
+        columns.times,
+        distance,
+        depot,
+    );
     Priced {
         head: kept,
         cost: end_cost(van, limits, outcome),

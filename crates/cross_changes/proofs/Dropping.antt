@@ -8,21 +8,11 @@ use native.Mathlib.Numerals.{add-one}
 use native.Mathlib.Omega.{arith}
 use lib.ListN.{length, get_or, set, take, drop, replicate, length-append, length-replicate, length-set}
 use lib.Seq.{take-suc, drop-cons, set_at, take_at, drop_at, take-length, drop-length, append_snoc, set-append_seam, get_or_at, length-take-le}
-use Rattle.lists.specs.Table.{lists}
 use Rattle.list_changes.specs.Edits.{nonzero}
 use Rattle.cross_moves.specs.CrossDepot.{of_filled}
-use Rattle.cross_changes.specs.Tables.{packed_by, kept_if, counted}
+use Rattle.cross_changes.specs.Tables.{packed_by, kept_if}
 
 -- ---- a list that is empty, and one that isn't
-
-pub counted_none : (n : ℕ) → n ≡ 0 → 0 ≡ counted n
-unfolding counted
-counted_none n e = rw e
-
-pub counted_one : (n : ℕ) → n ≢ 0 → 1 ≡ counted n
-unfolding counted
-counted_one zero h = absurd (h refl)
-counted_one (suc n) h = refl
 
 module _ {A : Type 0} (none x : A) where
   pub kept_none : (n : ℕ) → n ≡ 0 → none ≡ kept_if none n x
@@ -60,8 +50,8 @@ filled_snoc (m ∷ ms) [] n x e = absurd (omega arith)
 filled_snoc (zero ∷ ms) (y ∷ xs) n x e = filled_snoc ms xs n x (omega arith)
 filled_snoc (suc m ∷ ms) (y ∷ xs) n x e = ap (λ z. y ∷ z) (filled_snoc ms xs n x (omega arith))
 
-length_one : {A : Type 0} (n : ℕ) (x : A) → length (of_filled (n ∷ []) (x ∷ [])) ≡ counted n
-unfolding of_filled counted
+length_one : {A : Type 0} (n : ℕ) (x : A) → length (of_filled (n ∷ []) (x ∷ [])) ≡ length (nonzero (n ∷ []))
+unfolding of_filled nonzero
 length_one zero x = refl
 length_one (suc n) x = refl
 
@@ -135,7 +125,7 @@ module _ {A : Type 0} (none : A) where
         rw (more_filled, add-one i, drop-cons xs i d there)
         (stored P i _ (get_or xs i d) _ (drop (suc i) xs) behind ∙ counted_on P i _ (get_or lengths i 0) (get_or xs i d) (drop (suc i) xs) behind)
 
-    count_more : length (of_filled (take i lengths) (take i xs)) + counted (get_or lengths i 0) ≡ length (of_filled (take (i + 1) lengths) (take (i + 1) xs))
+    count_more : length (of_filled (take i lengths) (take i xs)) + length (nonzero (get_or lengths i 0 ∷ [])) ≡ length (of_filled (take (i + 1) lengths) (take (i + 1) xs))
     count_more = rw (more_filled, length-append, length_one)
 
   -- where the loop stands: the first i entries of xs are packed, and `kept` of them are kept
@@ -151,7 +141,7 @@ module _ {A : Type 0} (none : A) where
   packing_starts lengths xs = record { reached = omega arith; kept_below = omega arith; same_length = refl; kept_is = refl; now_is = packed_start lengths xs }
 
   pub packing_turns : (lengths : List ℕ) (xs now : List A) (d : A) (kept i more : ℕ) (y : A) → Packing lengths xs now kept i → length xs ≡ length lengths
-      → i < length lengths → y ≡ kept_if none (get_or lengths i 0) (get_or now i d) → more ≡ counted (get_or lengths i 0)
+      → i < length lengths → y ≡ kept_if none (get_or lengths i 0) (get_or now i d) → more ≡ length (nonzero (get_or lengths i 0 ∷ []))
       → Packing lengths xs (set (set now i none) kept y) (kept + more) (i + 1)
   packing_turns lengths xs now d kept i more y p even h is_y is-more =
       let there : i < length xs = omega arith in

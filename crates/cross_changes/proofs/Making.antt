@@ -1,7 +1,7 @@
 -- A move made in the tables: what the edits leave is the plan after the move, and behind its lists there is nothing. Assumes nothing.
 use mathlib.Core.Path.{◌≡◌, refl, sym, ap, ◌∙◌}
 use mathlib.Core.List.{List, [], ◌∷◌}
-use Prim.Native.Nat.{ℕ, zero, suc, ◌-◌, ◌≤◌}
+use Prim.Native.Nat.{ℕ, zero, suc, ◌-◌}
 use native.Mathlib.Omega.{arith}
 use lib.ListN.{length, set, take, drop, replicate, length-set}
 use lib.Seq.{take_at, drop_at}
@@ -11,7 +11,7 @@ use Rattle.lists.specs.Table.{Laid, lists, lengths_of}
 use Rattle.list_changes.specs.Edits.{Edited, filled, nonzero, packed}
 use Rattle.lists.proofs.Tables.{lengths_lists}
 use Rattle.list_changes.proofs.Packing.{packed_first, nonzero_le, sum-nonzero, length-packed}
-use Rattle.cross_moves.specs.CrossDepot.{Plan, of_filled, exchanged_by, dropped, after_move, plan_of}
+use Rattle.cross_moves.specs.CrossDepot.{of_filled, exchanged_by, dropped, after_move, plan_of}
 use Rattle.cross_changes.specs.Tables.{packed_by, Made}
 use Rattle.cross_moves.specs.declared.pair.Move.{Move}
 use Rattle.cross_changes.proofs.Dropping.{length-filled, packed_front, packed_back}

@@ -30,11 +30,6 @@ unfoldable pub kept_if : {A : Type 0} → A → ℕ → A → A
 kept_if none zero x = none
 kept_if none (suc n) x = x
 
--- 1 for a list that has a visit
-unfoldable pub counted : ℕ → ℕ
-counted zero = 0
-counted (suc n) = 1
-
 -- of the first `kept` entries of the tables after a move, and of those behind them
 pub record Made (p : Plan) (m : Move) (cost1 cost2 : Float) (visits visits' lengths' ids' : List ℕ) (costs' : List Float) (kept : ℕ) : Type 0 where
   pub holds : plan_of visits' (take kept lengths') (take kept ids') (take kept costs') ≡ after_move p m cost1 cost2

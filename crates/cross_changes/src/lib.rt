@@ -3,14 +3,13 @@
 #![tactic(auto)]
 
 ghost use Rattle.std.specs.Prelude.{◌≡◌, ◌≤◌, ◌<◌, length, set};
-ghost use Rattle.numbers.specs.Operations.{zero64};
 ghost use Rattle.lists.specs.Table.{lists};
 ghost use Rattle.list_changes.specs.Edits.{Edited};
 ghost use Rattle.cross_moves.specs.CrossDepot.{exchanged_by, plan_of};
-ghost use Rattle.cross_changes.specs.Tables.{Makes, turned, packed_by, kept_if, counted, Made};
+ghost use Rattle.cross_changes.specs.Tables.{Makes, turned, packed_by, kept_if, Made};
 
 use cross_moves::pair::Move;
-use list_changes::{drop_empty, exchange_tails};
+use list_changes::{drop_empty, exchange_tails, one_if_filled};
 
 // ---- two lists
 
@@ -65,67 +64,27 @@ fn store_costs(costs: &mut [f64], m: Move, cost1: f64, cost2: f64)
 
 // ---- empty lists dropped
 
-// 1 for a list that has a visit, 0 for an empty one.
-fn one_if_filled(n: u16) -> usize
-    ensures { result ≡ counted n }
+// The entry of a list that has a visit, `none` for an empty one.
+fn kept_if<T: Copy>(none: T, n: u16, entry: T) -> T
+    ensures { result ≡ kept_if none n entry }
 {
     if n == 0 {
-        return 0;
+        return none;
     }
-    1
+    entry
 }
 
-// The id of a list's van, 0 for an empty list.
-fn id_if_filled(n: u16, id: u32) -> u32
-    ensures { result ≡ kept_if 0 n id }
-{
-    if n == 0 {
-        return 0;
-    }
-    id
-}
-
-// What a list costs, 0 for an empty list.
-fn cost_if_filled(n: u16, cost: f64) -> f64
-    ensures { result ≡ kept_if zero64 n cost }
-{
-    if n == 0 {
-        return 0.0;
-    }
-    cost
-}
-
-// Drops the ids of the empty lists: the others move up, in their order.
-fn drop_ids(lengths: &[u16], ids: &mut [u32])
-    requires { (length ids.old ≡ length lengths.now) × (length lengths.now ≤ 16) }
-    ensures { ids.new ≡ packed_by 0 lengths.now ids.old }
+// Drops the entries of the empty lists: the others move up, in their order, and behind them there is `none`.
+fn pack<T: Copy>(lengths: &[u16], entries: &mut [T], none: T)
+    requires { (length entries.old ≡ length lengths.now) × (length lengths.now ≤ 16) }
+    ensures { entries.new ≡ packed_by none lengths.now entries.old }
 {
     let mut kept: usize = 0;
-    let mut i = 0;
-    while i < lengths.len() {
-        let n = lengths[i];
-        let id = ids[i];
-        ids[i] = 0;
-        ids[kept] = id_if_filled(n, id);
+    for (i, &n) in lengths.iter().enumerate() {
+        let entry = entries[i];
+        entries[i] = none;
+        entries[kept] = kept_if(none, n, entry);
         kept += one_if_filled(n);
-        i += 1;
-    }
-}
-
-// Drops what the empty lists cost.
-fn drop_costs(lengths: &[u16], costs: &mut [f64])
-    requires { (length costs.old ≡ length lengths.now) × (length lengths.now ≤ 16) }
-    ensures { costs.new ≡ packed_by zero64 lengths.now costs.old }
-{
-    let mut kept: usize = 0;
-    let mut i = 0;
-    while i < lengths.len() {
-        let n = lengths[i];
-        let cost = costs[i];
-        costs[i] = 0.0;
-        costs[kept] = cost_if_filled(n, cost);
-        kept += one_if_filled(n);
-        i += 1;
     }
 }
 
@@ -146,7 +105,7 @@ pub fn make_move(
 {
     exchange_stretches(visits, lengths, m);
     store_costs(costs, m, cost1, cost2);
-    drop_ids(lengths, ids);
-    drop_costs(lengths, costs);
+    pack(lengths, ids, 0);
+    pack(lengths, costs, 0.0);
     drop_empty(lengths)
 }

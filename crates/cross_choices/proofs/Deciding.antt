@@ -11,14 +11,13 @@ use lib.IntN.{ℤ}
 use lib.ListN.{length, get_or, set, length-set}
 use lib.Seq.{slice, slice_empty, get_or-set_same, get_or-set_other}
 use lib.Ieee.{Float, nan, inf, lt}
+use Rattle.std.specs.Prelude.{Option, Some, None}
 use Rattle.numbers.specs.Operations.{◌⊕◌, ◌⊖◌, zero64}
 use Rattle.tests.specs.Pick.{picked, other}
 use Rattle.labels.specs.Columns.{Columns}
 use Rattle.descent.specs.Order.{range, scan}
 use Rattle.descent.proofs.Loops.{scan_turn, scan_done}
 use Rattle.cross_moves.specs.CrossDepot.{holds, priced_as, allowed, is_tested, amount, replaced, relocation}
-use Rattle.cross_moves.specs.declared.price.Price.{Price}
-use Rattle.cross_moves.specs.declared.price.Price.TheVariants.{Unallowed, Costs}
 use Rattle.cross_moves.specs.declared.pair.Pair.{Pair}
 use Rattle.cross_moves.specs.declared.pair.Move.{Move}
 use Rattle.day.specs.declared.vehicle.Van.{Van}
@@ -90,23 +89,23 @@ told_lost2 : (pair : Pair) (m : Move) (x : Float) (best : Choice) → best ≡ t
 told_lost2 pair m x best = other (lt (x ⊕ inf false ⊖ pair.before) best.delta) _ _ _ (second_lost x pair.before best.delta) refl
 
 -- the second cost is asked for only where the first is below infinity
-abbrev asked : Price → Float → Float
+abbrev asked : Option Float → Float → Float
 asked q x = cond (lt x (inf false)) (amount q) (inf false)
 
 infinite_lost : lt (inf false) (inf false) ≡ false
 unfolding lt
 infinite_lost = refl
 
-decided-told : (pair : Pair) (m : Move) (p q : Price) (best : Choice)
+decided-told : (pair : Pair) (m : Move) (p q : Option Float) (best : Choice)
     → decided pair m p q best ≡ told pair m (amount p) (asked q (amount p)) best
 unfolding decided amount
-decided-told pair m Unallowed q best = told_lost1 pair m (inf false) (asked q (inf false)) best infinite_lost
-decided-told pair m (Costs x) Unallowed best = by_test (lt x (inf false)) refl
+decided-told pair m None q best = told_lost1 pair m (inf false) (asked q (inf false)) best infinite_lost
+decided-told pair m (Some x) None best = by_test (lt x (inf false)) refl
   where
     by_test : (t : Bool) → lt x (inf false) ≡ t → best ≡ told pair m x (cond t (inf false) (inf false)) best
     by_test true e = told_lost2 pair m x best
     by_test false e = told_lost2 pair m x best
-decided-told pair m (Costs x) (Costs y) best = by_test (lt x (inf false)) refl
+decided-told pair m (Some x) (Some y) best = by_test (lt x (inf false)) refl
   where
     by_test : (t : Bool) → lt x (inf false) ≡ t → told pair m x y best ≡ told pair m x (cond t y (inf false)) best
     by_test true e = refl
@@ -117,27 +116,27 @@ unfolding lt
 zero-below = refl
 
 -- a second list that isn't allowed changes nothing
-unallowed2 : (pair : Pair) (m : Move) (p : Price) (best : Choice) → decided pair m p Unallowed best ≡ best
+unallowed2 : (pair : Pair) (m : Move) (p : Option Float) (best : Choice) → decided pair m p None best ≡ best
 unfolding decided
-unallowed2 pair m Unallowed best = refl
-unallowed2 pair m (Costs x) best = refl
+unallowed2 pair m None best = refl
+unallowed2 pair m (Some x) best = refl
 
-unallowed1 : (pair : Pair) (m : Move) (q : Price) (best : Choice) → decided pair m Unallowed q best ≡ best
+unallowed1 : (pair : Pair) (m : Move) (q : Option Float) (best : Choice) → decided pair m None q best ≡ best
 unfolding decided
 unallowed1 pair m q best = refl
 
 -- the first cost, where both lists are open or not
-abbrev first_cost : Bool → Bool → Price → Float
+abbrev first_cost : Bool → Bool → Option Float → Float
 first_cost one two p = cond (lt (cond (one && two) zero64 (inf false)) (inf false)) (amount p) (inf false)
 
-shut_told : (pair : Pair) (m : Move) (q : Price) (best : Choice) → best ≡ told pair m (inf false) (asked q (inf false)) best
+shut_told : (pair : Pair) (m : Move) (q : Option Float) (best : Choice) → best ≡ told pair m (inf false) (asked q (inf false)) best
 shut_told pair m q best = told_lost1 pair m (inf false) (asked q (inf false)) best infinite_lost
 
-open_told : (pair : Pair) (m : Move) (one two : Bool) (p q : Price) (best : Choice)
-    → decided pair m (cond one p Unallowed) (cond two q Unallowed) best ≡ told pair m (first_cost one two p) (asked q (first_cost one two p)) best
+open_told : (pair : Pair) (m : Move) (one two : Bool) (p q : Option Float) (best : Choice)
+    → decided pair m (cond one p None) (cond two q None) best ≡ told pair m (first_cost one two p) (asked q (first_cost one two p)) best
 open_told pair m true true p q best = rw zero-below (decided-told pair m p q best)
 open_told pair m true false p q best = rw infinite_lost (unallowed2 pair m p best ∙ shut_told pair m q best)
-open_told pair m false two p q best = rw infinite_lost (unallowed1 pair m (cond two q Unallowed) best ∙ shut_told pair m q best)
+open_told pair m false two p q best = rw infinite_lost (unallowed1 pair m (cond two q None) best ∙ shut_told pair m q best)
 
 module _ (c : Columns) (demand : List ℤ) (pair : Pair) (X Y : List ℕ) (m : Move) where
   -- what the tables say of a move: its first cost, and with that its second

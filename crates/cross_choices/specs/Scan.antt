@@ -1,7 +1,8 @@
 -- Cross-depot's search as its functions state it: one candidate more, the rows of candidates one after another, and the best so far. For src/; the engine's
 -- own definition is CrossDepot.antt. Assumes nothing.
-use Rattle.std.specs.Prelude.{◌≡◌, Bool, true, false, cond, List, ℕ, ◌+◌, eqb, ltb, ℤ, length, Float}
-use Rattle.std.proofs.Math.Option.{Option, none, some}
+use Rattle.std.specs.Prelude.{◌≡◌, Bool, true, false, cond, List, ℕ, ◌+◌, eqb, ltb, ℤ, length, Float, Option, Some, None}
+use Rattle.std.proofs.Math.Option as maybe
+use Rattle.std.proofs.Math.Option.{none, some}
 use Rattle.std.proofs.Math.Seq.{slice}
 use Rattle.std.specs.Float.Ieee.{lt, neg}
 use Rattle.numbers.specs.Operations.{◌⊕◌, ◌⊖◌, zero64}
@@ -11,8 +12,6 @@ use Rattle.descent.specs.Order.{range, scan}
 use Rattle.cross_moves.specs.Boxes.{Prefixed}
 use Rattle.fleet.specs.Fleet.{Fleet, Driven}
 use Rattle.cross_moves.specs.CrossDepot.{Plan, allowed, is_tested, replaced, relocation, exchange, cuts, pair_of, same_depot}
-use Rattle.cross_moves.specs.declared.price.Price.{Price}
-use Rattle.cross_moves.specs.declared.price.Price.TheVariants.{Unallowed, Costs}
 use Rattle.cross_moves.specs.declared.pair.Pair.{Pair}
 use Rattle.cross_moves.specs.declared.pair.Move.{Move}
 use Rattle.kept_heads.specs.Kept.{Kept}
@@ -57,18 +56,18 @@ made2 X Y m = replaced Y m.from2 m.to2 (slice m.from1 m.to1 X)
 -- ---- one candidate more
 
 -- with both prices: 'below the best so far' is 'counts' too, since the best starts at minus the floor
-unfoldable pub decided : Pair → Move → Price → Price → Choice → Choice
-decided pair m Unallowed q best = best
-decided pair m (Costs x) Unallowed best = best
-decided pair m (Costs x) (Costs y) best =
+unfoldable pub decided : Pair → Move → Option Float → Option Float → Choice → Choice
+decided pair m None q best = best
+decided pair m (Some x) None best = best
+decided pair m (Some x) (Some y) best =
     cond (lt (x ⊕ y ⊖ pair.before) best.delta) (record { found = 1; chosen = m; delta = x ⊕ y ⊖ pair.before; cost1 = x; cost2 = y }) best
 
 module _ (c : Columns) (demand : List ℤ) (pair : Pair) (X Y : List ℕ) where
   -- the prices of the two lists that a move makes
-  abbrev pub price1 : Move → Price
+  abbrev pub price1 : Move → Option Float
   price1 m = allowed c demand (is_tested m) pair.van1 (made1 X Y m)
 
-  abbrev pub price2 : Move → Price
+  abbrev pub price2 : Move → Option Float
   price2 m = allowed c demand true pair.van2 (made2 X Y m)
 
   -- the better of the best so far and a move
@@ -145,5 +144,5 @@ abbrev pub is_found : Choice → Bool
 is_found b = eqb b.found 1
 
 -- the move that a choice says
-unfoldable pub move_of : Choice → Option Move
+unfoldable pub move_of : Choice → maybe.Option Move
 move_of b = elim (is_found b) [ true ↦ some b.chosen | false ↦ none ]

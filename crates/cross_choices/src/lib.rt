@@ -16,7 +16,6 @@ use cross_moves::pair::{Move, Pair};
 use cross_rows::{Stretch, end_at, start_at};
 use day::vehicle::Van;
 use numbers::infinite;
-use tests::{both, either};
 
 // The best move so far, with its delta and what its two lists cost. `found` is 1 where there is one, a whole word as in `Move`; else it is 0, and the delta is
 // minus the floor.
@@ -42,7 +41,7 @@ pub struct Least {
 fn mark(tested: bool, first: bool, second: bool) -> f64
     ensures { result ≡ mark_of tested first second }
 {
-    if both(either(!tested, first), second) {
+    if (!tested || first) && second {
         return 0.0;
     }
     infinite()
@@ -69,8 +68,7 @@ pub fn mark_row(
     requires rowed { Rowed (length one.now) (length other.now) own others count × (count ≤ length marks.old) }
     ensures { Marked demand.now van1 van2 one.now other.now tested own others count marks.new }
 {
-    let mut j = 0;
-    while j < count {
+    for j in 0..count {
         let from1 = start_at(own, j);
         let to1 = end_at(own, j);
         let from2 = start_at(others, j);
@@ -82,7 +80,6 @@ pub fn mark_row(
             l, demand, van2, other, loads2, from2, to2, one, loads1, from1, to1,
         );
         marks[j] = mark(tested, first, second);
-        j += 1;
     }
 }
 
@@ -91,14 +88,7 @@ pub fn is_shut(marks: &[f64], count: usize) -> bool
     requires { (length marks.now ≡ 64) × (count ≤ 64) }
     ensures { result ≡ all_shut marks.now count }
 {
-    let mut k = 0;
-    while k < count {
-        if marks[k] < infinite() {
-            return false;
-        }
-        k += 1;
-    }
-    true
+    (0..count).all(|k| !(marks[k] < infinite()))
 }
 
 // ---- the least of a row
@@ -108,10 +98,8 @@ pub fn extend(costs: &mut [f64], from: usize, count: usize)
     requires { (count ≤ length costs.old) × (count ≤ 64) }
     ensures { Extended costs.old costs.new from count }
 {
-    let mut j = from;
-    while j < count {
+    for j in from..count {
         costs[j] = costs[0];
-        j += 1;
     }
 }
 
@@ -134,10 +122,8 @@ pub fn least_of(before: f64, count: usize, costs1: &[f64], costs2: &[f64], most:
         at: count,
         delta: most,
     };
-    let mut j = 0;
-    while j < count {
+    for j in 0..count {
         least = lesser(least, j, costs1[j] + costs2[j] - before);
-        j += 1;
     }
     least
 }

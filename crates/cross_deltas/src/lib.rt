@@ -8,7 +8,6 @@ ghost use Rattle.cross_deltas.specs.Deltas.{joined, is_old, kept_of};
 
 use cross_choices::Choice;
 use cross_moves::pair::Move;
-use tests::both;
 
 // No move so far.
 pub fn no_choice(floor: f64) -> Choice
@@ -46,14 +45,14 @@ pub fn better_of(best: Choice, fresh: Choice) -> Choice
 pub fn is_old(kept: usize, one: usize, other: usize, a: usize) -> bool
     ensures { result ≡ is_old kept one other a }
 {
-    both(a < kept, both(a != one, a != other))
+    a < kept && a != one && a != other
 }
 
 // Whether both lists of a pair are as they were.
 pub fn are_old(kept: usize, one: usize, other: usize, a: usize, b: usize) -> bool
     ensures { result ≡ (is_old kept one other a && is_old kept one other b) }
 {
-    both(is_old(kept, one, other, a), is_old(kept, one, other, b))
+    is_old(kept, one, other, a) && is_old(kept, one, other, b)
 }
 
 // How many of the first lists are as they were after a move, but for its two: all n where none was dropped, else none, since the numbers shift.

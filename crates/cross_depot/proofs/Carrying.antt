@@ -14,6 +14,7 @@ use lib.IntN.{ℤ, nat_abs}
 use lib.ListN.{length, get_or, set, take, drop, length-map, length-set}
 use lib.Seq.{slice, slice_empty, drop-drop, get_or-set_same, get_or-set_other}
 use lib.Ieee.{Float}
+use Rattle.std.specs.Prelude.{None}
 use Rattle.day.specs.declared.vehicle.Van.{Van}
 use Rattle.edits.specs.Total.{total, total_append}
 use Rattle.lists.specs.Table.{lengths_of}
@@ -29,7 +30,6 @@ use Rattle.fleet.proofs.Numbered.{found_again}
 use Rattle.loads.specs.Loads.{boxes_of}
 use Rattle.cross_moves.specs.CrossDepot.{Plan, is_tested, found_ids, lent_plan, priced_as, holds, allowed, has_price, first, second, exchanged_by, of_filled, dropped}
 use Rattle.cross_moves.specs.CrossDepot.{after_move, first_price, second_price, moved, search_of, judge_of, run_of, Carries, Carried}
-use Rattle.cross_moves.specs.declared.price.Price.TheVariants.{Unallowed}
 use Rattle.cross_moves.specs.declared.pair.Move.{Move}
 use Rattle.loads.proofs.Boxes.{load_parts}
 use Rattle.cross_steps.proofs.Sound.{TestedOrLess, move_tested}
@@ -72,7 +72,7 @@ price_holds : (c : Columns) (demand : List ℤ) (tested : Bool) (van : Van) (lis
 unfolding allowed holds has_price
 price_holds c demand tested van list e t = leb-true _ _ (by_test tested (leb (total (boxes_of demand) list) (nat_abs van.capacity)) t e)
   where
-    by_test : (tested within : Bool) → tested ≡ true → has_price (cond (not tested || within) (priced_as c van list) Unallowed) ≡ true → within ≡ true
+    by_test : (tested within : Bool) → tested ≡ true → has_price (cond (not tested || within) (priced_as c van list) None) ≡ true → within ≡ true
     by_test true true t e = refl
     by_test true false t e = absurd (false≢true e)
     by_test false within t e = absurd (false≢true t)

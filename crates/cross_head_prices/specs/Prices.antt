@@ -1,5 +1,5 @@
 -- What a list costs with its van where its head is driven. For src/. Assumes nothing.
-use Rattle.std.specs.Prelude.{cond, List, ℕ, Float}
+use Rattle.std.specs.Prelude.{cond, List, ℕ, Float, Option, Some, None}
 use Rattle.numbers.specs.Operations.{◌⊕◌}
 use Rattle.day.specs.Vehicle.{route_cost, allows}
 use Rattle.day.specs.declared.vehicle.Van.{Van}
@@ -11,15 +11,13 @@ use Rattle.labels.specs.declared.label.Label.{Label}
 use Rattle.heads.specs.Head.{tour_at}
 use Rattle.heads.specs.declared.Head.{Head}
 use Rattle.cross_moves.specs.CrossDepot.{price_of}
-use Rattle.cross_moves.specs.declared.price.Price.{Price}
-use Rattle.cross_moves.specs.declared.price.Price.TheVariants.{Unallowed, Costs}
 
 -- what a list costs that ends with this label
-unfoldable pub ended_price : Van → RouteLimits → Label → Float → Float → Price
+unfoldable pub ended_price : Van → RouteLimits → Label → Float → Float → Option Float
 ended_price van limits label distance back =
-    cond (allows limits distance (label.time ⊕ back)) (Costs (route_cost van (distance ⊕ label.lateness_cost))) Unallowed
+    cond (allows limits distance (label.time ⊕ back)) (Some (route_cost van (distance ⊕ label.lateness_cost))) None
 
 -- what a list costs whose head is driven, with a part and then the tail behind it
-unfoldable pub price_on : Columns → Van → RouteLimits → Head → List ℕ → List ℕ → Price
+unfoldable pub price_on : Columns → Van → RouteLimits → Head → List ℕ → List ℕ → Option Float
 price_on c van limits head part tail =
     price_of van (evaluated limits (home c van.depot (walk c (tick c) (walk c (tick c) (tour_at head) part) tail)))

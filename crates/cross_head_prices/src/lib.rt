@@ -5,36 +5,28 @@
 ghost use Rattle.std.specs.Prelude.{◌≡◌, ◌≤◌, ◌<◌, length, drop};
 ghost use Rattle.std.proofs.Math.Seq.{slice};
 ghost use Rattle.fleet.specs.Fleet.{Driven};
-ghost use Rattle.labels.specs.Columns.{columns_at, Formed};
 ghost use Rattle.loads.specs.Loads.{Two};
 ghost use Rattle.cross_head_prices.specs.Prices.{ended_price, price_on};
+ghost use Rattle.labels.specs.Lent.{lent};
 
-use cross_moves::price::Price;
-use day::matrix::{get, travel_time};
 use day::vehicle::{RouteLimits, Van};
 use heads::{Head, drive};
+use labels::columns::Columns;
 use labels::label::Label;
 
 // What a list costs that ends with this label, if the van allows it.
-fn ended_price(van: Van, limits: RouteLimits, label: Label, distance: f64, back: f64) -> Price
+fn ended_price(van: Van, limits: RouteLimits, label: Label, distance: f64, back: f64) -> Option<f64>
     ensures { result ≡ ended_price van limits label distance back }
 {
     if limits.allow(distance, label.time + back) {
-        return Price::Costs(van.route_cost(distance + label.lateness_cost));
+        return Some(van.route_cost(distance + label.lateness_cost));
     }
-    Price::Unallowed
+    None
 }
 
 // What a list costs with no break to take: its head, then a stretch of another list, then its visits from `to` on.
 pub fn price_from(
-    l: usize,
-    flags: &[u8],
-    service: &[f64],
-    ready: &[f64],
-    due: &[f64],
-    penalty: &[f64],
-    distances: &[f64],
-    times: &[f64],
+    columns: &Columns,
     van: Van,
     limits: RouteLimits,
     head: Head,
@@ -43,42 +35,21 @@ pub fn price_from(
     other: &[u16],
     other_from: usize,
     other_to: usize,
-) -> Price
-    requires formed { Formed (columns_at l flags service ready due penalty distances times) × Driven l van × Two l list.now other.now }
-    requires place_lt_l { (head.place < l) × (to ≤ length list.now) × (other_from ≤ other_to) × (other_to ≤ length other.now) }
-    ensures { result ≡ price_on
-        (columns_at l flags.entry service.entry ready.entry due.entry penalty.entry distances.entry times.entry)
-        van
-        limits
-        head
-        (slice other_from other_to other.now)
-        (drop to list.now) }
+) -> Option<f64>
+    requires driven { Driven columns.now.locations van × Two columns.now.locations list.now other.now }
+    requires place_lt_l { (head.place < columns.now.locations) × (to ≤ length list.now) × (other_from ≤ other_to) × (other_to ≤ length other.now) }
+    ensures { result ≡ price_on (lent columns.now) van limits head (slice other_from other_to other.now) (drop to list.now) }
 {
-    let part = drive(
-        l, flags, service, ready, due, penalty, distances, times, head, other, other_from, other_to,
-    );
+    let part = drive(columns, head, other, other_from, other_to);
     if part.visits < other_to {
-        return Price::Unallowed;
+        return None;
     }
-    let whole = drive(
-        l,
-        flags,
-        service,
-        ready,
-        due,
-        penalty,
-        distances,
-        times,
-        part,
-        list,
-        to,
-        list.len(),
-    );
+    let whole = drive(columns, part, list, to, list.len());
     if whole.visits < list.len() {
-        return Price::Unallowed;
+        return None;
     }
     let depot = van.depot;
-    let distance = whole.distance + get(l, distances, whole.place, depot);
-    let back = travel_time(l, distances, times, whole.place, depot);
+    let distance = whole.distance + columns.distance(whole.place, depot);
+    let back = columns.travel_time(whole.place, depot);
     ended_price(van, limits, whole.label, distance, back)
 }

@@ -16,12 +16,10 @@ pub fn prefix_loads(l: usize, demand: &[i32], list: &[u16], loads: &mut [usize])
     ensures { Prefixed demand.now list.now loads.new }
 {
     let mut load = 0;
-    let mut k = 0;
     loads[0] = 0;
-    while k < list.len() {
+    for k in 0..list.len() {
         load += boxes_at(l, demand, list, k);
-        k += 1;
-        loads[k] = load;
+        loads[k + 1] = load;
     }
 }
 

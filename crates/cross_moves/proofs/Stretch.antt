@@ -7,6 +7,7 @@ use Prim.Native.Nat.{ℕ, ◌+◌, ◌≤◌, ◌-◌}
 use native.Mathlib.Omega.{arith}
 use lib.ListN.{length, take, drop, length-append, length-drop}
 use lib.Seq.{slice, length-take-le, length-slice}
+use Rattle.std.specs.Prelude.{Option, Some, Float}
 use Rattle.numbers.specs.Operations.{zero64}
 use Rattle.day.specs.Vehicle.{limits_of}
 use Rattle.day.specs.declared.vehicle.Van.{Van}
@@ -15,10 +16,8 @@ use Rattle.edits.specs.Total.{total, total_append}
 use Rattle.edits.proofs.Cuts.{cut}
 use Rattle.labels.specs.Columns.{Columns}
 use Rattle.evaluation.specs.Route.{eval}
-use Rattle.evaluation.specs.declared.route.Evaluation.{Evaluation}
+use Rattle.evaluation.specs.declared.route.RouteEval.{RouteEval}
 use Rattle.cross_moves.specs.CrossDepot.{price_of, priced_as, amount, replaced}
-use Rattle.cross_moves.specs.declared.price.Price.{Price}
-use Rattle.cross_moves.specs.declared.price.Price.TheVariants.{Costs}
 
 -- a list cut in three
 pub in_three : (f : ℕ → ℕ) (xs : List ℕ) (from to : ℕ) → from ≤ to
@@ -45,12 +44,12 @@ length-replaced xs from to part h k = simp (length-append, length-drop) (omega (
 -- ---- prices
 
 module _ (c : Columns) (van : Van) where
-  priced_none : (list : List ℕ) → length list ≡ 0 → Costs zero64 ≡ priced_as c van list
+  priced_none : (list : List ℕ) → length list ≡ 0 → Some zero64 ≡ priced_as c van list
   unfolding priced_as
   priced_none [] h = refl
   priced_none (visit ∷ rest) h = absurd (omega arith)
 
-  pub priced_some : (list : List ℕ) (evaluation : Evaluation) (limits : RouteLimits) (r : Price) → length list ≢ 0 → limits ≡ limits_of van
+  pub priced_some : (list : List ℕ) (evaluation : Option RouteEval) (limits : RouteLimits) (r : Option Float) → length list ≢ 0 → limits ≡ limits_of van
       → evaluation ≡ eval c limits van.depot list → r ≡ price_of van evaluation → r ≡ priced_as c van list
   unfolding priced_as
   priced_some list evaluation limits r o is-limits is-eval is = by_list list o (is ∙ ap (price_of van) (rw is-limits at is-eval))

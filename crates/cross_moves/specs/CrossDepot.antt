@@ -3,7 +3,7 @@
 --
 -- Every move exchanges a stretch of one list for a stretch of another: a relocation one visit for none, a swap one for one, a tail exchange the rest of the
 -- one for the rest of the other. So there is one `Move`, and one definition of the two lists that it makes.
-use Rattle.std.specs.Prelude.{◌≡◌, ◌⊎◌, Bool, true, false, cond, not, ◌&&◌, ◌||◌, List, [], ◌∷◌, ◌++◌, map, ℕ, zero, suc, ◌+◌, ◌≤◌, ◌<◌, eqb, leb, ltb, ℤ, nat_abs, length, get_or, set, take, drop, Float}
+use Rattle.std.specs.Prelude.{◌≡◌, ◌⊎◌, Bool, true, false, cond, not, ◌&&◌, ◌||◌, List, [], ◌∷◌, ◌++◌, map, ℕ, zero, suc, ◌+◌, ◌≤◌, ◌<◌, eqb, leb, ltb, ℤ, nat_abs, length, get_or, set, take, drop, Float, Option, Some, None}
 use Rattle.std.proofs.Math.Seq.{slice}
 use Rattle.std.specs.Float.{nan, inf}
 use Rattle.std.specs.Float.Ieee.{lt, neg}
@@ -17,14 +17,11 @@ use Rattle.lists.specs.Table.{lists, lengths_of}
 use Rattle.list_changes.specs.Edits.{at, filled}
 use Rattle.labels.specs.Columns.{Columns}
 use Rattle.evaluation.specs.Route.{eval, priced_distance}
-use Rattle.evaluation.specs.declared.route.Evaluation.{Evaluation}
-use Rattle.evaluation.specs.declared.route.Evaluation.TheVariants.{Fails, Passes}
+use Rattle.evaluation.specs.declared.route.RouteEval.{RouteEval}
 use Rattle.descent.specs.Order.{range, each}
 use Rattle.descent.specs.Search.{begins_again, Search, Judge, Sweep, Word, settled, Outcome, next, run}
 use Rattle.loads.specs.Loads.{boxes_of}
 use Rattle.fleet.specs.Fleet.{Fleet, fleet_vehicle}
-use Rattle.cross_moves.specs.declared.price.Price.{Price}
-use Rattle.cross_moves.specs.declared.price.Price.TheVariants.{Unallowed, Costs}
 use Rattle.cross_moves.specs.declared.pair.Pair.{Pair}
 use Rattle.cross_moves.specs.declared.pair.Move.{Move}
 
@@ -61,13 +58,13 @@ plan_of visits lengths ids costs = record { lists = lists visits lengths; ids = 
 -- ---- what a list costs
 
 -- a list that its van's evaluation lets pass
-unfoldable pub price_of : Van → Evaluation → Price
-price_of van Fails = Unallowed
-price_of van (Passes e) = Costs (route_cost van (priced_distance e))
+unfoldable pub price_of : Van → Option RouteEval → Option Float
+price_of van None = None
+price_of van (Some e) = Some (route_cost van (priced_distance e))
 
 -- `priced`: 'What a route costs with a vehicle, or `None` when the vehicle does not allow it (an empty route costs nothing)'
-unfoldable pub priced_as : Columns → Van → List ℕ → Price
-priced_as c van [] = Costs zero64
+unfoldable pub priced_as : Columns → Van → List ℕ → Option Float
+priced_as c van [] = Some zero64
 priced_as c van (visit ∷ rest) = price_of van (eval c (limits_of van) van.depot (visit ∷ rest))
 
 -- the load is within the van's capacity
@@ -75,18 +72,18 @@ unfoldable pub holds : List ℤ → Van → List ℕ → Bool
 holds demand van list = leb (total (boxes_of demand) list) (nat_abs van.capacity)
 
 -- the price of a list that a move makes, where its load, if it is tested, is within the capacity
-unfoldable pub allowed : Columns → List ℤ → Bool → Van → List ℕ → Price
-allowed c demand tested van list = cond (not tested || holds demand van list) (priced_as c van list) Unallowed
+unfoldable pub allowed : Columns → List ℤ → Bool → Van → List ℕ → Option Float
+allowed c demand tested van list = cond (not tested || holds demand van list) (priced_as c van list) None
 
 -- there is a price
-unfoldable pub has_price : Price → Bool
-has_price Unallowed = false
-has_price (Costs x) = true
+unfoldable pub has_price : Option Float → Bool
+has_price None = false
+has_price (Some x) = true
 
 -- the price as a number; a list that isn't allowed would never gain
-unfoldable pub amount : Price → Float
-amount Unallowed = inf false
-amount (Costs x) = x
+unfoldable pub amount : Option Float → Float
+amount None = inf false
+amount (Some x) = x
 
 -- ---- moves
 
@@ -197,10 +194,10 @@ module _ (fleet : Fleet) (p : Plan) where
 
 module _ (c : Columns) (demand : List ℤ) (fleet : Fleet) where
   -- what each of the two lists costs then, if its van allows it
-  unfoldable pub first_price : Plan → Move → Price
+  unfoldable pub first_price : Plan → Move → Option Float
   first_price p m = allowed c demand (is_tested m) (fleet_vehicle fleet (get_or p.ids m.one 0)) (first p.lists m)
 
-  unfoldable pub second_price : Plan → Move → Price
+  unfoldable pub second_price : Plan → Move → Option Float
   second_price p m = allowed c demand true (fleet_vehicle fleet (get_or p.ids m.other 0)) (second p.lists m)
 
   -- the plan after a move

@@ -4,4 +4,3 @@
 #![tactic(auto)]
 
 pub mod pair; // two lists, and a move between them
-pub mod price; // the price of a list

@@ -1,9 +1,10 @@
 // Two lists of the plan, and a move between them.
 ghost use Rattle.std.specs.Prelude.{◌≡◌, ◌≤◌, ◌<◌, length};
-ghost use Rattle.fleet.specs.Fleet.{fleet_at, Fitted};
+ghost use Rattle.fleet.specs.Fleet.{Fitted};
 ghost use Rattle.cross_moves.specs.CrossDepot.{pair_of, same_depot};
 
 use day::vehicle::Van;
+use fleet::Fleet;
 use vehicles::fleet_vehicle;
 
 // Two lists by number, their vans, and what they cost together.
@@ -30,59 +31,15 @@ pub struct Move {
 }
 
 // Lists a and b, with their vans and what they cost together.
-pub fn pair_at(
-    van_ids: &[u32],
-    depots: &[usize],
-    capacities: &[i32],
-    distance_costs: &[f64],
-    fixed_costs: &[f64],
-    van_flags: &[u8],
-    max_distances: &[f64],
-    max_durations: &[f64],
-    earliest: &[f64],
-    latest: &[f64],
-    durations: &[f64],
-    ids: &[u32],
-    costs: &[f64],
-    a: usize,
-    b: usize,
-) -> Pair
-    requires fitted { Fitted (fleet_at van_ids depots capacities distance_costs fixed_costs van_flags max_distances max_durations
-        earliest latest durations) }
-    requires nonzero { (0 < length van_ids.now) × (length van_ids.now ≤ 16) }
+pub fn pair_at(fleet: &Fleet, ids: &[u32], costs: &[f64], a: usize, b: usize) -> Pair
+    requires fitted { Fitted fleet.now }
+    requires nonzero { (0 < length fleet.now.ids) × (length fleet.now.ids ≤ 16) }
     requires a_in_bounds { (a < length ids.now) × (b < length ids.now) × (length costs.now ≡ length ids.now) × (length ids.now ≤ 16) }
-    ensures { result ≡ pair_of (fleet_at van_ids.entry depots.entry capacities.entry distance_costs.entry fixed_costs.entry van_flags.entry
-        max_distances.entry max_durations.entry earliest.entry latest.entry durations.entry)
+    ensures { result ≡ pair_of fleet.now
         ids.now costs.now a b }
 {
-    let van1 = fleet_vehicle(
-        van_ids,
-        depots,
-        capacities,
-        distance_costs,
-        fixed_costs,
-        van_flags,
-        max_distances,
-        max_durations,
-        earliest,
-        latest,
-        durations,
-        ids[a],
-    );
-    let van2 = fleet_vehicle(
-        van_ids,
-        depots,
-        capacities,
-        distance_costs,
-        fixed_costs,
-        van_flags,
-        max_distances,
-        max_durations,
-        earliest,
-        latest,
-        durations,
-        ids[b],
-    );
+    let van1 = fleet_vehicle(fleet, ids[a]);
+    let van2 = fleet_vehicle(fleet, ids[b]);
     Pair {
         one: a,
         other: b,

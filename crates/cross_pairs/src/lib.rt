@@ -5,7 +5,6 @@
 #![tactic(auto)]
 
 ghost use Rattle.std.specs.Prelude.{◌≡◌, ◌+◌, length, take, drop};
-ghost use Rattle.labels.specs.Columns.{columns_at, Formed};
 ghost use Rattle.kept_heads.specs.Kept.{Kept};
 ghost use Rattle.cross_moves.specs.Boxes.{Prefixed};
 ghost use Rattle.loads.specs.Loads.{Two, Loaded};
@@ -14,6 +13,7 @@ ghost use Rattle.cross_choices.specs.Scan.{Asked, Paired, Ready, Roomy, best_bet
 ghost use Rattle.cross_choices.specs.Rows.{best_of_row, best_of_kind};
 ghost use Rattle.cross_blocks.specs.Blocks.{Block};
 ghost use Rattle.cross_pairs.specs.Kinds.{kind_at, kinds_of};
+ghost use Rattle.labels.specs.Lent.{lent};
 
 use cross_blocks::{block_costs, entries_of, mark_block, rows_at_once, width_of};
 use cross_choices::{Choice, choose_of_block, is_shut, least_of};
@@ -22,18 +22,12 @@ use cross_kinds::load::prefix_loads;
 use cross_moves::pair::Pair;
 use day::vehicle::Van;
 use kept_heads::fill_heads;
+use labels::columns::Columns;
 
 // The best after the rows of a block, of `width` entries each, from row k on.
 fn best_of_block(
-    l: usize,
-    flags: &[u8],
+    columns: &Columns,
     demand: &[i32],
-    service: &[f64],
-    ready: &[f64],
-    due: &[f64],
-    penalty: &[f64],
-    distances: &[f64],
-    times: &[f64],
     pair: Pair,
     van1: Van,
     van2: Van,
@@ -53,28 +47,36 @@ fn best_of_block(
     rows: usize,
     best: Choice,
 ) -> Choice
-    requires ready { Ready (columns_at l flags service ready due penalty distances times) demand.now pair one.now other.now loads1.now loads2.now
-        heads1.now heads2.now reached1 reached2 }
+    requires ready { Ready (lent columns.now) demand.now pair one.now other.now loads1.now loads2.now heads1.now heads2.now reached1 reached2 }
     requires roomy { Roomy costs1.old costs2.old × Block kind (length one.now) (length other.now) k width rows
         × (van1 ≡ pair.van1) × (van2 ≡ pair.van2) }
-    ensures { result ≡ scan (best_of_row
-        (columns_at l flags.entry service.entry ready.entry due.entry penalty.entry distances.entry times.entry)
+    ensures { result ≡ scan (best_of_row (lent columns.now)
         demand.now pair one.now other.now kind) (range k (k + rows)) best }
 {
     mark_block(
-        l, demand, van1, van2, one, other, loads1, loads2, kind, k, width, rows, costs2,
+        columns.locations,
+        demand,
+        van1,
+        van2,
+        one,
+        other,
+        loads1,
+        loads2,
+        kind,
+        k,
+        width,
+        rows,
+        costs2,
     );
     block_costs(
-        l, flags, service, ready, due, penalty, distances, times, van1, heads1, reached1, one,
-        other, kind, false, k, width, rows, costs2, costs1,
+        columns, van1, heads1, reached1, one, other, kind, false, k, width, rows, costs2, costs1,
     );
     let count = entries_of(kind, one.len(), other.len(), k, width, rows);
     if is_shut(costs1, count) {
         return best;
     }
     block_costs(
-        l, flags, service, ready, due, penalty, distances, times, van2, heads2, reached2, other,
-        one, kind, true, k, width, rows, costs1, costs2,
+        columns, van2, heads2, reached2, other, one, kind, true, k, width, rows, costs1, costs2,
     );
     let least = least_of(pair.before, count, costs1, costs2, best.delta);
     choose_of_block(
@@ -94,15 +96,8 @@ fn best_of_block(
 
 // The best after all moves of a kind.
 fn best_of_kind(
-    l: usize,
-    flags: &[u8],
+    columns: &Columns,
     demand: &[i32],
-    service: &[f64],
-    ready: &[f64],
-    due: &[f64],
-    penalty: &[f64],
-    distances: &[f64],
-    times: &[f64],
     pair: Pair,
     one: &[u16],
     other: &[u16],
@@ -117,12 +112,9 @@ fn best_of_kind(
     kind: Kind,
     best: Choice,
 ) -> Choice
-    requires ready { Ready (columns_at l flags service ready due penalty distances times) demand.now pair one.now other.now loads1.now loads2.now
-        heads1.now heads2.now reached1 reached2 }
+    requires ready { Ready (lent columns.now) demand.now pair one.now other.now loads1.now loads2.now heads1.now heads2.now reached1 reached2 }
     requires roomy { Roomy costs1.old costs2.old }
-    ensures { result ≡ best_of_kind
-        (columns_at l flags.entry service.entry ready.entry due.entry penalty.entry distances.entry times.entry)
-        demand.now pair one.now other.now kind best }
+    ensures { result ≡ best_of_kind (lent columns.now) demand.now pair one.now other.now kind best }
 {
     let van1 = pair.van1;
     let van2 = pair.van2;
@@ -133,9 +125,8 @@ fn best_of_kind(
     while k < rows {
         let some = rows_at_once(width, rows - k);
         found = best_of_block(
-            l, flags, demand, service, ready, due, penalty, distances, times, pair, van1, van2,
-            one, other, loads1, loads2, heads1, heads2, reached1, reached2, costs1, costs2, kind,
-            k, width, some, found,
+            columns, demand, pair, van1, van2, one, other, loads1, loads2, heads1, heads2,
+            reached1, reached2, costs1, costs2, kind, k, width, some, found,
         );
         k += some;
     }
@@ -167,15 +158,8 @@ fn kinds_of(pair: Pair) -> usize
 
 // The best after all moves between two lists whose loads and heads are known.
 fn best_of_kinds(
-    l: usize,
-    flags: &[u8],
+    columns: &Columns,
     demand: &[i32],
-    service: &[f64],
-    ready: &[f64],
-    due: &[f64],
-    penalty: &[f64],
-    distances: &[f64],
-    times: &[f64],
     pair: Pair,
     one: &[u16],
     other: &[u16],
@@ -189,27 +173,16 @@ fn best_of_kinds(
     costs2: &mut [f64],
     best: Choice,
 ) -> Choice
-    requires ready { Ready (columns_at l flags service ready due penalty distances times) demand.now pair one.now other.now loads1.now loads2.now
-        heads1.now heads2.now reached1 reached2 }
+    requires ready { Ready (lent columns.now) demand.now pair one.now other.now loads1.now loads2.now heads1.now heads2.now reached1 reached2 }
     requires roomy { Roomy costs1.old costs2.old }
-    ensures { result ≡ best_between
-        (columns_at l flags.entry service.entry ready.entry due.entry penalty.entry distances.entry times.entry)
-        demand.now pair one.now other.now best }
+    ensures { result ≡ best_between (lent columns.now) demand.now pair one.now other.now best }
 {
     let kinds = kinds_of(pair);
     let mut found = best;
-    let mut n = 0;
-    while n < kinds {
+    for n in 0..kinds {
         found = best_of_kind(
-            l,
-            flags,
+            columns,
             demand,
-            service,
-            ready,
-            due,
-            penalty,
-            distances,
-            times,
             pair,
             one,
             other,
@@ -224,7 +197,6 @@ fn best_of_kinds(
             kind_at(n),
             found,
         );
-        n += 1;
     }
     found
 }
@@ -248,53 +220,21 @@ pub struct Reach {
 
 // The heads of two lists, in the first and the second 256 entries of the table.
 fn heads_of_both(
-    l: usize,
-    flags: &[u8],
-    service: &[f64],
-    ready: &[f64],
-    due: &[f64],
-    penalty: &[f64],
-    distances: &[f64],
-    times: &[f64],
+    columns: &Columns,
     pair: Pair,
     one: &[u16],
     other: &[u16],
     heads: &mut [f64],
 ) -> Reach
-    requires formed { Formed (columns_at l flags service ready due penalty distances times) × Paired l pair × Two l one.now other.now }
+    requires paired { Paired columns.now.locations pair × Two columns.now.locations one.now other.now }
     requires heads_len { length heads.old ≡ 512 }
-    ensures { let c = columns_at l flags.entry service.entry ready.entry due.entry penalty.entry distances.entry times.entry in
-        Kept c pair.van1.depot one.now (take 256 heads.new) result.one
+    ensures { let c = lent columns.now in Kept c pair.van1.depot one.now (take 256 heads.new) result.one
         × Kept c pair.van2.depot other.now (take 256 (drop 256 heads.new)) result.other }
 {
     let depot1 = pair.van1.depot;
     let depot2 = pair.van2.depot;
-    let reached1 = fill_heads(
-        l,
-        flags,
-        service,
-        ready,
-        due,
-        penalty,
-        distances,
-        times,
-        depot1,
-        one,
-        &mut heads[0..256],
-    );
-    let reached2 = fill_heads(
-        l,
-        flags,
-        service,
-        ready,
-        due,
-        penalty,
-        distances,
-        times,
-        depot2,
-        other,
-        &mut heads[256..512],
-    );
+    let reached1 = fill_heads(columns, depot1, one, &mut heads[0..256]);
+    let reached2 = fill_heads(columns, depot2, other, &mut heads[256..512]);
     Reach {
         one: reached1,
         other: reached2,
@@ -303,15 +243,8 @@ fn heads_of_both(
 
 // The best after every move between two lists. The tables are room for the prefix loads and the heads of both, and for what the lists of a row cost.
 pub fn between_lists(
-    l: usize,
-    flags: &[u8],
+    columns: &Columns,
     demand: &[i32],
-    service: &[f64],
-    ready: &[f64],
-    due: &[f64],
-    penalty: &[f64],
-    distances: &[f64],
-    times: &[f64],
     pair: Pair,
     one: &[u16],
     other: &[u16],
@@ -320,27 +253,16 @@ pub fn between_lists(
     costs: &mut [f64],
     best: Choice,
 ) -> Choice
-    requires asked { Asked (columns_at l flags service ready due penalty distances times) demand.now × Paired l pair × Two l one.now other.now }
+    requires asked { Asked (lent columns.now) demand.now × Paired columns.now.locations pair × Two columns.now.locations one.now other.now }
     requires sums_len { (length sums.old ≡ 128) × (length heads.old ≡ 512) × (length costs.old ≡ 64) }
-    ensures { result ≡ best_between
-        (columns_at l flags.entry service.entry ready.entry due.entry penalty.entry distances.entry times.entry)
-        demand.now pair one.now other.now best }
+    ensures { result ≡ best_between (lent columns.now) demand.now pair one.now other.now best }
 {
-    prefix_both(l, demand, one, other, sums);
-    let reach = heads_of_both(
-        l, flags, service, ready, due, penalty, distances, times, pair, one, other, heads,
-    );
+    prefix_both(columns.locations, demand, one, other, sums);
+    let reach = heads_of_both(columns, pair, one, other, heads);
     let mut costs1 = [0.0; 64];
     best_of_kinds(
-        l,
-        flags,
+        columns,
         demand,
-        service,
-        ready,
-        due,
-        penalty,
-        distances,
-        times,
         pair,
         one,
         other,

@@ -7,6 +7,7 @@ use Prim.Native.Nat.{ℕ, ◌+◌, ◌≤◌, ◌-◌}
 use native.Mathlib.Omega.{arith}
 use lib.ListN.{length, take, drop, length-append, length-drop}
 use lib.Seq.{slice, length-take-le, length-slice}
+use Rattle.std.specs.Prelude.{Option, Some, Float}
 use Rattle.numbers.specs.Operations.{zero64}
 use Rattle.day.specs.Vehicle.{limits_of}
 use Rattle.day.specs.declared.vehicle.Van.{Van}
@@ -15,13 +16,11 @@ use Rattle.edits.specs.Total.{total, total_append}
 use Rattle.edits.proofs.Cuts.{cut, to_end}
 use Rattle.labels.specs.Columns.{Columns, Visits}
 use Rattle.evaluation.specs.Route.{eval}
-use Rattle.evaluation.specs.declared.route.Evaluation.{Evaluation}
+use Rattle.evaluation.specs.declared.route.RouteEval.{RouteEval}
 use Rattle.descent.proofs.Below.{over, Below, below_of}
 use Rattle.cross_moves.specs.CrossDepot.{price_of, priced_as, replaced}
 use Rattle.loads.specs.Loads.{Two}
 use Rattle.loads.proofs.Visits.{visits_of}
-use Rattle.cross_moves.specs.declared.price.Price.{Price}
-use Rattle.cross_moves.specs.declared.price.Price.TheVariants.{Costs}
 
 -- a list cut in three
 pub in_three : (f : ℕ → ℕ) (xs : List ℕ) (from to : ℕ) → from ≤ to
@@ -65,15 +64,15 @@ built X part from to e f g = rw (g, f, e, to_end to X)
 -- ---- prices
 
 module _ (c : Columns) (van : Van) (list : List ℕ) where
-  pub priced_none : length list ≡ 0 → Costs zero64 ≡ priced_as c van list
+  pub priced_none : length list ≡ 0 → Some zero64 ≡ priced_as c van list
   unfolding priced_as
   priced_none h = by_list list h
     where
-      by_list : (xs : List ℕ) → length xs ≡ 0 → Costs zero64 ≡ priced_as c van xs
+      by_list : (xs : List ℕ) → length xs ≡ 0 → Some zero64 ≡ priced_as c van xs
       by_list [] h = refl
       by_list (x ∷ xs) h = absurd (omega arith)
 
-  pub priced_some : (evaluation : Evaluation) (limits : RouteLimits) (r : Price) → length list ≢ 0 → limits ≡ limits_of van
+  pub priced_some : (evaluation : Option RouteEval) (limits : RouteLimits) (r : Option Float) → length list ≢ 0 → limits ≡ limits_of van
       → evaluation ≡ eval c limits van.depot list → r ≡ price_of van evaluation → r ≡ priced_as c van list
   unfolding priced_as
   priced_some evaluation limits r o is-limits is-eval is = by_list list o (is ∙ ap (price_of van) (rw is-limits at is-eval))

@@ -5,17 +5,18 @@
 
 ghost use Rattle.std.specs.Prelude.{◌≡◌, ◌≤◌, ◌<◌, length};
 ghost use Rattle.fleet.specs.Fleet.{Driven};
-ghost use Rattle.labels.specs.Columns.{columns_at, Formed};
 ghost use Rattle.kept_heads.specs.Kept.{Kept};
 ghost use Rattle.loads.specs.Loads.{Two};
 ghost use Rattle.cross_candidates.specs.Candidate.{Unbroken};
 ghost use Rattle.cross_broken_prices.specs.Broken.{Broken};
 ghost use Rattle.cross_rows.specs.Row.{from_at, to_at, Rowed, Costed};
+ghost use Rattle.labels.specs.Lent.{lent};
 
 use broken_heads::broken_start;
 use cross_broken_prices::broken_candidate;
 use cross_candidates::candidate_cost;
-use day::vehicle::{Rest, RouteLimits, Van, VehicleBreak};
+use day::vehicle::{RouteLimits, Van, VehicleBreak};
+use labels::columns::Columns;
 use numbers::infinite;
 
 // The stretch of a list that each candidate of a row changes: where that of the first begins and ends, and by how much (0 or 1) that of the next does so later.
@@ -45,14 +46,7 @@ pub fn end_at(stretch: Stretch, j: usize) -> usize
 
 // The costs of a row with no break to take.
 fn unbroken_row(
-    l: usize,
-    flags: &[u8],
-    service: &[f64],
-    ready: &[f64],
-    due: &[f64],
-    penalty: &[f64],
-    distances: &[f64],
-    times: &[f64],
+    columns: &Columns,
     van: Van,
     limits: RouteLimits,
     heads: &[f64],
@@ -65,33 +59,16 @@ fn unbroken_row(
     count: usize,
     costs: &mut [f64],
 )
-    requires formed { Formed (columns_at l flags service ready due penalty distances times) × Driven l van × Two l list.now other.now }
-    requires unbroken { Unbroken van limits × Kept (columns_at l flags service ready due penalty distances times) van.depot list.now heads.now reached }
+    requires driven { Driven columns.now.locations van × Two columns.now.locations list.now other.now }
+    requires unbroken { Unbroken van limits × Kept (lent columns.now) van.depot list.now heads.now reached }
     requires rowed { Rowed (length list.now) (length other.now) own others count × (count ≤ length skip.now) × (count ≤ length costs.old) }
-    ensures { Costed
-        (columns_at l flags.entry service.entry ready.entry due.entry penalty.entry distances.entry times.entry)
-        van
-        list.now
-        own
-        other.now
-        others
-        skip.now
-        count
-        costs.new }
+    ensures { Costed (lent columns.now) van list.now own other.now others skip.now count costs.new }
 {
-    let mut j = 0;
-    while j < count {
+    for j in 0..count {
         let mut cost = infinite();
         if skip[j] < infinite() {
             cost = candidate_cost(
-                l,
-                flags,
-                service,
-                ready,
-                due,
-                penalty,
-                distances,
-                times,
+                columns,
                 van,
                 limits,
                 heads,
@@ -105,20 +82,12 @@ fn unbroken_row(
             );
         }
         costs[j] = cost;
-        j += 1;
     }
 }
 
 // The costs of a row with a break to take. The head goes on to where the stretch of each candidate that is asked for begins.
 fn broken_row(
-    l: usize,
-    flags: &[u8],
-    service: &[f64],
-    ready: &[f64],
-    due: &[f64],
-    penalty: &[f64],
-    distances: &[f64],
-    times: &[f64],
+    columns: &Columns,
     van: Van,
     limits: RouteLimits,
     rest: VehicleBreak,
@@ -130,26 +99,14 @@ fn broken_row(
     count: usize,
     costs: &mut [f64],
 )
-    requires formed { Formed (columns_at l flags service ready due penalty distances times) × Driven l van × Two l list.now other.now }
+    requires driven { Driven columns.now.locations van × Two columns.now.locations list.now other.now }
     requires broken { Broken van limits rest }
     requires rowed { Rowed (length list.now) (length other.now) own others count × (count ≤ length skip.now) × (count ≤ length costs.old) }
-    ensures { Costed
-        (columns_at l flags.entry service.entry ready.entry due.entry penalty.entry distances.entry times.entry)
-        van
-        list.now
-        own
-        other.now
-        others
-        skip.now
-        count
-        costs.new }
+    ensures { Costed (lent columns.now) van list.now own other.now others skip.now count costs.new }
 {
     let mut head = broken_start(rest, van.depot);
     let mut driven = 0;
-    let mut next = 0;
-    while next < count {
-        let j = next;
-        next += 1;
+    for j in 0..count {
         costs[j] = infinite();
         let asked = skip[j] < infinite();
         if !asked {
@@ -157,14 +114,7 @@ fn broken_row(
         }
         let from = start_at(own, j);
         let priced = broken_candidate(
-            l,
-            flags,
-            service,
-            ready,
-            due,
-            penalty,
-            distances,
-            times,
+            columns,
             van,
             limits,
             rest,
@@ -185,14 +135,7 @@ fn broken_row(
 
 // What each candidate of a row costs, infinite where the van doesn't allow its list or its mark in `skip` is infinite; `heads` has those of the list.
 pub fn row_costs(
-    l: usize,
-    flags: &[u8],
-    service: &[f64],
-    ready: &[f64],
-    due: &[f64],
-    penalty: &[f64],
-    distances: &[f64],
-    times: &[f64],
+    columns: &Columns,
     van: Van,
     heads: &[f64],
     reached: usize,
@@ -204,31 +147,20 @@ pub fn row_costs(
     count: usize,
     costs: &mut [f64],
 )
-    requires formed { Formed (columns_at l flags service ready due penalty distances times) × Driven l van × Two l list.now other.now }
-    requires kept { Kept (columns_at l flags service ready due penalty distances times) van.depot list.now heads.now reached
+    requires driven { Driven columns.now.locations van × Two columns.now.locations list.now other.now }
+    requires kept { Kept (lent columns.now) van.depot list.now heads.now reached
         × Rowed (length list.now) (length other.now) own others count }
     requires count_in_bounds { (count ≤ length skip.now) × (count ≤ length costs.old) }
-    ensures { Costed
-        (columns_at l flags.entry service.entry ready.entry due.entry penalty.entry distances.entry times.entry)
-        van
-        list.now
-        own
-        other.now
-        others
-        skip.now
-        count
-        costs.new }
+    ensures { Costed (lent columns.now) van list.now own other.now others skip.now count costs.new }
 {
     let limits = RouteLimits::of(van);
     let rest = limits.rest;
     match rest {
-        Rest::NoBreak => unbroken_row(
-            l, flags, service, ready, due, penalty, distances, times, van, limits, heads, reached,
-            list, own, other, others, skip, count, costs,
+        None => unbroken_row(
+            columns, van, limits, heads, reached, list, own, other, others, skip, count, costs,
         ),
-        Rest::Break(pause) => broken_row(
-            l, flags, service, ready, due, penalty, distances, times, van, limits, pause, list,
-            own, other, others, skip, count, costs,
+        Some(pause) => broken_row(
+            columns, van, limits, pause, list, own, other, others, skip, count, costs,
         ),
     }
 }

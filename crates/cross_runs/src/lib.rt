@@ -7,17 +7,19 @@ ghost use Rattle.std.specs.Prelude.{◌≡◌, cond, length};
 ghost use Rattle.numbers.specs.Floor.{gain_floor};
 ghost use Rattle.day.specs.Matrix.{scale_of};
 ghost use Rattle.edits.specs.Total.{SameVisits};
-ghost use Rattle.labels.specs.Columns.{columns_at};
 ghost use Rattle.engine.specs.declared.Ended.TheVariants.{Settled, Stopped};
-ghost use Rattle.fleet.specs.Fleet.{fleet_at, Manned};
+ghost use Rattle.fleet.specs.Fleet.{Manned};
 ghost use Rattle.cross_moves.specs.CrossDepot.{run_of, ran_of, plan_of};
 ghost use Rattle.loads.specs.Loads.{Held};
 ghost use Rattle.cross_choices.specs.Scan.{Asked};
 ghost use Rattle.cross_steps.specs.Tables.{has_found};
 ghost use Rattle.cross_runs.specs.Tables.{Handed, crossed_of};
+ghost use Rattle.labels.specs.Lent.{lent};
 
 use cross_steps::{Turn, before_turns, take_turn};
 use engine::Ended;
+use fleet::Fleet;
+use labels::columns::Columns;
 
 // How a run ended, and how many lists remain.
 #[derive(Clone, Copy)]
@@ -45,26 +47,9 @@ fn ended_at(turn: Turn, moves: u32) -> Crossed
 
 // Makes move after move until none is left or the limit is used up. The first lists of the tables, so many as are left, are the plan's.
 pub fn descend(
-    l: usize,
-    flags: &[u8],
+    columns: &Columns,
     demand: &[i32],
-    service: &[f64],
-    ready: &[f64],
-    due: &[f64],
-    penalty: &[f64],
-    distances: &[f64],
-    times: &[f64],
-    van_ids: &[u32],
-    depots: &[usize],
-    capacities: &[i32],
-    distance_costs: &[f64],
-    fixed_costs: &[f64],
-    van_flags: &[u8],
-    max_distances: &[f64],
-    max_durations: &[f64],
-    earliest: &[f64],
-    latest: &[f64],
-    durations: &[f64],
+    fleet: &Fleet,
     floor: f64,
     visits: &mut [u16],
     lengths: &mut [u16],
@@ -76,17 +61,14 @@ pub fn descend(
     heads: &mut [f64],
     tried_costs: &mut [f64],
 ) -> Crossed
-    requires asked { Asked (columns_at l flags service ready due penalty distances times) demand.now × (floor ≡ gain_floor (scale_of distances.now)) }
-    requires manned { Manned l (fleet_at van_ids depots capacities distance_costs fixed_costs van_flags max_distances max_durations
-        earliest latest durations) }
-    requires held { Held l visits.old lengths.old × (length ids.old ≡ length lengths.old) × (length costs.old ≡ length lengths.old) }
+    requires asked { Asked (lent columns.now) demand.now × (floor ≡ gain_floor (scale_of columns.now.distances.now)) }
+    requires manned { Manned columns.now.locations fleet.now }
+    requires held { Held columns.now.locations visits.old lengths.old × (length ids.old ≡ length lengths.old) × (length costs.old ≡ length lengths.old) }
     requires sums_len { (length sums.old ≡ 128) × (length heads.old ≡ 512) × (length tried_costs.old ≡ 64) }
     requires deltas_len { length deltas.old ≡ 256 }
-    ensures { let ran = ran_of (run_of
-        (columns_at l flags.entry service.entry ready.entry due.entry penalty.entry distances.entry times.entry)
+    ensures { let ran = ran_of (run_of (lent columns.now)
         demand.now
-        (fleet_at van_ids.entry depots.entry capacities.entry distance_costs.entry fixed_costs.entry van_flags.entry
-        max_distances.entry max_durations.entry earliest.entry latest.entry durations.entry)
+        fleet.now
         limit (plan_of visits.old lengths.old ids.old costs.old))
         in (result ≡ crossed_of ran)
         × Handed ran.lists ran.ids (length lengths.old) visits.new lengths.new ids.new
@@ -96,26 +78,9 @@ pub fn descend(
     let mut moves = 0;
     loop {
         turn = take_turn(
-            l,
-            flags,
+            columns,
             demand,
-            service,
-            ready,
-            due,
-            penalty,
-            distances,
-            times,
-            van_ids,
-            depots,
-            capacities,
-            distance_costs,
-            fixed_costs,
-            van_flags,
-            max_distances,
-            max_durations,
-            earliest,
-            latest,
-            durations,
+            fleet,
             floor,
             visits,
             lengths,

@@ -8,6 +8,7 @@ use lib.Dec.{ltb}
 use lib.IntN.{ℤ}
 use lib.ListN.{length}
 use lib.Ieee.{Float, lt, neg}
+use Rattle.std.specs.Prelude.{Option, Some, None}
 use Rattle.tests.specs.All.{and_right}
 use Rattle.numbers.specs.Operations.{◌⊕◌, ◌⊖◌}
 use Rattle.numbers.specs.Floor.{gain_floor}
@@ -22,8 +23,6 @@ use Rattle.cross_moves.specs.CrossDepot.{between_lists, of_pair, moves}
 use Rattle.cross_moves.specs.CrossDepot.{has_price, amount, first_price, second_price, search_of, judge_of}
 use Rattle.cross_choices.specs.Scan.{decided, better, try_relocation, try_exchange, relocate_row, exchange_row, best_relocation, best_swap, best_tails}
 use Rattle.cross_choices.specs.Scan.{best_exchange, best_between, best_of_pair, best_from, best_of, better_in, nothing, is_found, move_of}
-use Rattle.cross_moves.specs.declared.price.Price.{Price}
-use Rattle.cross_moves.specs.declared.price.Price.TheVariants.{Unallowed, Costs}
 use Rattle.cross_moves.specs.declared.pair.Pair.{Pair}
 use Rattle.cross_moves.specs.declared.pair.Move.{Move}
 use Rattle.cross_choices.specs.declared.Choice.{Choice}
@@ -180,21 +179,21 @@ module _ (c : Columns) (demand : List ℤ) (fleet : Fleet) (p : Plan) where
           still = record { figured = is; counted = counted_better delta pass bound (move_of best) m good.counted tested; costs = λ found. (is_x, is_y) };
         }
 
-    pass_is : (q1 q2 : Price) → first_price c demand fleet p m ≡ q1 → second_price c demand fleet p m ≡ q2 → pass m ≡ (has_price q1 && has_price q2)
+    pass_is : (q1 q2 : Option Float) → first_price c demand fleet p m ≡ q1 → second_price c demand fleet p m ≡ q2 → pass m ≡ (has_price q1 && has_price q2)
     unfolding search_of
     pass_is q1 q2 e f = rw (e, f)
 
-    delta_is : (q1 q2 : Price) → first_price c demand fleet p m ≡ q1 → second_price c demand fleet p m ≡ q2
+    delta_is : (q1 q2 : Option Float) → first_price c demand fleet p m ≡ q1 → second_price c demand fleet p m ≡ q2
         → amount q1 ⊕ amount q2 ⊖ (pair_of fleet p.ids p.costs m.one m.other).before ≡ delta m
     unfolding judge_of pair_of
     delta_is q1 q2 e f = rw (e, f)
 
-    by_prices : (q1 : Price) → first_price c demand fleet p m ≡ q1 → (q2 : Price) → second_price c demand fleet p m ≡ q2
+    by_prices : (q1 : Option Float) → first_price c demand fleet p m ≡ q1 → (q2 : Option Float) → second_price c demand fleet p m ≡ q2
         → Turned m ms best (decided (pair_of fleet p.ids p.costs m.one m.other) m q1 q2 best)
     unfolding decided has_price amount
-    by_prices Unallowed e q2 f = not_passed (pass_is Unallowed q2 e f)
-    by_prices (Costs x) e Unallowed f = not_passed (pass_is (Costs x) Unallowed e f)
-    by_prices (Costs x) e (Costs y) f = by_test (lt d best.delta) refl
+    by_prices None e q2 f = not_passed (pass_is None q2 e f)
+    by_prices (Some x) e None f = not_passed (pass_is (Some x) None e f)
+    by_prices (Some x) e (Some y) f = by_test (lt d best.delta) refl
       where
         d : Float
         d = x ⊕ y ⊖ (pair_of fleet p.ids p.costs m.one m.other).before
@@ -202,8 +201,8 @@ module _ (c : Columns) (demand : List ℤ) (fleet : Fleet) (p : Plan) where
         by_test : (t : Bool) → lt d best.delta ≡ t
             → Turned m ms best (cond t (record { found = 1; chosen = m; delta = d; cost1 = x; cost2 = y }) best)
         by_test true t =
-            is_better d x y (delta_is (Costs x) (Costs y) e f) t (pass_is (Costs x) (Costs y) e f) (sym (ap amount e)) (sym (ap amount f))
-        by_test false t = not_less d (delta_is (Costs x) (Costs y) e f) t
+            is_better d x y (delta_is (Some x) (Some y) e f) t (pass_is (Some x) (Some y) e f) (sym (ap amount e)) (sym (ap amount f))
+        by_test false t = not_less d (delta_is (Some x) (Some y) e f) t
 
     turn : Turned m ms best (better_in c demand fleet p m best)
     unfolding better_in better first_price second_price pair_of

@@ -8,6 +8,7 @@ use Prim.Native.Nat.{ℕ}
 use lib.Dec.{T}
 use lib.IntN.{ℤ}
 use lib.Ieee.{Float, lt, le, neg}
+use Rattle.std.specs.Prelude.{Option, Some, None}
 use Rattle.numbers.specs.Operations.{◌⊕◌, ◌⊖◌}
 use Rattle.numbers.specs.Value.{ordered}
 use Rattle.numbers.proofs.Total as Total
@@ -15,8 +16,6 @@ use Rattle.labels.specs.Columns.{Columns}
 use Rattle.descent.proofs.Members.{T_true, true-T}
 use Rattle.fleet.specs.Fleet.{Fleet}
 use Rattle.cross_moves.specs.CrossDepot.{Plan, of_pair}
-use Rattle.cross_moves.specs.declared.price.Price.{Price}
-use Rattle.cross_moves.specs.declared.price.Price.TheVariants.{Unallowed, Costs}
 use Rattle.cross_moves.specs.declared.pair.Pair.{Pair}
 use Rattle.cross_moves.specs.declared.pair.Move.{Move}
 use Rattle.descent.specs.Order.{scan}
@@ -139,11 +138,11 @@ module _ {A : Type 0} (f : A → Choice → Choice) (tries : (m : A) → Tries (
 
 -- ---- the pairs of lists
 
-tries_decided : (pair : Pair) (m : Move) (q1 q2 : Price) → Tries (decided pair m q1 q2)
+tries_decided : (pair : Pair) (m : Move) (q1 q2 : Option Float) → Tries (decided pair m q1 q2)
 unfolding decided joined
-tries_decided pair m Unallowed q2 = inl (λ z. refl)
-tries_decided pair m (Costs x) Unallowed = inl (λ z. refl)
-tries_decided pair m (Costs x) (Costs y) =
+tries_decided pair m None q2 = inl (λ z. refl)
+tries_decided pair m (Some x) None = inl (λ z. refl)
+tries_decided pair m (Some x) (Some y) =
     let new : Choice = record { found = 1; chosen = m; delta = x ⊕ y ⊖ pair.before; cost1 = x; cost2 = y } in
     inr (new, λ z. refl)
 

@@ -4,42 +4,26 @@
 #![tactic(auto)]
 
 ghost use Rattle.std.specs.Prelude.{◌≡◌, ◌+◌, ◌*◌, ◌<◌, length, set};
-ghost use Rattle.labels.specs.Columns.{columns_at};
 ghost use Rattle.cross_moves.specs.CrossDepot.{plan_of};
 ghost use Rattle.loads.specs.Loads.{Held};
 ghost use Rattle.cross_choices.specs.Scan.{Asked, nothing, best_of_pair, best_from, best_of};
-ghost use Rattle.fleet.specs.Fleet.{fleet_at, Manned};
+ghost use Rattle.fleet.specs.Fleet.{Manned};
 ghost use Rattle.cross_deltas.specs.Deltas.{least_of, Sunk, Kept};
+ghost use Rattle.labels.specs.Lent.{lent};
 
 use cross_choices::Choice;
 use cross_deltas::{are_old, better_of, no_choice};
 use cross_moves::pair::{is_same_depot, pair_at};
 use cross_pairs::between_lists;
+use fleet::Fleet;
+use labels::columns::Columns;
 use lists::list_of;
-use tests::both;
 
 // The best after every move between lists a and b, if their vans start from different depots.
 fn best_of_pair(
-    l: usize,
-    flags: &[u8],
+    columns: &Columns,
     demand: &[i32],
-    service: &[f64],
-    ready: &[f64],
-    due: &[f64],
-    penalty: &[f64],
-    distances: &[f64],
-    times: &[f64],
-    van_ids: &[u32],
-    depots: &[usize],
-    capacities: &[i32],
-    distance_costs: &[f64],
-    fixed_costs: &[f64],
-    van_flags: &[u8],
-    max_distances: &[f64],
-    max_durations: &[f64],
-    earliest: &[f64],
-    latest: &[f64],
-    durations: &[f64],
+    fleet: &Fleet,
     visits: &[u16],
     lengths: &[u16],
     ids: &[u32],
@@ -51,51 +35,25 @@ fn best_of_pair(
     heads: &mut [f64],
     tried_costs: &mut [f64],
 ) -> Choice
-    requires asked { Asked (columns_at l flags service ready due penalty distances times) demand.now }
-    requires manned { Manned l (fleet_at van_ids depots capacities distance_costs fixed_costs van_flags max_distances max_durations
-        earliest latest durations) }
-    requires held { Held l visits.now lengths.now × (length ids.now ≡ length lengths.now) × (length costs.now ≡ length lengths.now) }
+    requires asked { Asked (lent columns.now) demand.now }
+    requires manned { Manned columns.now.locations fleet.now }
+    requires held { Held columns.now.locations visits.now lengths.now × (length ids.now ≡ length lengths.now) × (length costs.now ≡ length lengths.now) }
     requires a_in_bounds { (a < length lengths.now) × (b < length lengths.now) }
     requires sums_len { (length sums.old ≡ 128) × (length heads.old ≡ 512) × (length tried_costs.old ≡ 64) }
-    ensures { result ≡ best_of_pair
-        (columns_at l flags.entry service.entry ready.entry due.entry penalty.entry distances.entry times.entry)
+    ensures { result ≡ best_of_pair (lent columns.now)
         demand.now
-        (fleet_at van_ids.entry depots.entry capacities.entry distance_costs.entry fixed_costs.entry van_flags.entry
-        max_distances.entry max_durations.entry earliest.entry latest.entry durations.entry)
+        fleet.now
         (plan_of visits.now lengths.now ids.now costs.now) a b best }
 {
-    let pair = pair_at(
-        van_ids,
-        depots,
-        capacities,
-        distance_costs,
-        fixed_costs,
-        van_flags,
-        max_distances,
-        max_durations,
-        earliest,
-        latest,
-        durations,
-        ids,
-        costs,
-        a,
-        b,
-    );
+    let pair = pair_at(fleet, ids, costs, a, b);
     if is_same_depot(pair) {
         return best;
     }
     let one = list_of(visits, lengths, a);
     let other = list_of(visits, lengths, b);
     between_lists(
-        l,
-        flags,
+        columns,
         demand,
-        service,
-        ready,
-        due,
-        penalty,
-        distances,
-        times,
         pair,
         one,
         other,
@@ -108,26 +66,9 @@ fn best_of_pair(
 
 // The best after the pair (a, b): it is searched unless its least delta is known and not below the best's.
 fn after_pair(
-    l: usize,
-    flags: &[u8],
+    columns: &Columns,
     demand: &[i32],
-    service: &[f64],
-    ready: &[f64],
-    due: &[f64],
-    penalty: &[f64],
-    distances: &[f64],
-    times: &[f64],
-    van_ids: &[u32],
-    depots: &[usize],
-    capacities: &[i32],
-    distance_costs: &[f64],
-    fixed_costs: &[f64],
-    van_flags: &[u8],
-    max_distances: &[f64],
-    max_durations: &[f64],
-    earliest: &[f64],
-    latest: &[f64],
-    durations: &[f64],
+    fleet: &Fleet,
     floor: f64,
     visits: &[u16],
     lengths: &[u16],
@@ -144,57 +85,34 @@ fn after_pair(
     heads: &mut [f64],
     tried_costs: &mut [f64],
 ) -> Choice
-    requires asked { Asked (columns_at l flags service ready due penalty distances times) demand.now }
-    requires manned { Manned l (fleet_at van_ids depots capacities distance_costs fixed_costs van_flags max_distances max_durations
-        earliest latest durations) }
-    requires held { Held l visits.now lengths.now × (length ids.now ≡ length lengths.now) × (length costs.now ≡ length lengths.now) }
+    requires asked { Asked (lent columns.now) demand.now }
+    requires manned { Manned columns.now.locations fleet.now }
+    requires held { Held columns.now.locations visits.now lengths.now × (length ids.now ≡ length lengths.now) × (length costs.now ≡ length lengths.now) }
     requires a_in_bounds { (a < length lengths.now) × (b < length lengths.now) }
     requires sums_len { (length sums.old ≡ 128) × (length heads.old ≡ 512) × (length tried_costs.old ≡ 64) }
     requires deltas_len { (length deltas.old ≡ 256) × Sunk floor best }
-    requires kept { Kept
-        (columns_at l flags service ready due penalty distances times) demand.now
-        (fleet_at van_ids depots capacities distance_costs fixed_costs van_flags max_distances max_durations earliest latest durations)
+    requires kept { Kept (lent columns.now) demand.now
+        fleet.now
         (plan_of visits.now lengths.now ids.now costs.now) floor kept one other (16 * a + b) deltas.old }
-    ensures value { result ≡ best_of_pair
-        (columns_at l flags.entry service.entry ready.entry due.entry penalty.entry distances.entry times.entry)
+    ensures value { result ≡ best_of_pair (lent columns.now)
         demand.now
-        (fleet_at van_ids.entry depots.entry capacities.entry distance_costs.entry fixed_costs.entry van_flags.entry
-        max_distances.entry max_durations.entry earliest.entry latest.entry durations.entry)
+        fleet.now
         (plan_of visits.now lengths.now ids.now costs.now) a b best }
-    ensures deltas_after { deltas.new ≡ set deltas.old (16 * a + b) (least_of
-        (columns_at l flags.entry service.entry ready.entry due.entry penalty.entry distances.entry times.entry)
+    ensures deltas_after { deltas.new ≡ set deltas.old (16 * a + b) (least_of (lent columns.now)
         demand.now
-        (fleet_at van_ids.entry depots.entry capacities.entry distance_costs.entry fixed_costs.entry van_flags.entry
-        max_distances.entry max_durations.entry earliest.entry latest.entry durations.entry)
+        fleet.now
         (plan_of visits.now lengths.now ids.now costs.now) floor a b) }
 {
     let known = are_old(kept, one, other, a, b);
     let place = 16 * a + b;
     let less = deltas[place] < best.delta;
-    if both(known, !less) {
+    if known && !less {
         return best;
     }
     let fresh = best_of_pair(
-        l,
-        flags,
+        columns,
         demand,
-        service,
-        ready,
-        due,
-        penalty,
-        distances,
-        times,
-        van_ids,
-        depots,
-        capacities,
-        distance_costs,
-        fixed_costs,
-        van_flags,
-        max_distances,
-        max_durations,
-        earliest,
-        latest,
-        durations,
+        fleet,
         visits,
         lengths,
         ids,
@@ -212,26 +130,9 @@ fn after_pair(
 
 // The best after every move between list a and another whose van starts from another depot.
 fn best_from(
-    l: usize,
-    flags: &[u8],
+    columns: &Columns,
     demand: &[i32],
-    service: &[f64],
-    ready: &[f64],
-    due: &[f64],
-    penalty: &[f64],
-    distances: &[f64],
-    times: &[f64],
-    van_ids: &[u32],
-    depots: &[usize],
-    capacities: &[i32],
-    distance_costs: &[f64],
-    fixed_costs: &[f64],
-    van_flags: &[u8],
-    max_distances: &[f64],
-    max_durations: &[f64],
-    earliest: &[f64],
-    latest: &[f64],
-    durations: &[f64],
+    fleet: &Fleet,
     floor: f64,
     visits: &[u16],
     lengths: &[u16],
@@ -247,55 +148,31 @@ fn best_from(
     heads: &mut [f64],
     tried_costs: &mut [f64],
 ) -> Choice
-    requires asked { Asked (columns_at l flags service ready due penalty distances times) demand.now }
-    requires manned { Manned l (fleet_at van_ids depots capacities distance_costs fixed_costs van_flags max_distances max_durations
-        earliest latest durations) }
-    requires held { Held l visits.now lengths.now × (length ids.now ≡ length lengths.now) × (length costs.now ≡ length lengths.now) }
+    requires asked { Asked (lent columns.now) demand.now }
+    requires manned { Manned columns.now.locations fleet.now }
+    requires held { Held columns.now.locations visits.now lengths.now × (length ids.now ≡ length lengths.now) × (length costs.now ≡ length lengths.now) }
     requires a_in_bounds { a < length lengths.now }
     requires sums_len { (length sums.old ≡ 128) × (length heads.old ≡ 512) × (length tried_costs.old ≡ 64) }
     requires deltas_len { (length deltas.old ≡ 256) × Sunk floor best }
-    requires kept { Kept
-        (columns_at l flags service ready due penalty distances times) demand.now
-        (fleet_at van_ids depots capacities distance_costs fixed_costs van_flags max_distances max_durations earliest latest durations)
+    requires kept { Kept (lent columns.now) demand.now
+        fleet.now
         (plan_of visits.now lengths.now ids.now costs.now) floor kept one other (16 * a) deltas.old }
-    ensures value { result ≡ best_from
-        (columns_at l flags.entry service.entry ready.entry due.entry penalty.entry distances.entry times.entry)
+    ensures value { result ≡ best_from (lent columns.now)
         demand.now
-        (fleet_at van_ids.entry depots.entry capacities.entry distance_costs.entry fixed_costs.entry van_flags.entry
-        max_distances.entry max_durations.entry earliest.entry latest.entry durations.entry)
+        fleet.now
         (plan_of visits.now lengths.now ids.now costs.now) a best }
-    ensures kept_2 { Kept
-        (columns_at l flags.entry service.entry ready.entry due.entry penalty.entry distances.entry times.entry)
+    ensures kept_2 { Kept (lent columns.now)
         demand.now
-        (fleet_at van_ids.entry depots.entry capacities.entry distance_costs.entry fixed_costs.entry van_flags.entry
-        max_distances.entry max_durations.entry earliest.entry latest.entry durations.entry)
+        fleet.now
         (plan_of visits.now lengths.now ids.now costs.now) floor
         kept one other (16 * (a + 1)) deltas.new }
 {
     let mut found = best;
-    let mut b = 0;
-    while b < lengths.len() {
+    for b in 0..lengths.len() {
         found = after_pair(
-            l,
-            flags,
+            columns,
             demand,
-            service,
-            ready,
-            due,
-            penalty,
-            distances,
-            times,
-            van_ids,
-            depots,
-            capacities,
-            distance_costs,
-            fixed_costs,
-            van_flags,
-            max_distances,
-            max_durations,
-            earliest,
-            latest,
-            durations,
+            fleet,
             floor,
             visits,
             lengths,
@@ -312,33 +189,15 @@ fn best_from(
             heads,
             tried_costs,
         );
-        b += 1;
     }
     found
 }
 
 // The best of all moves. Afterwards the table has the least delta of every pair.
 pub fn best_move(
-    l: usize,
-    flags: &[u8],
+    columns: &Columns,
     demand: &[i32],
-    service: &[f64],
-    ready: &[f64],
-    due: &[f64],
-    penalty: &[f64],
-    distances: &[f64],
-    times: &[f64],
-    van_ids: &[u32],
-    depots: &[usize],
-    capacities: &[i32],
-    distance_costs: &[f64],
-    fixed_costs: &[f64],
-    van_flags: &[u8],
-    max_distances: &[f64],
-    max_durations: &[f64],
-    earliest: &[f64],
-    latest: &[f64],
-    durations: &[f64],
+    fleet: &Fleet,
     floor: f64,
     visits: &[u16],
     lengths: &[u16],
@@ -352,54 +211,30 @@ pub fn best_move(
     heads: &mut [f64],
     tried_costs: &mut [f64],
 ) -> Choice
-    requires asked { Asked (columns_at l flags service ready due penalty distances times) demand.now }
-    requires manned { Manned l (fleet_at van_ids depots capacities distance_costs fixed_costs van_flags max_distances max_durations
-        earliest latest durations) }
-    requires held { Held l visits.now lengths.now × (length ids.now ≡ length lengths.now) × (length costs.now ≡ length lengths.now) }
+    requires asked { Asked (lent columns.now) demand.now }
+    requires manned { Manned columns.now.locations fleet.now }
+    requires held { Held columns.now.locations visits.now lengths.now × (length ids.now ≡ length lengths.now) × (length costs.now ≡ length lengths.now) }
     requires sums_len { (length sums.old ≡ 128) × (length heads.old ≡ 512) × (length tried_costs.old ≡ 64) }
     requires deltas_len { length deltas.old ≡ 256 }
-    requires kept { Kept
-        (columns_at l flags service ready due penalty distances times) demand.now
-        (fleet_at van_ids depots capacities distance_costs fixed_costs van_flags max_distances max_durations earliest latest durations)
+    requires kept { Kept (lent columns.now) demand.now
+        fleet.now
         (plan_of visits.now lengths.now ids.now costs.now) floor kept one other 0 deltas.old }
-    ensures value { result ≡ best_of
-        (columns_at l flags.entry service.entry ready.entry due.entry penalty.entry distances.entry times.entry)
+    ensures value { result ≡ best_of (lent columns.now)
         demand.now
-        (fleet_at van_ids.entry depots.entry capacities.entry distance_costs.entry fixed_costs.entry van_flags.entry
-        max_distances.entry max_durations.entry earliest.entry latest.entry durations.entry)
+        fleet.now
         (plan_of visits.now lengths.now ids.now costs.now) (nothing floor) }
-    ensures kept_2 { Kept
-        (columns_at l flags.entry service.entry ready.entry due.entry penalty.entry distances.entry times.entry)
+    ensures kept_2 { Kept (lent columns.now)
         demand.now
-        (fleet_at van_ids.entry depots.entry capacities.entry distance_costs.entry fixed_costs.entry van_flags.entry
-        max_distances.entry max_durations.entry earliest.entry latest.entry durations.entry)
+        fleet.now
         (plan_of visits.now lengths.now ids.now costs.now) floor
         kept one other (16 * length lengths.now) deltas.new }
 {
     let mut found = no_choice(floor);
-    let mut a = 0;
-    while a < lengths.len() {
+    for a in 0..lengths.len() {
         found = best_from(
-            l,
-            flags,
+            columns,
             demand,
-            service,
-            ready,
-            due,
-            penalty,
-            distances,
-            times,
-            van_ids,
-            depots,
-            capacities,
-            distance_costs,
-            fixed_costs,
-            van_flags,
-            max_distances,
-            max_durations,
-            earliest,
-            latest,
-            durations,
+            fleet,
             floor,
             visits,
             lengths,
@@ -415,7 +250,6 @@ pub fn best_move(
             heads,
             tried_costs,
         );
-        a += 1;
     }
     found
 }

@@ -12,7 +12,7 @@ use lib.ListN.{length}
 use lib.Ieee.{Float}
 use Rattle.numbers.specs.Floor.{gain_floor}
 use Rattle.day.specs.Matrix.{scale_of}
-use Rattle.lists.specs.Table.{Laid, lists}
+use Rattle.lists.specs.Table.{Laid}
 use Rattle.list_changes.specs.Edits.{at}
 use Rattle.lists.proofs.Tables.{length-lists, length_at}
 use Rattle.labels.specs.Columns.{Columns}

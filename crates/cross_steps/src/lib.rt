@@ -6,17 +6,19 @@
 ghost use Rattle.std.specs.Prelude.{◌≡◌, true, ◌≤◌, length, take};
 ghost use Rattle.numbers.specs.Floor.{gain_floor};
 ghost use Rattle.day.specs.Matrix.{scale_of};
-ghost use Rattle.labels.specs.Columns.{columns_at};
-ghost use Rattle.fleet.specs.Fleet.{fleet_at, Manned};
+ghost use Rattle.fleet.specs.Fleet.{Manned};
 ghost use Rattle.cross_choices.specs.Scan.{Asked, is_found};
 ghost use Rattle.cross_changes.specs.Tables.{Makes};
 ghost use Rattle.cross_deltas.specs.Deltas.{Kept};
 ghost use Rattle.cross_steps.specs.Tables.{MadeIn, MadeFound, Live, plan_in, Turned};
+ghost use Rattle.labels.specs.Lent.{lent};
 
 use cross_changes::make_move;
 use cross_choices::Choice;
 use cross_deltas::kept_of;
 use cross_search::best_move;
+use fleet::Fleet;
+use labels::columns::Columns;
 
 // A turn: `found` is 1 where a move gains, and `made` 1 where it was made; so many lists are left, and of the pairs of the first `kept` lists, but for `one`
 // and `other`, the least deltas are known.
@@ -117,26 +119,9 @@ fn make_found(
 
 // The turn behind another: searches the best move of the lists that are left, and makes it where the limit leaves room.
 pub fn take_turn(
-    l: usize,
-    flags: &[u8],
+    columns: &Columns,
     demand: &[i32],
-    service: &[f64],
-    ready: &[f64],
-    due: &[f64],
-    penalty: &[f64],
-    distances: &[f64],
-    times: &[f64],
-    van_ids: &[u32],
-    depots: &[usize],
-    capacities: &[i32],
-    distance_costs: &[f64],
-    fixed_costs: &[f64],
-    van_flags: &[u8],
-    max_distances: &[f64],
-    max_durations: &[f64],
-    earliest: &[f64],
-    latest: &[f64],
-    durations: &[f64],
+    fleet: &Fleet,
     floor: f64,
     visits: &mut [u16],
     lengths: &mut [u16],
@@ -149,46 +134,25 @@ pub fn take_turn(
     heads: &mut [f64],
     tried_costs: &mut [f64],
 ) -> Turn
-    requires asked { Asked (columns_at l flags service ready due penalty distances times) demand.now × (floor ≡ gain_floor (scale_of distances.now)) }
-    requires manned { Manned l (fleet_at van_ids depots capacities distance_costs fixed_costs van_flags max_distances max_durations
-        earliest latest durations) }
-    requires live { Live l visits.old lengths.old ids.old costs.old last.left }
+    requires asked { Asked (lent columns.now) demand.now × (floor ≡ gain_floor (scale_of columns.now.distances.now)) }
+    requires manned { Manned columns.now.locations fleet.now }
+    requires live { Live columns.now.locations visits.old lengths.old ids.old costs.old last.left }
     requires sums_len { (length sums.old ≡ 128) × (length heads.old ≡ 512) × (length tried_costs.old ≡ 64) }
     requires deltas_len { length deltas.old ≡ 256 }
-    requires kept { Kept
-        (columns_at l flags service ready due penalty distances times) demand.now
-        (fleet_at van_ids depots capacities distance_costs fixed_costs van_flags max_distances max_durations earliest latest durations)
+    requires kept { Kept (lent columns.now) demand.now
+        fleet.now
         (plan_in last.left visits.old lengths.old ids.old costs.old) floor last.kept last.one last.other 0 deltas.old }
-    ensures { Turned
-        (columns_at l flags.entry service.entry ready.entry due.entry penalty.entry distances.entry times.entry)
+    ensures { Turned (lent columns.now)
         demand.now
-        (fleet_at van_ids.entry depots.entry capacities.entry distance_costs.entry fixed_costs.entry van_flags.entry
-        max_distances.entry max_durations.entry earliest.entry latest.entry durations.entry)
-        floor l last.left visits.old lengths.old ids.old costs.old
+        fleet.now
+        floor columns.now.locations last.left visits.old lengths.old ids.old costs.old
         visits.new lengths.new ids.new costs.new deltas.new result room }
 {
     let n = last.left;
     let best = best_move(
-        l,
-        flags,
+        columns,
         demand,
-        service,
-        ready,
-        due,
-        penalty,
-        distances,
-        times,
-        van_ids,
-        depots,
-        capacities,
-        distance_costs,
-        fixed_costs,
-        van_flags,
-        max_distances,
-        max_durations,
-        earliest,
-        latest,
-        durations,
+        fleet,
         floor,
         visits,
         &lengths[0..n],

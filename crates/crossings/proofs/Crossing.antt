@@ -3,6 +3,8 @@
 use Prim.Native.Nat.{ℕ, zero, suc, ◌-◌, ◌≤◌}
 use mathlib.Core.Path.{◌≡◌, refl, ap, ◌∙◌}
 use mathlib.Core.List.{List, [], ◌∷◌, ◌++◌}
+use Rattle.std.specs.Prelude.{Result, Ok}
+use Rattle.std.specs.Result.{IsErrAnd}
 use native.Mathlib.Omega.{arith}
 use native.Mathlib.Nat.{lt_of_lt_of_le}
 use lib.IntN.{ℤ}
@@ -11,10 +13,12 @@ use lib.ListN.{length, get_or, take, replicate}
 use lib.Seq.{get_or-take}
 use Rattle.day.specs.Day.{Day}
 use Rattle.day.specs.Customer.{num_depots}
+use Rattle.day.specs.Number.{number, number_some}
+use Rattle.day.specs.declared.refusal.Refusal.{Refusal}
 use Rattle.fleet.specs.Fleet.{Fleet, Crewed}
 use Rattle.edits.specs.Total.{SameVisits}
 use Rattle.lists.specs.Table.{lists}
-use Rattle.labels.specs.Columns.{columns_of, formed}
+use Rattle.labels.specs.Columns.{Columns, columns_of, formed}
 use Rattle.loads.proofs.Boxes.{loaded_of}
 use Rattle.loads.proofs.Tables.{held_of}
 use Rattle.cross_moves.specs.CrossDepot.{Carried, cross_ran}
@@ -23,11 +27,10 @@ use Rattle.cross_choices.specs.Scan.{Asked}
 use Rattle.cross_runs.specs.Tables.{Handed, crossed_of}
 use Rattle.cross_runs.specs.declared.Crossed.{Crossed}
 use Rattle.refusals.specs.Refusal.{refusal_of_fleet, FineFleet}
-use Rattle.refusals.specs.Answered.{refused_by, answered}
+use Rattle.refusals.specs.Answered.{refused_as, refused_by, handed_on, answered}
 use Rattle.rearrangements.specs.Rearrange.{rearranged_of, padded, remaining_in}
 use Rattle.crossings.specs.CrossDepot.{cross_on, cross_report, padded_ids, cross_answer, cross_visits, cross_lengths, cross_ids}
 use Rattle.rearrangements.specs.declared.Rearranged.{Rearranged}
-use Rattle.rearrangements.specs.declared.Rearranged.TheVariants as rearranged
 use Rattle.rearrangements.proofs.Rearranging.{rearranged_as_lem, reports_over, lists_back, capacity_above}
 
 -- ---- what the engine asks
@@ -84,18 +87,18 @@ module _ (demand : List ℤ) (fleet : Fleet) (lent : List (List ℕ)) (lent-ids 
 
 module _ (d : Day) (fleet : Fleet) (visits lengths ids : List ℕ) (prices : List Float) (limit : ℕ) where
   -- what a refused call answers and leaves
-  pub refused_cross : (n : ℕ) → (n ≡ 0 → ⊥) → n ≡ refusal_of_fleet d fleet visits lengths ids prices
-      → (rearranged.Refused n ≡ cross_answer d fleet visits lengths ids prices limit) × (visits ≡ cross_visits d fleet visits lengths ids prices limit)
+  pub refused_cross : (x : Result Rearranged Refusal) (r : Refusal) → IsErrAnd x (λ y. y ≡ r) → number r ≡ refusal_of_fleet d fleet visits lengths ids prices
+      → (x ≡ cross_answer d fleet visits lengths ids prices limit) × (visits ≡ cross_visits d fleet visits lengths ids prices limit)
       × (lengths ≡ cross_lengths d fleet visits lengths ids prices limit) × (ids ≡ cross_ids d fleet visits lengths ids prices limit)
   unfolding cross_answer cross_visits cross_lengths cross_ids
-  refused_cross n found e = (
-    refused_by rearranged.Refused _ n _ found e,
-    refused_by (λ m. visits) _ n _ found e,
-    refused_by (λ m. lengths) _ n _ found e,
-    refused_by (λ m. ids) _ n _ found e,
+  refused_cross x r handed e = (
+    handed_on _ x r _ handed e,
+    refused_by (λ m. visits) _ (number r) _ (number_some r) e,
+    refused_by (λ m. lengths) _ (number r) _ (number_some r) e,
+    refused_by (λ m. ids) _ (number r) _ (number_some r) e,
   )
 
-  module _ (n : ℕ) (none : n ≡ 0) (e : n ≡ refusal_of_fleet d fleet visits lengths ids prices) (visits' lengths' ids' : List ℕ) (end : Crossed)
+  module _ (none : 0 ≡ refusal_of_fleet d fleet visits lengths ids prices) (visits' lengths' ids' : List ℕ) (end : Crossed)
       (r : Rearranged) (ends : end ≡ crossed_of (cross_on d fleet visits lengths ids prices limit))
       (handed : Handed (cross_on d fleet visits lengths ids prices limit).lists (cross_on d fleet visits lengths ids prices limit).ids (length lengths)
       visits' lengths' ids') (answer : r ≡ rearranged_of end.ended end.lists) where
@@ -106,20 +109,20 @@ module _ (d : Day) (fleet : Fleet) (visits lengths ids : List ℕ) (prices : Lis
         answer ∙ ap (λ (x : Crossed). rearranged_of x.ended x.lists) ends ∙ rearranged_as_lem ran.word ran.moves (length ran.lists)
 
     -- what a call that isn't refused answers and leaves
-    pub answered_cross : (r ≡ cross_answer d fleet visits lengths ids prices limit) × (visits' ≡ cross_visits d fleet visits lengths ids prices limit)
+    pub answered_cross : (Ok r ≡ cross_answer d fleet visits lengths ids prices limit) × (visits' ≡ cross_visits d fleet visits lengths ids prices limit)
         × (lengths' ≡ cross_lengths d fleet visits lengths ids prices limit) × (ids' ≡ cross_ids d fleet visits lengths ids prices limit)
     unfolding cross_answer cross_visits cross_lengths cross_ids padded padded_ids
     answered_cross = (
-      answered rearranged.Refused _ n _ _ none e reported,
-      answered (λ m. visits) _ n _ _ none e handed.visits_are,
-      answered (λ m. lengths) _ n _ _ none e handed.lengths_are,
-      answered (λ m. ids) _ n _ _ none e handed.ids_are,
+      answered refused_as _ 0 _ _ refl none (ap Ok reported),
+      answered (λ m. visits) _ 0 _ _ refl none handed.visits_are,
+      answered (λ m. lengths) _ 0 _ _ refl none handed.lengths_are,
+      answered (λ m. ids) _ 0 _ _ refl none handed.ids_are,
     )
 
     -- what the run keeps of the loads, of the lists that the answer and the tables tell
     pub carried_off : (let ran = cross_on d fleet visits lengths ids prices limit in
         Carried d.demand fleet (lists visits lengths) ids ran.lists ran.ids)
-        → Carried d.demand fleet (lists visits lengths) ids (take (remaining_in r) (lists visits' lengths')) (take (remaining_in r) ids')
+        → Carried d.demand fleet (lists visits lengths) ids (take (remaining_in (Ok r)) (lists visits' lengths')) (take (remaining_in (Ok r)) ids')
     unfolding cross_report padded
     carried_off holds =
         let ran = cross_on d fleet visits lengths ids prices limit in
@@ -127,17 +130,19 @@ module _ (d : Day) (fleet : Fleet) (visits lengths ids : List ℕ) (prices : Lis
         rw (reported, told.1, handed.visits_are, handed.lengths_are, handed.ids_are, lists_back (length lengths) ran.lists)
         (carried_by d.demand fleet (lists visits lengths) ids ran.lists ran.ids (length lengths - length ran.lists) holds)
 
-  -- all that a call that isn't refused shows, of what the run ensures
-  pub ended_cross : (n : ℕ) → n ≡ 0 → n ≡ refusal_of_fleet d fleet visits lengths ids prices → (visits' lengths' ids' : List ℕ) (end : Crossed) (r : Rearranged)
-      → (let ran = cross_ran (columns_of d) d.demand fleet limit (lists visits lengths) ids prices in
+  -- all that a call that isn't refused shows, of what the run ensures on the columns built
+  pub ended_cross : 0 ≡ refusal_of_fleet d fleet visits lengths ids prices → (c : Columns) → c ≡ columns_of d
+      → (visits' lengths' ids' : List ℕ) (end : Crossed) (r : Rearranged)
+      → (let ran = cross_ran c d.demand fleet limit (lists visits lengths) ids prices in
       (end ≡ crossed_of ran) × Handed ran.lists ran.ids (length lengths) visits' lengths' ids' × SameVisits visits visits'
       × Carried d.demand fleet (lists visits lengths) ids ran.lists ran.ids)
       → r ≡ rearranged_of end.ended end.lists
-      → (r ≡ cross_answer d fleet visits lengths ids prices limit) × (visits' ≡ cross_visits d fleet visits lengths ids prices limit)
+      → (Ok r ≡ cross_answer d fleet visits lengths ids prices limit) × (visits' ≡ cross_visits d fleet visits lengths ids prices limit)
       × (lengths' ≡ cross_lengths d fleet visits lengths ids prices limit) × (ids' ≡ cross_ids d fleet visits lengths ids prices limit)
       × SameVisits visits visits'
-      × Carried d.demand fleet (lists visits lengths) ids (take (remaining_in r) (lists visits' lengths')) (take (remaining_in r) ids')
+      × Carried d.demand fleet (lists visits lengths) ids (take (remaining_in (Ok r)) (lists visits' lengths')) (take (remaining_in (Ok r)) ids')
   unfolding cross_on
-  ended_cross n none e visits' lengths' ids' end r ran answer =
-      let is = answered_cross n none e visits' lengths' ids' end r ran.0 ran.1 answer in
-      (is.0, is.1, is.2, is.3, ran.2, carried_off n none e visits' lengths' ids' end r ran.0 ran.1 answer ran.3)
+  ended_cross none c built visits' lengths' ids' end r held answer =
+      let ran = rw built at held in
+      let is = answered_cross none visits' lengths' ids' end r ran.0 ran.1 answer in
+      (is.0, is.1, is.2, is.3, ran.2, carried_off none visits' lengths' ids' end r ran.0 ran.1 answer ran.3)

@@ -4,118 +4,48 @@
 #![tactic(auto)]
 
 ghost use Rattle.std.specs.Prelude.{◌≡◌, take};
-ghost use Rattle.day.specs.Day.{day_at};
 ghost use Rattle.edits.specs.Total.{SameVisits};
 ghost use Rattle.lists.specs.Table.{lists};
-ghost use Rattle.fleet.specs.Fleet.{fleet_at};
 ghost use Rattle.cross_moves.specs.CrossDepot.{Carried};
 ghost use Rattle.crossings.specs.CrossDepot.{cross_answer, cross_visits, cross_lengths, cross_ids};
 ghost use Rattle.rearrangements.specs.Rearrange.{remaining_in};
 
+use day::day::Day;
+use day::refusal::Refusal;
+use fleet::Fleet;
+use labels::columns::Columns;
 use rearrangements::{Rearranged, rearranged_of};
 use refusals::refusal_of_fleet;
 
 // Moves visits between lists under different vans, by at most `limit` moves. Each list has the id of its van and, only read, its price at the start.
 pub fn cross_depot_improve(
-    l: usize,
-    flags: &[u8],
-    demand: &[i32],
-    service: &[f64],
-    ready: &[f64],
-    due: &[f64],
-    penalty: &[f64],
-    distances: &[f64],
-    times: &[f64],
-    van_ids: &[u32],
-    depots: &[usize],
-    capacities: &[i32],
-    distance_costs: &[f64],
-    fixed_costs: &[f64],
-    van_flags: &[u8],
-    max_distances: &[f64],
-    max_durations: &[f64],
-    earliest: &[f64],
-    latest: &[f64],
-    durations: &[f64],
+    day: &Day,
+    fleet: &Fleet,
     visits: &mut [u16],
     lengths: &mut [u16],
     ids: &mut [u32],
     prices: &[f64],
     limit: u32,
-) -> Rearranged
-    ensures answer { let d = day_at l flags.entry demand.entry service.entry ready.entry due.entry penalty.entry distances.entry times.entry in
-        let fleet = fleet_at van_ids.entry depots.entry capacities.entry distance_costs.entry fixed_costs.entry van_flags.entry
-        max_distances.entry max_durations.entry earliest.entry latest.entry durations.entry in
-        let visits0 = visits.old in
+) -> Result<Rearranged, Refusal>
+    ensures answer { let visits0 = visits.old in
         let lengths0 = lengths.old in
         let ids0 = ids.old in
         let prices0 = prices.now in
         let visits1 = visits.new in
         let lengths1 = lengths.new in
         let ids1 = ids.new in
-        (result ≡ cross_answer d fleet visits0 lengths0 ids0 prices0 limit)
-        × (visits1 ≡ cross_visits d fleet visits0 lengths0 ids0 prices0 limit)
-        × (lengths1 ≡ cross_lengths d fleet visits0 lengths0 ids0 prices0 limit)
-        × (ids1 ≡ cross_ids d fleet visits0 lengths0 ids0 prices0 limit)
+        (result ≡ cross_answer day.now fleet.now visits0 lengths0 ids0 prices0 limit)
+        × (visits1 ≡ cross_visits day.now fleet.now visits0 lengths0 ids0 prices0 limit)
+        × (lengths1 ≡ cross_lengths day.now fleet.now visits0 lengths0 ids0 prices0 limit)
+        × (ids1 ≡ cross_ids day.now fleet.now visits0 lengths0 ids0 prices0 limit)
         × SameVisits visits0 visits1
-        × Carried d.demand fleet (lists visits0 lengths0) ids0 (take (remaining_in result) (lists visits1 lengths1)) (take (remaining_in result) ids1) }
+        × Carried day.now.demand fleet.now (lists visits0 lengths0) ids0 (take (remaining_in result) (lists visits1 lengths1)) (take (remaining_in result) ids1) }
 {
-    let refused = refusal_of_fleet(
-        l,
-        flags,
-        demand,
-        service,
-        ready,
-        due,
-        penalty,
-        distances,
-        times,
-        van_ids,
-        depots,
-        capacities,
-        distance_costs,
-        fixed_costs,
-        van_flags,
-        max_distances,
-        max_durations,
-        earliest,
-        latest,
-        durations,
-        visits,
-        lengths,
-        ids,
-        prices,
-    );
-    if refused != 0 {
-        return Rearranged::Refused(refused);
-    }
+    refusal_of_fleet(day, fleet, visits, lengths, ids, prices)?;
+    let columns = Columns::of(day);
     let crossed = cross_depot::improve(
-        l,
-        flags,
-        demand,
-        service,
-        ready,
-        due,
-        penalty,
-        distances,
-        times,
-        van_ids,
-        depots,
-        capacities,
-        distance_costs,
-        fixed_costs,
-        van_flags,
-        max_distances,
-        max_durations,
-        earliest,
-        latest,
-        durations,
-        visits,
-        lengths,
-        ids,
-        prices,
-        limit,
+        &columns, day.demand, fleet, visits, lengths, ids, prices, limit,
     );
-    let ended = crossed.ended;
-    rearranged_of(ended, crossed.lists)
+    let rearranged = rearranged_of(crossed.ended, crossed.lists);
+    Ok(rearranged)
 }

@@ -7,6 +7,7 @@ use mathlib.Core.Bool.{Bool, true, false, not, cond, ◌&&◌, ◌||◌}
 use lib.IntN.{ℤ}
 use lib.ListN.{get_or}
 use lib.Ieee.{Float}
+use Rattle.std.specs.Prelude.{Some, None}
 use Rattle.numbers.specs.Plain.{plain}
 use Rattle.tests.specs.All.{all_below}
 use Rattle.day.specs.Day.{day_of, bit0, bit1, bit2}
@@ -15,8 +16,6 @@ use Rattle.day.specs.Vehicle.{break_of, limits_of}
 use Rattle.day.specs.Refusal.{lengths_ok, present_ok, penalty_ok, location_ok, locations_ok, span_ok, window_ok, windows_ok, break_ok, limits_ok}
 use Rattle.day.specs.Unread.{SameColumns, SameVan}
 use Rattle.day.specs.declared.vehicle.Van.{Van}
-use Rattle.day.specs.declared.vehicle.Limit.TheVariants.{Unlimited, AtMost}
-use Rattle.day.specs.declared.vehicle.Rest.TheVariants.{NoBreak, Break}
 
 -- a test of every number is the same where it is the same of each
 all_same : (p q : ℕ → Bool) → ((k : ℕ) → p k ≡ q k) → (n : ℕ) → all_below p n ≡ all_below q n
@@ -91,8 +90,8 @@ module _ (v w : Van) (same : SameVan v w) where
   unfolding limits_of
   same_limits =
       rw (
-        guarded AtMost Unlimited (bit0 v.flags) v.max_distance w.max_distance same.max_distance,
-        guarded AtMost Unlimited (bit1 v.flags) v.max_duration w.max_duration same.max_duration,
-        guarded Break NoBreak (bit2 v.flags) (break_of v) (break_of w) break_same,
+        guarded Some None (bit0 v.flags) v.max_distance w.max_distance same.max_distance,
+        guarded Some None (bit1 v.flags) v.max_duration w.max_duration same.max_duration,
+        guarded Some None (bit2 v.flags) (break_of v) (break_of w) break_same,
         same.flags,
       )

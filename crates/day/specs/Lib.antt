@@ -5,3 +5,4 @@ pub mod Vehicle
 pub mod Refusal
 pub mod Fine
 pub mod Unread
+pub mod Number

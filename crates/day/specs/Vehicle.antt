@@ -1,14 +1,10 @@
 -- models/vehicle.rs and `RouteLimits` of evaluation/mod.rs: what a van costs and what it allows. Assumes nothing.
-use Rattle.std.specs.Prelude.{Bool, true, false, cond, ◌&&◌, Float}
+use Rattle.std.specs.Prelude.{Bool, true, cond, ◌&&◌, Float, Option, Some, None, is_none}
 use Rattle.std.specs.Float.Ieee.{lt, le}
 use Rattle.numbers.specs.Operations.{◌⊕◌, ◌⊗◌, ◌⊘◌, zero64}
 use Rattle.day.specs.Day.{bit0, bit1, bit2}
 use Rattle.day.specs.declared.vehicle.Van.{Van}
 use Rattle.day.specs.declared.vehicle.VehicleBreak.{VehicleBreak}
-use Rattle.day.specs.declared.vehicle.Limit.{Limit}
-use Rattle.day.specs.declared.vehicle.Limit.TheVariants.{Unlimited, AtMost}
-use Rattle.day.specs.declared.vehicle.Rest.{Rest}
-use Rattle.day.specs.declared.vehicle.Rest.TheVariants.{NoBreak, Break}
 use Rattle.day.specs.declared.vehicle.RouteLimits.{RouteLimits}
 
 -- `route_cost`: fixed cost plus cost per distance times distance
@@ -20,16 +16,16 @@ unfoldable pub fixed_cost_in_distance : Van → Float
 fixed_cost_in_distance van = cond (lt zero64 van.cost_per_distance) (van.fixed_cost ⊘ van.cost_per_distance) zero64
 
 -- a limit that is there where its flag is on
-abbrev pub limit_if : Bool → Float → Limit
-limit_if present most = cond present (AtMost most) Unlimited
+abbrev pub limit_if : Bool → Float → Option Float
+limit_if present most = cond present (Some most) None
 
 -- the numbers of the van's break
 abbrev pub break_of : Van → VehicleBreak
 break_of van = record { earliest = van.earliest; latest = van.latest; duration = van.duration }
 
 -- the van's break, where its flag is on
-abbrev pub rest_of : Van → Rest
-rest_of van = cond (bit2 van.flags) (Break (break_of van)) NoBreak
+abbrev pub rest_of : Van → Option VehicleBreak
+rest_of van = cond (bit2 van.flags) (Some (break_of van)) None
 
 -- `RouteLimits::of`: 'flags (bit 0 distance limit, bit 1 duration limit, bit 2 break)'
 unfoldable pub limits_of : Van → RouteLimits
@@ -40,24 +36,14 @@ limits_of van = record {
 }
 
 -- at most the limit, where there is one
-unfoldable pub keeps : Limit → Float → Bool
-keeps Unlimited x = true
-keeps (AtMost most) x = le x most
+unfoldable pub keeps : Option Float → Float → Bool
+keeps None x = true
+keeps (Some most) x = le x most
 
 -- `allow`: both limits are kept
 unfoldable pub allows : RouteLimits → Float → Float → Bool
 allows limits distance duration = keeps limits.max_distance distance && keeps limits.max_duration duration
 
--- no limit, no break
-unfoldable pub no_limit : Limit → Bool
-no_limit Unlimited = true
-no_limit (AtMost most) = false
-
--- the same of the break
-unfoldable pub no_rest : Rest → Bool
-no_rest NoBreak = true
-no_rest (Break rest) = false
-
 -- `is_unlimited`: 'nothing is set: no limit, no break'
 unfoldable pub is_unlimited : RouteLimits → Bool
-is_unlimited limits = no_limit limits.max_distance && (no_limit limits.max_duration && no_rest limits.rest)
+is_unlimited limits = is_none limits.max_distance && (is_none limits.max_duration && is_none limits.rest)

@@ -3,6 +3,8 @@
 
 #![tactic(auto)]
 
+pub mod day; // what a call is lent of a day
+pub mod refusal; // what the table refuses, with its numbers
 pub mod flags; // the bits of a flags byte
 pub mod matrix; // distance, travel time
 pub mod customer; // the window of a location

@@ -1,6 +1,6 @@
 // models/vehicle.rs and `RouteLimits` of evaluation/mod.rs: a van, what a list costs with it, and what it allows a list.
 ghost use Rattle.std.specs.Prelude.{◌≡◌};
-ghost use Rattle.day.specs.Vehicle.{route_cost, fixed_cost_in_distance, limit_if, limits_of, rest_of, keeps, allows, no_limit, no_rest, is_unlimited};
+ghost use Rattle.day.specs.Vehicle.{route_cost, fixed_cost_in_distance, limits_of, rest_of, keeps, allows, is_unlimited};
 
 use crate::flags::{flag0, flag1, flag2};
 use tests::both;
@@ -49,85 +49,40 @@ pub struct VehicleBreak {
     pub duration: f64,
 }
 
-// A limit of the van, if it has one.
-#[derive(Clone, Copy)]
-pub enum Limit {
-    Unlimited,
-    AtMost(f64),
-}
-
-// The van's break, if it has one.
-#[derive(Clone, Copy)]
-pub enum Rest {
-    NoBreak,
-    Break(VehicleBreak),
-}
-
-// What a van allows a list besides its capacity.
+// What a van allows a list besides its capacity: its limits and its break, where it has them.
 #[derive(Clone, Copy)]
 pub struct RouteLimits {
-    pub max_distance: Limit,
-    pub max_duration: Limit,
-    pub rest: Rest,
+    pub max_distance: Option<f64>,
+    pub max_duration: Option<f64>,
+    pub rest: Option<VehicleBreak>,
 }
 
-fn limit_if(present: bool, most: f64) -> Limit
-    ensures { result ≡ limit_if present most }
-{
-    if present {
-        return Limit::AtMost(most);
-    }
-    Limit::Unlimited
-}
-
-fn rest_of(van: Van) -> Rest
+fn rest_of(van: Van) -> Option<VehicleBreak>
     ensures { result ≡ rest_of van }
 {
-    if flag2(van.flags) {
-        return Rest::Break(VehicleBreak {
-            earliest: van.earliest,
-            latest: van.latest,
-            duration: van.duration,
-        });
-    }
-    Rest::NoBreak
+    flag2(van.flags).then_some(VehicleBreak {
+        earliest: van.earliest,
+        latest: van.latest,
+        duration: van.duration,
+    })
 }
 
-fn keeps_limit(limit: Limit, x: f64) -> bool
+#[tactic(auto, unfolding(crate::specs::Vehicle::keeps))]
+fn keeps_limit(limit: Option<f64>, x: f64) -> bool
     ensures { result ≡ keeps limit x }
 {
-    match limit {
-        Limit::Unlimited => true,
-        Limit::AtMost(most) => x <= most,
-    }
-}
-
-fn is_no_limit(limit: Limit) -> bool
-    ensures { result ≡ no_limit limit }
-{
-    match limit {
-        Limit::Unlimited => true,
-        Limit::AtMost(_) => false,
-    }
-}
-
-fn is_no_rest(rest: Rest) -> bool
-    ensures { result ≡ no_rest rest }
-{
-    match rest {
-        Rest::NoBreak => true,
-        Rest::Break(_) => false,
-    }
+    limit.is_none_or(|most| x <= most)
 }
 
 impl RouteLimits {
     // The limits that a van sets.
+    #[tactic(auto, unfolding(crate::specs::Vehicle::limits_of))]
     pub fn of(van: Van) -> RouteLimits
         ensures { result ≡ limits_of van }
     {
         RouteLimits {
-            max_distance: limit_if(flag0(van.flags), van.max_distance),
-            max_duration: limit_if(flag1(van.flags), van.max_duration),
+            max_distance: flag0(van.flags).then_some(van.max_distance),
+            max_duration: flag1(van.flags).then_some(van.max_duration),
             rest: rest_of(van),
         }
     }
@@ -145,15 +100,10 @@ impl RouteLimits {
     }
 
     // Whether nothing is set: no limit, no break.
+    #[tactic(auto, unfolding(crate::specs::Vehicle::is_unlimited))]
     pub fn is_unlimited(self) -> bool
         ensures { result ≡ is_unlimited self }
     {
-        let max_distance = self.max_distance;
-        let max_duration = self.max_duration;
-        let rest = self.rest;
-        both(
-            is_no_limit(max_distance),
-            both(is_no_limit(max_duration), is_no_rest(rest)),
-        )
+        self.max_distance.is_none() && self.max_duration.is_none() && self.rest.is_none()
     }
 }

@@ -9,14 +9,7 @@ use tests::both;
 fn leading_flagged(flags: &[u8]) -> usize
     ensures { result ≡ leading flags.now }
 {
-    let mut count = 0;
-    while count < flags.len() {
-        if !flag0(flags[count]) {
-            return count;
-        }
-        count += 1;
-    }
-    count
+    flags.iter().take_while(|f| flag0(**f)).count()
 }
 
 // The number of depots: the leading flagged locations, at least one.
@@ -34,14 +27,7 @@ pub fn num_depots(flags: &[u8]) -> usize
 pub fn has_time_windows(flags: &[u8]) -> bool
     ensures { result ≡ has_time_windows flags.now }
 {
-    let mut i = 0;
-    while i < flags.len() {
-        if flag1(flags[i]) {
-            return true;
-        }
-        i += 1;
-    }
-    false
+    flags.iter().any(|f| flag1(*f))
 }
 
 // Whether a flags byte is that of a location with a soft window.
@@ -55,12 +41,5 @@ fn is_soft(f: u8) -> bool
 pub fn has_soft_windows(flags: &[u8]) -> bool
     ensures { result ≡ has_soft_windows flags.now }
 {
-    let mut i = 0;
-    while i < flags.len() {
-        if is_soft(flags[i]) {
-            return true;
-        }
-        i += 1;
-    }
-    false
+    flags.iter().any(|f| is_soft(*f))
 }

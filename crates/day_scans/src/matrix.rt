@@ -19,6 +19,7 @@ fn four_smaller(distances: &[f64], i: usize, most: f64) -> bool
 }
 
 // From a position on, over fours of which none is larger than `most`: what is passed over changes nothing.
+// Fours, since `scale` takes 2 microseconds with them on a table of 64 locations, and 5 to 8 entry by entry. `chunks_exact(4)` gives no position.
 fn past_smaller(distances: &[f64], from: usize, most: f64) -> usize
     requires { from ≤ length distances.now }
     ensures lower_bound { (from ≤ result) × (result ≤ length distances.now) }
@@ -40,14 +41,13 @@ fn next_larger(distances: &[f64], from: usize, most: f64) -> usize
     ensures lower_bound { (from ≤ result) × (result ≤ length distances.now) }
     ensures distances_value { largest most (drop result distances.now) ≡ largest most (drop from distances.now) }
 {
-    let mut i = past_smaller(distances, from, most);
-    while i < distances.len() {
+    let start = past_smaller(distances, from, most);
+    for i in start..distances.len() {
         if most < distances[i] {
             return i;
         }
-        i += 1;
     }
-    i
+    distances.len()
 }
 
 // The largest distance, from 0.0. Few entries are larger than all before them, so that the search for the next one is all that takes time.
@@ -68,12 +68,10 @@ fn row_mirrored(l: usize, distances: &[f64], from: usize) -> bool
     requires { Square l distances.now × (from < l) }
     ensures { result ≡ mirrored l distances.now from }
 {
-    let mut to = 0;
-    while to < from {
+    for to in 0..from {
         if get(l, distances, from, to) != get(l, distances, to, from) {
             return false;
         }
-        to += 1;
     }
     true
 }
@@ -83,12 +81,10 @@ pub fn is_symmetric(l: usize, distances: &[f64]) -> bool
     requires { Square l distances.now }
     ensures { result ≡ symmetric l distances.now }
 {
-    let mut from = 0;
-    while from < l {
+    for from in 0..l {
         if !row_mirrored(l, distances, from) {
             return false;
         }
-        from += 1;
     }
     true
 }

@@ -1,6 +1,6 @@
 // The tests of a day's tables, locations and windows that refusals 3 to 5 of document 01 ask.
 
-#![tactic(auto)]
+#![tactic(auto, unfolding(day::specs::Refusal::demand_ok, day::specs::Refusal::penalty_ok, day::specs::Refusal::present_ok, day::specs::Refusal::location_ok, day::specs::Refusal::lead_ok, day::specs::Refusal::span_ok, day::specs::Refusal::window_ok))]
 
 ghost use Rattle.std.specs.Prelude.{◌≡◌, true, ◌+◌, ◌≤◌, ◌<◌, length, get_or};
 ghost use Rattle.std.specs.Float.{nan};
@@ -8,9 +8,9 @@ ghost use Rattle.numbers.specs.Plain.{plain};
 ghost use Rattle.tests.specs.All.{all_below, all_four};
 ghost use Rattle.day.specs.Refusal.{all_plain, demand_ok, penalty_ok, location_ok, locations_ok, lead_ok, depots_lead, span_ok, window_ok, windows_ok};
 
+use day::day::Day;
 use day::flags::{flag0, flag1, flag2};
 use numbers::is_plain;
-use tests::{both, either};
 
 // Whether the four numbers from a position on are plain.
 fn four_plain(table: &[f64], i: usize) -> bool
@@ -39,20 +39,14 @@ fn plain_fours(table: &[f64]) -> usize
 pub fn all_plain(table: &[f64]) -> bool
     ensures { result ≡ all_plain table.now }
 {
-    let mut i = plain_fours(table);
-    while i < table.len() {
-        if !is_plain(table[i]) {
-            return false;
-        }
-        i += 1;
-    }
-    true
+    let fours = plain_fours(table);
+    (fours..table.len()).all(|i| is_plain(table[i]))
 }
 
 fn demand_ok(x: i32) -> bool
     ensures { result ≡ demand_ok x }
 {
-    both(0 <= x, x <= 1000000)
+    0 <= x && x <= 1000000
 }
 
 // 4: a penalty, read only where its flag is on.
@@ -60,52 +54,34 @@ fn penalty_ok(flags: &[u8], penalty: &[f64], k: usize) -> bool
     requires { (k < length flags.now) × (k < length penalty.now) }
     ensures { result ≡ penalty_ok flags.now penalty.now k }
 {
-    if !flag2(flags[k]) {
-        return true;
-    }
-    is_plain(penalty[k])
+    !flag2(flags[k]) || is_plain(penalty[k])
 }
 
 // 4, at location k.
-fn location_ok(flags: &[u8], demand: &[i32], service: &[f64], penalty: &[f64], k: usize) -> bool
-    requires { (k < length flags.now) × (k < length demand.now) × (k < length service.now) × (k < length penalty.now) }
-    ensures { result ≡ location_ok flags.now demand.now service.now penalty.now k }
+fn location_ok(day: &Day, k: usize) -> bool
+    requires { (k < length day.now.flags) × (k < length day.now.demand) × (k < length day.now.service) × (k < length day.now.penalty) }
+    ensures { result ≡ location_ok day.now.flags day.now.demand day.now.service day.now.penalty k }
 {
-    both(
-        demand_ok(demand[k]),
-        both(
-            is_plain(service[k]),
-            both(penalty_ok(flags, penalty, k), flags[k] <= 7),
-        ),
-    )
+    let flags = day.flags[k];
+    demand_ok(day.demand[k])
+        && is_plain(day.service[k])
+        && penalty_ok(day.flags, day.penalty, k)
+        && flags <= 7
 }
 
 // 4, at every location.
-pub fn locations_ok(
-    l: usize,
-    flags: &[u8],
-    demand: &[i32],
-    service: &[f64],
-    penalty: &[f64],
-) -> bool
-    requires { (l ≤ length flags.now) × (l ≤ length demand.now) × (l ≤ length service.now) × (l ≤ length penalty.now) }
-    ensures { result ≡ locations_ok l flags.now demand.now service.now penalty.now }
+pub fn locations_ok(day: &Day) -> bool
+    requires { let d = day.now in (d.l ≤ length d.flags) × (d.l ≤ length d.demand) × (d.l ≤ length d.service) × (d.l ≤ length d.penalty) }
+    ensures { let d = day.now in result ≡ locations_ok d.l d.flags d.demand d.service d.penalty }
 {
-    let mut i = 0;
-    while i < l {
-        if !location_ok(flags, demand, service, penalty, i) {
-            return false;
-        }
-        i += 1;
-    }
-    true
+    (0..day.locations).all(|k| location_ok(day, k))
 }
 
 fn lead_ok(flags: &[u8], k: usize) -> bool
     requires { k + 1 < length flags.now }
     ensures { result ≡ lead_ok flags.now k }
 {
-    either(flag0(flags[k]), !flag0(flags[k + 1]))
+    flag0(flags[k]) || !flag0(flags[k + 1])
 }
 
 // 4: no depot flag stands after an unflagged location.
@@ -113,45 +89,27 @@ pub fn depots_lead(flags: &[u8]) -> bool
     requires { 0 < length flags.now }
     ensures { result ≡ depots_lead flags.now }
 {
-    let last = flags.len() - 1;
-    let mut i = 0;
-    while i < last {
-        if !lead_ok(flags, i) {
-            return false;
-        }
-        i += 1;
-    }
-    true
+    (0..flags.len() - 1).all(|k| lead_ok(flags, k))
 }
 
 pub fn span_ok(first: f64, last: f64) -> bool
     ensures { result ≡ span_ok first last }
 {
-    both(is_plain(first), both(is_plain(last), !(last < first)))
+    is_plain(first) && is_plain(last) && !(last < first)
 }
 
 // 5, at location k. The window is read only where its flag is on.
-fn window_ok(flags: &[u8], ready: &[f64], due: &[f64], k: usize) -> bool
-    requires { (k < length flags.now) × (k < length ready.now) × (k < length due.now) }
-    ensures { result ≡ window_ok flags.now ready.now due.now k }
+fn window_ok(day: &Day, k: usize) -> bool
+    requires { (k < length day.now.flags) × (k < length day.now.ready) × (k < length day.now.due) }
+    ensures { result ≡ window_ok day.now.flags day.now.ready day.now.due k }
 {
-    if !flag1(flags[k]) {
-        return true;
-    }
-    span_ok(ready[k], due[k])
+    !flag1(day.flags[k]) || span_ok(day.ready[k], day.due[k])
 }
 
 // 5, at every location.
-pub fn windows_ok(l: usize, flags: &[u8], ready: &[f64], due: &[f64]) -> bool
-    requires { (l ≤ length flags.now) × (l ≤ length ready.now) × (l ≤ length due.now) }
-    ensures { result ≡ windows_ok l flags.now ready.now due.now }
+pub fn windows_ok(day: &Day) -> bool
+    requires { let d = day.now in (d.l ≤ length d.flags) × (d.l ≤ length d.ready) × (d.l ≤ length d.due) }
+    ensures { let d = day.now in result ≡ windows_ok d.l d.flags d.ready d.due }
 {
-    let mut i = 0;
-    while i < l {
-        if !window_ok(flags, ready, due, i) {
-            return false;
-        }
-        i += 1;
-    }
-    true
+    (0..day.locations).all(|k| window_ok(day, k))
 }

@@ -29,12 +29,10 @@ fn turned_legs(l: usize, distances: &[f64], list: &[u16], first: usize, last: us
     ensures { result ≡ reversal_delta (leg l distances.now) (slice first (last + 1) list.now) }
 {
     let mut sum = 0.0;
-    let mut k = first;
-    while k < last {
+    for k in first..last {
         let x = visit_at(list, k);
         let y = visit_at(list, k + 1);
         sum = turned_leg(l, distances, x, y, sum);
-        k += 1;
     }
     sum
 }

@@ -5,7 +5,9 @@ use Prim.Native.Nat.{ℕ, suc, ◌+◌, ◌-◌, ◌<◌, ◌≤◌}
 use native.Mathlib.Numerals.{add-one}
 use native.Mathlib.Omega.{arith}
 use lib.ListN.{length, take, drop, get_or, set, length-drop, length-reverse, length-set}
-use lib.Seq.{slice, length-slice, paste, paste-zero, paste-suc, take-paste, drop-paste, take_all, split_at, get_or_at, take-suc-set, drop-set-lt}
+use lib.Seq.{slice, length-slice, paste, paste-suc, take_all, split_at, get_or_at}
+use borrow.Rule.Slice.PartMut.{put_mid, same_len_mid, mid_len}
+use Rattle.std.proofs.lemmas.Slice.{take-put_mid, drop-put_mid}
 use Rattle.edits.specs.Edits.{Appended}
 use Rattle.edits.proofs.Cuts.{lent}
 
@@ -18,14 +20,25 @@ appended_on {part = part} new old = new.filled ∙ ap (λ (l : List ℕ). l ++ p
 pub appended_whole : {part before : List ℕ} {end : ℕ} {after : List ℕ} → Appended 0 part before end after → length part ≡ length before → after ≡ part
 appended_whole {end = end} {after = after} new all = sym (take_all end after (omega (arith, new.ends, new.same_length))) ∙ new.filled
 
+-- a part copied behind the first `count`
+pub appended_part : (count : ℕ) (part before : List ℕ) → count + length part ≤ length before
+    → Appended count part before (count + length part) (put_mid count (count + length part - count) before part)
+appended_part count part before room =
+    let long : length part ≡ count + length part - count = omega arith in
+    let lent_long : length (take (count + length part - count) (drop count before)) ≡ count + length part - count =
+    mid_len count (count + length part) before room in
+    record {
+      ends = refl;
+      same_length = same_len_mid count (count + length part - count) before part (long ∙ sym lent_long);
+      filled = take-put_mid count _ before part (count + length part) refl (omega arith);
+      behind = drop-put_mid count _ before part (count + length part) (omega arith) (omega arith) long;
+    }
+
 -- a loop that has stored i visits of the part behind the first `count`
 pub record Storing (count : ℕ) (part before : List ℕ) (i : ℕ) (now : List ℕ) : Type 0 where
   pub stored : now ≡ paste before count part i
   pub within : i ≤ length part
   pub same_length : length now ≡ length before
-
-pub storing_none : (count : ℕ) (part before : List ℕ) → Storing count part before 0 before
-storing_none count part before = record { stored = paste-zero before count part; within = omega arith; same_length = refl }
 
 pub storing_more : (count : ℕ) (part before : List ℕ) (i : ℕ) (now : List ℕ) (visit : ℕ) → count + length part ≤ length before
     → i < length part → visit ≡ get_or part i 0 → Storing count part before i now → Storing count part before (i + 1) (set now (count + i) visit)
@@ -33,26 +46,6 @@ storing_more count part before i now visit room h at s = record {
   stored = rw (add-one i, s.stored, at) (paste-suc before count part i 0 (omega arith) h);
   within = omega arith;
   same_length = length-set now (count + i) visit ∙ s.same_length;
-}
-
-pub storing_all : (count : ℕ) (part before : List ℕ) (i : ℕ) (now : List ℕ) → count + length part ≤ length before
-    → length part ≤ i → Storing count part before i now → Appended count part before (count + i) now
-storing_all count part before i now room h s =
-    let all : i ≡ length part = omega (arith, s.within) in
-    record {
-      ends = ap (λ (n : ℕ). count + n) all;
-      same_length = s.same_length;
-      filled = rw s.stored (take-paste before count part i (omega arith) s.within ∙ ap (λ (l : List ℕ). take count before ++ l) (take_all i part h));
-      behind = rw s.stored (drop-paste before count part i (omega arith) s.within);
-    }
-
--- one visit stored
-pub stored_one : (count visit : ℕ) (before : List ℕ) → count < length before → Appended count (visit ∷ []) before (count + 1) (set before count visit)
-stored_one count visit before h = record {
-  ends = refl;
-  same_length = length-set before count visit;
-  filled = rw add-one (take-suc-set before count visit h);
-  behind = rw add-one (drop-set-lt (suc count) before count visit (omega arith));
 }
 
 -- what stands at place i of a reversed list

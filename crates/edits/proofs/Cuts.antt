@@ -1,11 +1,12 @@
 -- A list is the pieces that it is cut into. Assumes nothing.
-use mathlib.Core.Path.{◌≡◌, ap, ◌∙◌}
-use mathlib.Core.List.{List, [], ◌∷◌, ◌++◌}
+use mathlib.Core.Path.{◌≡◌, sym, ap, ◌∙◌}
+use mathlib.Core.List.{List, [], ◌∷◌, ◌++◌, append_assoc}
 use Prim.Native.Nat.{ℕ, zero, suc, ◌-◌, ◌≤◌}
 use native.Mathlib.Omega.{arith}
 use native.Mathlib.Nat.{sub-zero, suc-sub-suc, le_of_suc-le-suc, not-suc-le-zero}
 use lib.ListN.{length, take, drop, take-append-drop}
 use lib.Seq.{slice, take-take, take-nil, take-length}
+use borrow.Rule.Slice.PartMut.{put_mid, Post-is}
 
 module _ (xs : List ℕ) where
   -- cut at i and at e
@@ -30,6 +31,10 @@ lent zero e xs h = ap (λ (n : ℕ). take n xs) (sub-zero e)
 lent (suc i) zero xs h = absurd (not-suc-le-zero h)
 lent (suc i) (suc e) [] h = take-nil (suc e - suc i)
 lent (suc i) (suc e) (x ∷ xs) h = ap (λ (n : ℕ). take n (drop i xs)) (suc-sub-suc e i) ∙ lent i e xs (le_of_suc-le-suc h)
+
+-- a part that is put back, after `&mut xs[i..e]`
+pub put_back : (i e : ℕ) (xs ys : List ℕ) → i ≤ e → put_mid i (e - i) xs ys ≡ take i xs ++ ys ++ drop e xs
+put_back i e xs ys h = rw (Post-is i e xs h) (sym (append_assoc (take i xs) ys (drop e xs)))
 
 -- a buffer's front, lent
 pub front : (end : ℕ) (buffer ys : List ℕ) → take end buffer ≡ ys → take (end - 0) (drop 0 buffer) ≡ ys

@@ -6,7 +6,7 @@
 #![tactic(auto)]
 
 ghost use Rattle.std.specs.Prelude.{◌≡◌, ◌⊎◌, ◌+◌, ◌<◌, ◌≤◌, length};
-ghost use Rattle.edits.specs.Edits.{swapped, reversed, exchanged, put_before, outer_exchanged};
+ghost use Rattle.edits.specs.Edits.{reversed, exchanged, put_before, outer_exchanged};
 
 // A visit as a number.
 pub fn wide(v: u16) -> usize
@@ -15,34 +15,13 @@ pub fn wide(v: u16) -> usize
     v as usize
 }
 
-// Exchanges the visits at places i and j.
-fn swap(list: &mut [u16], i: usize, j: usize)
-    requires i_in_bounds { i < length list.old }
-    requires j_in_bounds { j < length list.old }
-    ensures { list.new ≡ swapped i j list.old }
-{
-    let x = list[i];
-    let y = list[j];
-    list[i] = y;
-    list[j] = x;
-}
-
-// Reverses the visits from place `from` up to, not including, place `to`. `left` is the length of the stretch still to reverse,
-// between i and j, so the loop stops before they meet.
+// Reverses the visits from place `from` up to, not including, place `to`.
 pub fn reverse(list: &mut [u16], from: usize, to: usize)
     requires from_le_to { from ≤ to }
     requires to_in_bounds { to ≤ length list.old }
     ensures { list.new ≡ reversed from to list.old }
 {
-    let mut i = from;
-    let mut j = to;
-    let mut left = to - from;
-    while 1 < left {
-        j = j - 1;
-        swap(list, i, j);
-        i = i + 1;
-        left = left - 2;
-    }
+    list[from..to].reverse();
 }
 
 // Exchanges the stretches from..a and b..to round the stretch a..b: each of the three is reversed, and then all
@@ -58,7 +37,8 @@ pub fn exchange_outer(list: &mut [u16], from: usize, a: usize, b: usize, to: usi
     reverse(list, from, to);
 }
 
-// Exchanges the neighbouring stretches from..middle and middle..to: outer stretches with nothing between them.
+// Exchanges the neighbouring stretches from..middle and middle..to: outer stretches with nothing between them. The library's
+// `rotate_left` takes 4,096 bytes of stack and calls memmove, which is not among the functions that a caller of the C library gives.
 pub fn exchange_stretches(list: &mut [u16], from: usize, middle: usize, to: usize)
     requires from_le_middle { (from ≤ middle) × (middle ≤ to) }
     requires to_in_bounds { to ≤ length list.old }

@@ -6,14 +6,13 @@ use mathlib.Core.Bool.{Bool, true, false}
 use lib.IntN.{pos, negsuc}
 use lib.ListN.{replicate}
 use lib.Ieee.{Float, nan, fin, binary64, of_int, add, sub, mul, sum, lt, le, eq, neg}
+use Rattle.std.specs.Prelude.{Option, Some, None}
 use Rattle.numbers.specs.Operations.{zero64}
 use Rattle.day.specs.Matrix.{leg, travel}
 use Rattle.day.specs.Customer.{window_at, is_violated, waiting_time, lateness_at}
 use Rattle.day.specs.Vehicle.{allows, keeps}
 use Rattle.day.specs.declared.customer.Window.TheVariants.{Hard}
 use Rattle.day.specs.declared.vehicle.VehicleBreak.{VehicleBreak}
-use Rattle.day.specs.declared.vehicle.Limit.TheVariants.{Unlimited}
-use Rattle.day.specs.declared.vehicle.Rest.TheVariants.{NoBreak}
 use Rattle.day.specs.declared.vehicle.RouteLimits.{RouteLimits}
 use Rattle.labels.specs.Columns.{Columns, columns, stop_of}
 use Rattle.labels.specs.Label.{at_start, in_time, too_late, served_in, resting, served, served_rested, served_from, served_rested_from, is_earlier, earlier_of}
@@ -21,11 +20,8 @@ use Rattle.break_clock.specs.Schedule.{ended, end_of, begun, pushed, end_before,
 use Rattle.evaluation.specs.Route.{end_untaken, home, unbroken, outcome, allowed, feasible}
 use Rattle.labels.specs.declared.stop.Stop.{Stop}
 use Rattle.labels.specs.declared.label.Taken.{Taken}
-use Rattle.labels.specs.declared.label.Taken.TheVariants.{Untaken, At}
-use Rattle.labels.specs.declared.label.Reached.{Reached}
-use Rattle.labels.specs.declared.label.Reached.TheVariants.{Served}
-use Rattle.break_clock.specs.declared.Outcome.{Outcome}
-use Rattle.break_clock.specs.declared.Outcome.TheVariants.{Possible}
+use Rattle.labels.specs.declared.label.Label.{Label}
+use Rattle.break_clock.specs.declared.Scheduled.{Scheduled}
 
 -- a whole number
 abbrev pub whole : ℕ → Float
@@ -46,7 +42,7 @@ line flags due =
     (row 0 ++ row 1 ++ row 2 ++ row 3 ++ row 4) []
 
 abbrev pub free : RouteLimits
-free = record { max_distance = Unlimited; max_duration = Unlimited; rest = NoBreak }
+free = record { max_distance = None; max_duration = None; rest = None }
 
 -- 'break earliest .., latest 90, duration 30'
 abbrev pub pause : ℕ → VehicleBreak
@@ -57,8 +53,8 @@ pause earliest = record { earliest = whole earliest; latest = whole 90; duration
 -- what a definition answers
 pub data Answer : Type 0 where
   passes : Bool → Answer
-  runs : Outcome → Answer
-  serves : Reached → Answer
+  runs : Option Scheduled → Answer
+  serves : Option Label → Answer
 
 -- a row: what a definition answers, and what document 01 says
 pub record Row : Type 0 where
@@ -66,13 +62,13 @@ pub record Row : Type 0 where
   pub said : Answer
 
 -- a schedule with nothing late
-abbrev pub on_time : ℕ → ℕ → Taken → Answer
+abbrev pub on_time : ℕ → ℕ → Option Taken → Answer
 on_time distance duration rest =
-    runs (Possible (record { distance = whole distance; duration = whole duration; lateness = zero64; lateness_cost = zero64; rest = rest }))
+    runs (Some (record { distance = whole distance; duration = whole duration; lateness = zero64; lateness_cost = zero64; rest = rest }))
 
 -- a service of 0 that starts then
 abbrev pub starts : Float → Answer
-starts time = serves (Served (record { time = time; lateness = zero64; lateness_cost = zero64; position = 0; start = zero64 }))
+starts time = serves (Some (record { time = time; lateness = zero64; lateness_cost = zero64; position = 0; start = zero64 }))
 
 -- 2^-53, and a window that opens at 1 + 2^-52
 abbrev pub early : Float
@@ -85,8 +81,8 @@ abbrev pub days : List Row
 days =
     record { answered = passes (feasible (line 2 20) free 0 (2 ∷ [])); said = passes true }
     ∷ record { answered = passes (feasible (line 2 19) free 0 (2 ∷ [])); said = passes false }
-    ∷ record { answered = runs (scheduled (line 0 0) (pause 20) 0 (1 ∷ [])); said = on_time 20 20 Untaken }
-    ∷ record { answered = runs (scheduled (line 0 0) (pause 19) 0 (1 ∷ [])); said = on_time 20 59 (At 0 (whole 19)) }
+    ∷ record { answered = runs (scheduled (line 0 0) (pause 20) 0 (1 ∷ [])); said = on_time 20 20 None }
+    ∷ record { answered = runs (scheduled (line 0 0) (pause 19) 0 (1 ∷ [])); said = on_time 20 59 (Some (record { position = 0; start = whole 19 })) }
     ∷ record { answered = serves (served at_start early narrow); said = starts (whole 1) }
     ∷ []
 

@@ -1,3 +1,4 @@
+pub mod Distances
 pub mod Answer
 pub mod Onward
 pub mod Same

@@ -2,6 +2,7 @@
 use Prim.Native.Nat.{ℕ}
 use mathlib.Core.Path.{◌≡◌, ap}
 use mathlib.Core.List.{List, ◌++◌}
+use Rattle.std.specs.Prelude.{Option, Some}
 use Rattle.numbers.specs.Operations.{zero64}
 use Rattle.day.specs.declared.vehicle.VehicleBreak.{VehicleBreak}
 use Rattle.labels.specs.Columns.{Columns}
@@ -9,14 +10,13 @@ use Rattle.labels.specs.Walk.{Tour, tour_of, walk, walk_on}
 use Rattle.labels.specs.Label.{at_start}
 use Rattle.break_clock.specs.Schedule.{begun, tick_break, home_break, scheduled}
 use Rattle.evaluation.specs.Route.{tick, home, unbroken}
-use Rattle.labels.specs.declared.label.Reached.{Reached}
-use Rattle.labels.specs.declared.label.Reached.TheVariants.{Served}
+use Rattle.labels.specs.declared.label.Label.{Label}
 use Rattle.break_clock.specs.declared.BreakClock.{BreakClock}
 
 module _ (c : Columns) (depot : ℕ) where
   -- where a list without a break ends
-  abbrev pub driven : List ℕ → Tour Reached
-  driven list = walk c (tick c) (tour_of zero64 (Served at_start) depot) list
+  abbrev pub driven : List ℕ → Tour (Option Label)
+  driven list = walk c (tick c) (tour_of zero64 (Some at_start) depot) list
 
   -- where a list with the break ends
   abbrev pub driven_break : VehicleBreak → List ℕ → Tour BreakClock
@@ -25,7 +25,7 @@ module _ (c : Columns) (depot : ℕ) where
   -- without a break, the second part goes on from where the first ended
   pub unbroken_on : (first second : List ℕ) → unbroken c depot (first ++ second) ≡ home c depot (walk c (tick c) (driven first) second)
   unfolding unbroken
-  unbroken_on first second = ap (home c depot) (walk_on c (tick c) (tour_of zero64 (Served at_start) depot) first second)
+  unbroken_on first second = ap (home c depot) (walk_on c (tick c) (tour_of zero64 (Some at_start) depot) first second)
 
   -- the same with the break
   pub scheduled_on : (rest : VehicleBreak) (first second : List ℕ) →

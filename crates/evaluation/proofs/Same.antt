@@ -6,13 +6,12 @@ use mathlib.Core.List.{List, [], ◌∷◌}
 use mathlib.Core.Bool.{Bool, true, false, cond}
 use lib.ListN.{length, get_or}
 use lib.Ieee.{Float, nan}
+use Rattle.std.specs.Prelude.{Option, Some, None}
 use Rattle.numbers.specs.Operations.{◌⊕◌, zero64}
 use Rattle.day.specs.Day.{bit1, bit2}
 use Rattle.day.specs.Customer.{window_at}
 use Rattle.day.specs.declared.customer.Window.{Window}
 use Rattle.day.specs.declared.customer.Window.TheVariants.{Open, Hard, Soft}
-use Rattle.day.specs.declared.vehicle.Rest.{Rest}
-use Rattle.day.specs.declared.vehicle.Rest.TheVariants.{NoBreak, Break}
 use Rattle.day.specs.declared.vehicle.VehicleBreak.{VehicleBreak}
 use Rattle.day.specs.declared.vehicle.RouteLimits.{RouteLimits}
 use Rattle.labels.specs.Columns.{Columns, stop_of, stop_at, leg_in, travel_in}
@@ -20,8 +19,7 @@ use Rattle.labels.specs.Walk.{Tour, tour_of, onward, walk}
 use Rattle.labels.specs.Label.{at_start}
 use Rattle.break_clock.specs.Schedule.{begun, pushed, tick_break, home_break, scheduled}
 use Rattle.evaluation.specs.Route.{tick, home, unbroken, outcome, allowed, evaluated, feasible, eval, cost_of, effective_cost}
-use Rattle.labels.specs.declared.label.Reached.TheVariants.{Served}
-use Rattle.break_clock.specs.declared.Outcome.{Outcome}
+use Rattle.break_clock.specs.declared.Scheduled.{Scheduled}
 
 -- ---- a stop
 
@@ -70,7 +68,7 @@ same_rest s = record {
 }
 
 -- for any clock that stands `At` the van's place, and whose tick and end ask only for the leg and the stop
-module _ {Clock : Type 0} (ticks : Columns → Clock → ℕ → ℕ → Clock) (homes : Columns → ℕ → Tour Clock → Outcome) (At : Clock → ℕ → Type 0) (c e : Columns)
+module _ {Clock : Type 0} (ticks : Columns → Clock → ℕ → ℕ → Clock) (homes : Columns → ℕ → Tour Clock → Option Scheduled) (At : Clock → ℕ → Type 0) (c e : Columns)
     (depot : ℕ)
     (stays : (k : Clock) (place visit : ℕ) → At (ticks c k place visit) visit)
     (same-tick : (k : Clock) (place visit : ℕ) → At k place → travel_in c place visit ≡ travel_in e place visit → stop_at c visit ≡ stop_at e visit →
@@ -94,7 +92,7 @@ module _ (c e : Columns) (depot : ℕ) (list : List ℕ) (same : SameFor c e dep
   unfolding unbroken home
   unbroken_same =
       same_walk tick home (λ k place. Unit {0}) c e depot (λ k place visit. tt) (λ k place visit a p q. rw (p, q)) (λ t a p q. rw (p, q)) list
-      (tour_of zero64 (Served at_start) depot) tt same
+      (tour_of zero64 (Some at_start) depot) tt same
 
   pub scheduled_same : (rest : VehicleBreak) → scheduled c rest depot list ≡ scheduled e rest depot list
   unfolding scheduled home_break pushed begun
@@ -102,10 +100,10 @@ module _ (c e : Columns) (depot : ℕ) (list : List ℕ) (same : SameFor c e dep
       same_walk tick_break home_break (λ k place. k.prev ≡ place) c e depot (λ k place visit. refl) (λ k place visit a p q. rw (a, p, q))
       (λ t a p q. rw (a, p, q)) list (tour_of zero64 (begun rest depot) depot) refl same
 
-  outcome_same : (rest : Rest) → outcome c rest depot list ≡ outcome e rest depot list
+  outcome_same : (rest : Option VehicleBreak) → outcome c rest depot list ≡ outcome e rest depot list
   unfolding outcome
-  outcome_same NoBreak = unbroken_same
-  outcome_same (Break rest) = scheduled_same rest
+  outcome_same None = unbroken_same
+  outcome_same (Some rest) = scheduled_same rest
 
   -- the check
   pub feasible_same : (limits : RouteLimits) → feasible c limits depot list ≡ feasible e limits depot list

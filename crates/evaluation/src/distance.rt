@@ -11,17 +11,15 @@ pub fn route_distance(l: usize, distances: &[f64], depot: usize, list: &[u16]) -
     requires { Square l distances.now × (depot < l) × Visits l list.now }
     ensures { result ≡ route_distance l distances.now depot list.now }
 {
-    if list.len() == 0 {
+    let [first, others @ ..] = list else {
         return 0.0;
-    }
-    let mut place = list[0] as usize;
+    };
+    let mut place = *first as usize;
     let mut distance = get(l, distances, depot, place);
-    let mut i = 1;
-    while i < list.len() {
-        let visit = list[i] as usize;
+    for visit in others {
+        let visit = *visit as usize;
         distance = distance + get(l, distances, place, visit);
         place = visit;
-        i += 1;
     }
     distance + get(l, distances, place, depot)
 }

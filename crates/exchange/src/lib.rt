@@ -10,7 +10,6 @@ ghost use Rattle.std.specs.Int.Signed.{le_z};
 ghost use Rattle.numbers.specs.Operations.{zero64};
 ghost use Rattle.lists.specs.Table.{lists};
 ghost use Rattle.list_changes.specs.Edits.{Edited};
-ghost use Rattle.labels.specs.Columns.{columns_at, Formed};
 ghost use Rattle.descent.specs.Permitted.{tail_exchange};
 ghost use Rattle.descent.specs.Search.{run};
 ghost use Rattle.descent.specs.Engines.{run_of};
@@ -19,12 +18,14 @@ ghost use Rattle.engine.specs.Engine.{checks_of, map_of, ended_as};
 ghost use Rattle.loads.specs.Loads.{boxes, Loaded, Held};
 ghost use Rattle.tail_candidates.specs.Candidate.{Asked};
 ghost use Rattle.exchange_sweeps.specs.Exchange.{next_of};
+ghost use Rattle.labels.specs.Lent.{lent};
 
 use day::vehicle::RouteLimits;
 use day_scans::matrix::scale;
 use engine::Ended;
 use evaluation::route::route_checks_needed;
 use exchange_sweeps::{Place, next_move, place_after};
+use labels::columns::Columns;
 use list_changes::exchange_tails;
 use loads::boxes_in;
 use numbers::gain_floor;
@@ -32,27 +33,17 @@ use tail_candidates::Terms;
 
 // Moves until none is left or the limit is used up. The run starts with nothing ahead, in front of a new sweep.
 fn run_moves(
-    flags: &[u8],
+    columns: &Columns,
     demand: &[i32],
-    service: &[f64],
-    ready: &[f64],
-    due: &[f64],
-    penalty: &[f64],
-    distances: &[f64],
-    times: &[f64],
     terms: Terms,
     visits: &mut [u16],
     lengths: &mut [u16],
     limit: u32,
 ) -> Ended
-    requires asked { Asked (columns_at terms.l flags service ready due penalty distances times) demand.now terms }
-    requires held { Held terms.l visits.old lengths.old }
-    ensures { let run = run
-        (next_of
-        (columns_at terms.l flags.entry service.entry ready.entry due.entry penalty.entry distances.entry times.entry)
-        demand.now terms)
-        limit (record { now = lists visits.old lengths.old; ahead = [] })
-        in Edited visits.old lengths.old visits.new lengths.new run.last.now
+    requires asked { Asked (lent columns.now) demand.now terms }
+    requires held { Held columns.now.locations visits.old lengths.old }
+    ensures { let run = run (next_of (lent columns.now) demand.now terms)
+        limit (record { now = lists visits.old lengths.old; ahead = [] }) in Edited visits.old lengths.old visits.new lengths.new run.last.now
         × (result ≡ ended_as run.word run.moves) }
 {
     let n = lengths.len();
@@ -62,10 +53,7 @@ fn run_moves(
         other: n + 1,
     };
     loop {
-        let found = next_move(
-            flags, demand, service, ready, due, penalty, distances, times, terms, visits, lengths,
-            ahead,
-        );
+        let found = next_move(columns, demand, terms, visits, lengths, ahead);
         if found.cut1 == 0 {
             return Ended::Settled(moves);
         }
@@ -88,15 +76,8 @@ fn run_moves(
 
 // Tail exchange of the lists of a call, up to a limit of moves. An emptied list is no case: each head keeps a visit.
 pub fn exchange_improve(
-    l: usize,
-    flags: &[u8],
+    columns: &Columns,
     demand: &[i32],
-    service: &[f64],
-    ready: &[f64],
-    due: &[f64],
-    penalty: &[f64],
-    distances: &[f64],
-    times: &[f64],
     limits: RouteLimits,
     capacity: i32,
     depot: usize,
@@ -104,26 +85,22 @@ pub fn exchange_improve(
     lengths: &mut [u16],
     limit: u32,
 ) -> Ended
-    requires formed { Formed (columns_at l flags service ready due penalty distances times) × Loaded l demand.now }
-    requires capacity_value { (le_z (pos 0) capacity ≡ true) × (depot < l) × Held l visits.old lengths.old }
-    ensures { let c = columns_at l flags.entry service.entry ready.entry due.entry penalty.entry distances.entry times.entry in
+    requires loaded { Loaded columns.now.locations demand.now }
+    requires capacity_value { (le_z (pos 0) capacity ≡ true) × (depot < columns.now.locations) × Held columns.now.locations visits.old lengths.old }
+    ensures { let c = lent columns.now in
         let run = run_of tail_exchange (checks_of (boxes demand.now capacity ∷ []) c limits depot)
-        (float_judge tail_exchange (map_of l distances.now depot zero64)) limit (lists visits.old lengths.old)
+        (float_judge tail_exchange (map_of columns.now.locations columns.now.distances.now depot zero64)) limit (lists visits.old lengths.old)
         in Edited visits.old lengths.old visits.new lengths.new run.last.now
         × (result ≡ ended_as run.word run.moves) }
 {
-    let floor = gain_floor(scale(distances));
-    let needed = route_checks_needed(flags, limits);
+    let floor = gain_floor(scale(columns.distances));
+    let needed = route_checks_needed(columns.flags, limits);
     let terms = Terms {
-        l,
         depot,
         limits,
         capacity: boxes_in(capacity),
         needed,
         floor,
     };
-    run_moves(
-        flags, demand, service, ready, due, penalty, distances, times, terms, visits, lengths,
-        limit,
-    )
+    run_moves(columns, demand, terms, visits, lengths, limit)
 }

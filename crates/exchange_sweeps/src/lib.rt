@@ -5,11 +5,12 @@
 
 ghost use Rattle.std.specs.Prelude.{◌≡◌, ◌<◌, length};
 ghost use Rattle.lists.specs.Table.{lists};
-ghost use Rattle.labels.specs.Columns.{columns_at};
 ghost use Rattle.loads.specs.Loads.{Held};
 ghost use Rattle.tail_candidates.specs.Candidate.{Asked};
 ghost use Rattle.exchange_sweeps.specs.Exchange.{pair_at, moved_by, taken_at, from, place_after, InSweep, first_at, next_of, leads, Apt};
+ghost use Rattle.labels.specs.Lent.{lent};
 
+use labels::columns::Columns;
 use lists::list_of;
 use tail_candidates::{Choice, Terms};
 use tails::best_exchange;
@@ -31,30 +32,21 @@ pub struct Found {
 
 // The exchange to take at a pair of lists.
 fn best_at(
-    flags: &[u8],
+    columns: &Columns,
     demand: &[i32],
-    service: &[f64],
-    ready: &[f64],
-    due: &[f64],
-    penalty: &[f64],
-    distances: &[f64],
-    times: &[f64],
     terms: Terms,
     visits: &[u16],
     lengths: &[u16],
     place: Place,
 ) -> Choice
-    requires asked { Asked (columns_at terms.l flags service ready due penalty distances times) demand.now terms }
-    requires held { Held terms.l visits.now lengths.now × (place.one < place.other) × (place.other < length lengths.now) }
-    ensures { moved_by (pair_at place) result.cut1 result.cut2 ≡ taken_at
-        (columns_at terms.l flags.entry service.entry ready.entry due.entry penalty.entry distances.entry times.entry)
+    requires asked { Asked (lent columns.now) demand.now terms }
+    requires held { Held columns.now.locations visits.now lengths.now × (place.one < place.other) × (place.other < length lengths.now) }
+    ensures { moved_by (pair_at place) result.cut1 result.cut2 ≡ taken_at (lent columns.now)
         demand.now terms (lists visits.now lengths.now) (pair_at place) }
 {
     let one = list_of(visits, lengths, place.one);
     let other = list_of(visits, lengths, place.other);
-    best_exchange(
-        flags, demand, service, ready, due, penalty, distances, times, terms, one, other,
-    )
+    best_exchange(columns, demand, terms, one, other)
 }
 
 // The place that follows in a sweep over n lists.
@@ -76,34 +68,23 @@ pub fn place_after(n: usize, place: Place) -> Place
 
 // The first move from a place of the sweep on.
 fn first_move(
-    flags: &[u8],
+    columns: &Columns,
     demand: &[i32],
-    service: &[f64],
-    ready: &[f64],
-    due: &[f64],
-    penalty: &[f64],
-    distances: &[f64],
-    times: &[f64],
     terms: Terms,
     visits: &[u16],
     lengths: &[u16],
     start: Place,
 ) -> Found
-    requires asked { Asked (columns_at terms.l flags service ready due penalty distances times) demand.now terms }
-    requires held { Held terms.l visits.now lengths.now × InSweep (length lengths.now) start }
+    requires asked { Asked (lent columns.now) demand.now terms }
+    requires held { Held columns.now.locations visits.now lengths.now × InSweep (length lengths.now) start }
     ensures { let ls = lists visits.now lengths.now in
-        (leads ls result ≡ first_at
-        (columns_at terms.l flags.entry service.entry ready.entry due.entry penalty.entry distances.entry times.entry)
-        demand.now terms ls (from (length lengths.now) start))
+        (leads ls result ≡ first_at (lent columns.now) demand.now terms ls (from (length lengths.now) start))
         × Apt visits.now lengths.now result }
 {
     let n = lengths.len();
     let mut place = start;
     while place.other < n {
-        let best = best_at(
-            flags, demand, service, ready, due, penalty, distances, times, terms, visits, lengths,
-            place,
-        );
+        let best = best_at(columns, demand, terms, visits, lengths, place);
         if best.cut1 != 0 {
             return Found {
                 place,
@@ -122,37 +103,24 @@ fn first_move(
 
 // The next move: the first ahead in this sweep or, where there is none, the first of a new sweep.
 pub fn next_move(
-    flags: &[u8],
+    columns: &Columns,
     demand: &[i32],
-    service: &[f64],
-    ready: &[f64],
-    due: &[f64],
-    penalty: &[f64],
-    distances: &[f64],
-    times: &[f64],
     terms: Terms,
     visits: &[u16],
     lengths: &[u16],
     ahead: Place,
 ) -> Found
-    requires asked { Asked (columns_at terms.l flags service ready due penalty distances times) demand.now terms }
-    requires held { Held terms.l visits.now lengths.now × InSweep (length lengths.now) ahead }
+    requires asked { Asked (lent columns.now) demand.now terms }
+    requires held { Held columns.now.locations visits.now lengths.now × InSweep (length lengths.now) ahead }
     ensures { let ls = lists visits.now lengths.now in
-        (leads ls result ≡ next_of
-        (columns_at terms.l flags.entry service.entry ready.entry due.entry penalty.entry distances.entry times.entry)
+        (leads ls result ≡ next_of (lent columns.now)
         demand.now terms (record { now = ls; ahead = from (length lengths.now) ahead }))
         × Apt visits.now lengths.now result }
 {
-    let found = first_move(
-        flags, demand, service, ready, due, penalty, distances, times, terms, visits, lengths,
-        ahead,
-    );
+    let found = first_move(columns, demand, terms, visits, lengths, ahead);
     if found.cut1 != 0 {
         return found;
     }
     let start = Place { one: 0, other: 1 };
-    first_move(
-        flags, demand, service, ready, due, penalty, distances, times, terms, visits, lengths,
-        start,
-    )
+    first_move(columns, demand, terms, visits, lengths, start)
 }

@@ -1,29 +1,56 @@
--- The first van with an id: where the search for it stands, that what it finds is a van of the fleet, and that its id finds it again. Assumes nothing.
+-- The first van with an id: that the library's `position` finds it, that what it finds is a van of the fleet, and that its id finds it again. Each by going down the ids.
 use mathlib.Core.Path.{◌≡◌, refl, sym, ap, ◌∙◌}
-use mathlib.Core.Logic.{◌⊎◌, inl, inr, ◌≢◌}
-use mathlib.Core.Bool.{Bool, true, false}
+use mathlib.Core.Logic.{◌⊎◌, inl, inr}
+use mathlib.Core.Bool.{Bool, true, false, not, cond}
 use mathlib.Core.List.{List, [], ◌∷◌}
 use Prim.Native.Nat.{ℕ, suc, ◌+◌, ◌≤◌, ◌<◌}
-use native.Mathlib.Numerals.{add-one}
 use native.Mathlib.Omega.{arith}
-use borrow.Author.Tests.{eq-eqb, eqb-true, ne_eqb}
-use lib.Dec.{eqb}
-use lib.ListN.{length, get_or, drop, drop_of_length-le}
+use borrow.Author.Tests.{eq-eqb, eqb-true, ltb-true, ltb-false}
+use lib.Dec.{eqb, ltb}
+use lib.ListN.{length, get_or, drop}
 use lib.Seq.{drop-cons}
+use Rattle.std.specs.Prelude.{Option, Some, None, unwrap_or}
+use Rattle.std.specs.List.{position_or_len}
 use Rattle.fleet.specs.Fleet.{Fleet, van_at, number_from, fleet_vehicle, Driven, Manned}
 
-module _ (id : ℕ) (ids : List ℕ) (k : ℕ) where
-  pub number_here : k < length ids → get_or ids k 0 ≡ id → number_from id (drop k ids) k ≡ k
-  unfolding number_from
-  number_here h e = rw (drop-cons ids k 0 h, eq-eqb (get_or ids k 0) id e, number_from)
+-- counted on from k, the van at k is found where it has the id
+pub number_here : (id : ℕ) (ids : List ℕ) (k : ℕ) → k < length ids → get_or ids k 0 ≡ id → number_from id (drop k ids) k ≡ k
+unfolding number_from
+number_here id ids k h e = rw (drop-cons ids k 0 h, eq-eqb (get_or ids k 0) id e, number_from)
 
-  pub number_later : k < length ids → get_or ids k 0 ≢ id → number_from id (drop (k + 1) ids) (k + 1) ≡ number_from id (drop k ids) k
-  unfolding number_from
-  number_later h o = rw (add-one k, drop-cons ids k 0 h, ne_eqb (get_or ids k 0) id o, number_from)
+-- where the first van with the id stands, as the library's `position` counts
+abbrev place : ℕ → List ℕ → ℕ
+place id ids = position_or_len (λ x. eqb x id) ids
 
-  pub number_none : length ids ≤ k → number_from id (drop k ids) k ≡ 0
-  unfolding number_from
-  number_none h = rw (drop_of_length-le ids h)
+number_there : (id : ℕ) (ids : List ℕ) (k : ℕ) → place id ids < length ids → number_from id ids k ≡ k + place id ids
+unfolding number_from
+number_there id [] k there = absurd (omega arith)
+number_there id (x ∷ ids) k there = by_test (eqb x id) there (λ h. number_there id ids (suc k) h)
+  where
+    by_test : (b : Bool) → cond (not b) (1 + place id ids) 0 < suc (length ids) → (place id ids < length ids → number_from id ids (suc k) ≡ suc k + place id ids)
+        → elim b [ true ↦ k | false ↦ number_from id ids (suc k) ] ≡ k + cond (not b) (1 + place id ids) 0
+    by_test true h rest = omega arith
+    by_test false h rest = rest (omega arith) ∙ omega arith
+
+number_absent : (id : ℕ) (ids : List ℕ) (k : ℕ) → length ids ≤ place id ids → number_from id ids k ≡ 0
+unfolding number_from
+number_absent id [] k none = refl
+number_absent id (x ∷ ids) k none = by_test (eqb x id) none (λ h. number_absent id ids (suc k) h)
+  where
+    by_test : (b : Bool) → suc (length ids) ≤ cond (not b) (1 + place id ids) 0 → (length ids ≤ place id ids → number_from id ids (suc k) ≡ 0)
+        → ◌≡◌ {A = ℕ} (elim b [ true ↦ k | false ↦ number_from id ids (suc k) ]) 0
+    by_test true h rest = absurd (omega arith)
+    by_test false h rest = rest (omega arith)
+
+-- what `position` answers is the number of the first van with the id, and where it answers none the number is 0
+pub number_found : (id : ℕ) (ids : List ℕ) (found : Option ℕ)
+    → found ≡ cond (ltb (position_or_len (λ x. eqb x id) ids) (length ids)) (Some (position_or_len (λ x. eqb x id) ids)) None
+    → unwrap_or found 0 ≡ number_from id ids 0
+number_found id ids found is = ap (λ o. unwrap_or o 0) is ∙ by_place (ltb (place id ids) (length ids)) refl
+  where
+    by_place : (b : Bool) → ltb (place id ids) (length ids) ≡ b → unwrap_or (cond b (Some (place id ids)) None) 0 ≡ number_from id ids 0
+    by_place true e = sym (number_there id ids 0 (ltb-true _ _ e) ∙ omega arith)
+    by_place false e = sym (number_absent id ids 0 (ltb-false _ _ e))
 
 -- counted on from k, the number is 0 or one of the rest
 number_within : (id : ℕ) (ids : List ℕ) (k n : ℕ) → k + length ids ≡ n → 0 < n → number_from id ids k < n

@@ -5,10 +5,9 @@ use mathlib.Core.Bool.{Bool, true, false, cond}
 use mathlib.Core.List.{List}
 use lib.ListN.{take, drop, take-append-drop}
 use lib.Ieee.{Float, inf}
+use Rattle.std.specs.Prelude.{Option, Some, None}
 use Rattle.numbers.specs.Operations.{◌⊕◌, zero64}
 use Rattle.day.specs.Vehicle.{allows}
-use Rattle.day.specs.declared.vehicle.Rest.{Rest}
-use Rattle.day.specs.declared.vehicle.Rest.TheVariants.{NoBreak, Break}
 use Rattle.day.specs.declared.vehicle.VehicleBreak.{VehicleBreak}
 use Rattle.day.specs.declared.vehicle.RouteLimits.{RouteLimits}
 use Rattle.labels.specs.Columns.{Columns}
@@ -17,42 +16,37 @@ use Rattle.labels.specs.Label.{at_start}
 use Rattle.break_clock.specs.Schedule.{ended}
 use Rattle.evaluation.specs.Route.{tick, home, unbroken, outcome, evaluated, eval, priced_distance, cost_of, effective_cost}
 use Rattle.labels.specs.declared.label.Label.{Label}
-use Rattle.labels.specs.declared.label.Taken.TheVariants.{Untaken}
-use Rattle.labels.specs.declared.label.Reached.{Reached}
-use Rattle.labels.specs.declared.label.Reached.TheVariants.{Served}
-use Rattle.evaluation.specs.declared.route.Evaluation.TheVariants.{Fails, Passes}
-use Rattle.break_clock.specs.declared.Outcome.TheVariants.{Impossible}
 use Rattle.heads.specs.Head.{tour_at, Driven}
 use Rattle.heads.specs.declared.Head.{Head}
 use Rattle.head_prices.specs.Prices.{ended_cost, cost_from, price_by, price_from}
 
 -- the price of an end
 pub end_costs : (limits : RouteLimits) (label : Label) (distance back : Float) →
-    ended_cost limits label distance back ≡ cost_of (evaluated limits (ended label Untaken distance back))
+    ended_cost limits label distance back ≡ cost_of (evaluated limits (ended label None distance back))
 unfolding ended_cost cost_of evaluated ended priced_distance
 end_costs limits label distance back = go (allows limits distance (label.time ⊕ back))
   where
     go : (b : Bool) → cond b (distance ⊕ label.lateness_cost) (inf false)
-        ≡ cost_of (cond b (Passes (record {
+        ≡ cost_of (cond b (Some (record {
           distance = distance;
           duration = label.time ⊕ back;
           lateness = label.lateness;
           lateness_cost = label.lateness_cost;
-        })) Fails)
+        })) None)
     go true = refl
     go false = refl
 
 -- a list that can't be served costs infinity
-pub missed_costs : (limits : RouteLimits) → inf false ≡ cost_of (evaluated limits Impossible)
+pub missed_costs : (limits : RouteLimits) → inf false ≡ cost_of (evaluated limits None)
 unfolding cost_of evaluated
 missed_costs limits = refl
 
-module _ (c : Columns) (limits : RouteLimits) (depot : ℕ) (head : Head) (others : List ℕ) (rest : Rest) where
-  pub price_unbroken : rest ≡ NoBreak → cost_from c limits depot head others ≡ price_by rest c limits depot head others
+module _ (c : Columns) (limits : RouteLimits) (depot : ℕ) (head : Head) (others : List ℕ) (rest : Option VehicleBreak) where
+  pub price_unbroken : rest ≡ None → cost_from c limits depot head others ≡ price_by rest c limits depot head others
   unfolding price_by
   price_unbroken e = rw e
 
-  pub price_broken : (pause : VehicleBreak) → rest ≡ Break pause → effective_cost c limits depot others ≡ price_by rest c limits depot head others
+  pub price_broken : (pause : VehicleBreak) → rest ≡ Some pause → effective_cost c limits depot others ≡ price_by rest c limits depot head others
   unfolding price_by
   price_broken pause e = rw e
 
@@ -62,16 +56,16 @@ pub from_head : (c : Columns) (limits : RouteLimits) (depot : ℕ) (list other :
 unfolding price_by cost_from effective_cost eval outcome unbroken
 from_head c limits depot list other head driven e = go limits.rest refl
   where
-    start : Tour Reached
-    start = tour_of zero64 (Served at_start) depot
+    start : Tour (Option Label)
+    start = tour_of zero64 (Some at_start) depot
 
     whole : walk c (tick c) start other ≡ walk c (tick c) (tour_at head) (drop head.visits other)
     whole =
         ap (walk c (tick c) start) (sym (take-append-drop head.visits other))
         ∙ walk_on c (tick c) start (take head.visits other) (drop head.visits other)
-        ∙ ap (λ (t : Tour Reached). walk c (tick c) t (drop head.visits other)) (ap (walk c (tick c) start) e ∙ driven.same)
+        ∙ ap (λ (t : Tour (Option Label)). walk c (tick c) t (drop head.visits other)) (ap (walk c (tick c) start) e ∙ driven.same)
 
-    go : (rest : Rest) → limits.rest ≡ rest →
+    go : (rest : Option VehicleBreak) → limits.rest ≡ rest →
         price_by rest c limits depot head (drop head.visits other) ≡ cost_of (evaluated limits (outcome c rest depot other))
-    go NoBreak r = ap (λ (t : Tour Reached). cost_of (evaluated limits (home c depot t))) (sym whole)
-    go (Break pause) r = rw (driven.unbroken pause r, r)
+    go None r = ap (λ (t : Tour (Option Label)). cost_of (evaluated limits (home c depot t))) (sym whole)
+    go (Some pause) r = rw (driven.unbroken pause r, r)

@@ -1,10 +1,9 @@
 -- What a list costs from its head on. For the searches that price many lists with one head. Assumes nothing.
-use Rattle.std.specs.Prelude.{ℕ, false, cond, List, Float}
+use Rattle.std.specs.Prelude.{ℕ, false, cond, List, Float, Option, Some, None}
 use Rattle.std.specs.Float.{inf}
 use Rattle.numbers.specs.Operations.{◌⊕◌}
 use Rattle.day.specs.Vehicle.{allows}
-use Rattle.day.specs.declared.vehicle.Rest.{Rest}
-use Rattle.day.specs.declared.vehicle.Rest.TheVariants.{NoBreak, Break}
+use Rattle.day.specs.declared.vehicle.VehicleBreak.{VehicleBreak}
 use Rattle.day.specs.declared.vehicle.RouteLimits.{RouteLimits}
 use Rattle.labels.specs.Columns.{Columns}
 use Rattle.labels.specs.Walk.{walk}
@@ -22,9 +21,9 @@ unfoldable pub cost_from : Columns → RouteLimits → ℕ → Head → List ℕ
 cost_from c limits depot head others = cost_of (evaluated limits (home c depot (walk c (tick c) (tour_at head) others)))
 
 -- the same, whether there is a break or not
-unfoldable pub price_by : Rest → Columns → RouteLimits → ℕ → Head → List ℕ → Float
-price_by NoBreak c limits depot head others = cost_from c limits depot head others
-price_by (Break pause) c limits depot head others = effective_cost c limits depot others
+unfoldable pub price_by : Option VehicleBreak → Columns → RouteLimits → ℕ → Head → List ℕ → Float
+price_by None c limits depot head others = cost_from c limits depot head others
+price_by (Some pause) c limits depot head others = effective_cost c limits depot others
 
 -- the price of the list of a head and the visits behind it, or, with a break, of the whole list
 abbrev pub price_from : Columns → RouteLimits → ℕ → Head → List ℕ → Float

@@ -3,15 +3,15 @@
 #![tactic(auto)]
 
 ghost use Rattle.std.specs.Prelude.{◌≡◌, ◌<◌};
-ghost use Rattle.labels.specs.Columns.{columns_at, Formed, Visits};
+ghost use Rattle.labels.specs.Columns.{Visits};
+ghost use Rattle.labels.specs.Lent.{lent};
 ghost use Rattle.head_prices.specs.Prices.{ended_cost, cost_from, price_from};
 
-use day::matrix::{get, travel_time};
-use day::vehicle::{Rest, RouteLimits};
+use day::vehicle::RouteLimits;
 use evaluation::route::effective_cost;
 use heads::Head;
-use labels::label::{Label, Reached, serve};
-use labels::stop::stop_of;
+use labels::columns::Columns;
+use labels::label::{Label, serve};
 use numbers::infinite;
 
 // What a list costs that ends with this label, infinite where a limit is broken.
@@ -26,81 +26,49 @@ fn ended_cost(limits: RouteLimits, label: Label, distance: f64, back: f64) -> f6
 
 // What a list costs with no break to take, the visits behind its head given.
 fn cost_from(
-    l: usize,
-    flags: &[u8],
-    service: &[f64],
-    ready: &[f64],
-    due: &[f64],
-    penalty: &[f64],
-    distances: &[f64],
-    times: &[f64],
+    columns: &Columns,
     limits: RouteLimits,
     depot: usize,
     head: Head,
     others: &[u16],
 ) -> f64
-    requires formed { Formed (columns_at l flags service ready due penalty distances times) }
-    requires depot_lt_l { (depot < l) × (head.place < l) × Visits l others.now }
-    ensures { result ≡ cost_from
-        (columns_at l flags.entry service.entry ready.entry due.entry penalty.entry distances.entry times.entry)
-        limits
-        depot
-        head
-        others.now }
+    requires { (depot < columns.now.locations) × (head.place < columns.now.locations) × Visits columns.now.locations others.now }
+    ensures { result ≡ cost_from (lent columns.now) limits depot head others.now }
 {
     let mut label = head.label;
     let mut distance = head.distance;
     let mut place = head.place;
-    let mut i = 0;
-    while i < others.len() {
-        let visit = others[i] as usize;
-        distance = distance + get(l, distances, place, visit);
-        let travel = travel_time(l, distances, times, place, visit);
-        let stop = stop_of(flags, service, ready, due, penalty, visit);
+    for visit in others {
+        let visit = *visit as usize;
+        distance = distance + columns.distance(place, visit);
+        let travel = columns.travel_time(place, visit);
+        let stop = columns.stop(visit);
         let reached = serve(label, travel, stop);
-        let Reached::Served(next) = reached else {
+        let Some(next) = reached else {
             return infinite();
         };
         label = next;
         place = visit;
-        i += 1;
     }
-    distance = distance + get(l, distances, place, depot);
-    let back = travel_time(l, distances, times, place, depot);
+    distance = distance + columns.distance(place, depot);
+    let back = columns.travel_time(place, depot);
     ended_cost(limits, label, distance, back)
 }
 
 // What a list costs, the visits behind its head given.
 pub fn price_from(
-    l: usize,
-    flags: &[u8],
-    service: &[f64],
-    ready: &[f64],
-    due: &[f64],
-    penalty: &[f64],
-    distances: &[f64],
-    times: &[f64],
+    columns: &Columns,
     limits: RouteLimits,
     depot: usize,
     head: Head,
     others: &[u16],
 ) -> f64
-    requires formed { Formed (columns_at l flags service ready due penalty distances times) }
-    requires depot_lt_l { (depot < l) × (head.place < l) × Visits l others.now }
-    ensures { result ≡ price_from
-        (columns_at l flags.entry service.entry ready.entry due.entry penalty.entry distances.entry times.entry)
-        limits
-        depot
-        head
-        others.now }
+    requires { (depot < columns.now.locations) × (head.place < columns.now.locations) × Visits columns.now.locations others.now }
+    ensures { result ≡ price_from (lent columns.now) limits depot head others.now }
 {
     let rest = limits.rest;
     match rest {
-        Rest::NoBreak => cost_from(
-            l, flags, service, ready, due, penalty, distances, times, limits, depot, head, others,
-        ),
-        Rest::Break(_) => effective_cost(
-            l, flags, service, ready, due, penalty, distances, times, limits, depot, others,
-        ),
+        None => cost_from(columns, limits, depot, head, others),
+        Some(_) => effective_cost(columns, limits, depot, others),
     }
 }

@@ -4,13 +4,13 @@
 #![tactic(auto)]
 
 ghost use Rattle.std.specs.Prelude.{◌≡◌, ◌<◌, ◌≤◌, length};
-ghost use Rattle.labels.specs.Columns.{columns_at, Formed, Visits};
+ghost use Rattle.labels.specs.Columns.{Visits};
+ghost use Rattle.labels.specs.Lent.{lent};
 ghost use Rattle.heads.specs.Head.{at_depot, shared, nearest, Driven, Drove};
 
-use day::matrix::{get, travel_time};
-use day::vehicle::Rest;
-use labels::label::{Label, Reached, at_start, serve};
-use labels::stop::stop_of;
+use day::vehicle::VehicleBreak;
+use labels::columns::Columns;
+use labels::label::{Label, at_start, serve};
 
 // The van behind the first visits of a list, all of them served, and no break to take.
 #[derive(Clone, Copy)]
@@ -34,12 +34,12 @@ pub fn at_depot(depot: usize) -> Head
 }
 
 // How far a head may go: nowhere where there is a break to take.
-fn shared_visits(rest: Rest, to: usize) -> usize
+fn shared_visits(rest: Option<VehicleBreak>, to: usize) -> usize
     ensures { result ≡ shared rest to }
 {
     match rest {
-        Rest::NoBreak => to,
-        Rest::Break(_) => 0,
+        None => to,
+        Some(_) => 0,
     }
 }
 
@@ -54,41 +54,20 @@ fn nearest_start(head: Head, depot: usize, to: usize) -> Head
 }
 
 // Drives on from a start over the visits of a list, from one up to another. Ends before a visit that can't be served.
-pub fn drive(
-    l: usize,
-    flags: &[u8],
-    service: &[f64],
-    ready: &[f64],
-    due: &[f64],
-    penalty: &[f64],
-    distances: &[f64],
-    times: &[f64],
-    start: Head,
-    list: &[u16],
-    from: usize,
-    to: usize,
-) -> Head
-    requires formed { Formed (columns_at l flags service ready due penalty distances times) }
-    requires place_lt_l { (start.place < l) × Visits l list.now × (from ≤ to) × (to ≤ length list.now) }
-    ensures { Drove
-        (columns_at l flags.entry service.entry ready.entry due.entry penalty.entry distances.entry times.entry)
-        start
-        list.now
-        from
-        to
-        result }
+pub fn drive(columns: &Columns, start: Head, list: &[u16], from: usize, to: usize) -> Head
+    requires { (start.place < columns.now.locations) × Visits columns.now.locations list.now × (from ≤ to) × (to ≤ length list.now) }
+    ensures { Drove (lent columns.now) start list.now from to result }
 {
     let mut label = start.label;
     let mut distance = start.distance;
     let mut place = start.place;
-    let mut i = from;
-    while i < to {
+    for i in from..to {
         let visit = list[i] as usize;
-        let leg = get(l, distances, place, visit);
-        let travel = travel_time(l, distances, times, place, visit);
-        let stop = stop_of(flags, service, ready, due, penalty, visit);
+        let leg = columns.distance(place, visit);
+        let travel = columns.travel_time(place, visit);
+        let stop = columns.stop(visit);
         let reached = serve(label, travel, stop);
-        let Reached::Served(next) = reached else {
+        let Some(next) = reached else {
             return Head {
                 visits: i,
                 distance: distance,
@@ -99,10 +78,9 @@ pub fn drive(
         distance = distance + leg;
         label = next;
         place = visit;
-        i += 1;
     }
     Head {
-        visits: i,
+        visits: to,
         distance: distance,
         label: label,
         place: place,
@@ -111,45 +89,19 @@ pub fn drive(
 
 // The head of at most so many visits. It ends before a visit that can't be served.
 pub fn reach(
-    l: usize,
-    flags: &[u8],
-    service: &[f64],
-    ready: &[f64],
-    due: &[f64],
-    penalty: &[f64],
-    distances: &[f64],
-    times: &[f64],
-    rest: Rest,
+    columns: &Columns,
+    rest: Option<VehicleBreak>,
     depot: usize,
     list: &[u16],
     head: Head,
     to: usize,
 ) -> Head
-    requires formed { Formed (columns_at l flags service ready due penalty distances times) }
-    requires depot_lt_l { (depot < l) × Visits l list.now × (to ≤ length list.now) }
-    requires driven { Driven (columns_at l flags service ready due penalty distances times) rest depot list.now head }
-    ensures driven_2 { Driven
-        (columns_at l flags.entry service.entry ready.entry due.entry penalty.entry distances.entry times.entry)
-        rest
-        depot
-        list.now
-        result }
+    requires depot_lt_l { (depot < columns.now.locations) × Visits columns.now.locations list.now × (to ≤ length list.now) }
+    requires driven { Driven (lent columns.now) rest depot list.now head }
+    ensures driven_2 { Driven (lent columns.now) rest depot list.now result }
     ensures visits_le_to { result.visits ≤ to }
 {
     let end = shared_visits(rest, to);
     let start = nearest_start(head, depot, end);
-    drive(
-        l,
-        flags,
-        service,
-        ready,
-        due,
-        penalty,
-        distances,
-        times,
-        start,
-        list,
-        start.visits,
-        end,
-    )
+    drive(columns, start, list, start.visits, end)
 }

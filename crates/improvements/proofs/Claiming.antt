@@ -3,6 +3,7 @@
 use Prim.Native.Nat.{ℕ, zero, suc}
 use mathlib.Core.Path.{◌≡◌, refl, sym, subst}
 use mathlib.Core.Option.{Option, none, some}
+use Rattle.std.specs.Prelude.{Ok}
 use mathlib.Core.List.{List}
 use native.Mathlib.Omega.{arith}
 use Rattle.day.specs.Day.{Day}
@@ -29,11 +30,11 @@ use Rattle.claims.proofs.Whole.{whole_map}
 use Rattle.improvements.proofs.Improving.{refused_call, answered_call, list_back}
 
 -- what an answer reports
-reports : (d : Day) (van : Van) (ran : Ran) → reported (answer_of d van ran) ≡ some (record { word = ran.word; moves = ran.moves })
+reports : (d : Day) (van : Van) (ran : Ran) → reported (Ok (answer_of d van ran)) ≡ some (record { word = ran.word; moves = ran.moves })
 unfolding answer_of improved_as
 reports d van ran = go ran.word _
   where
-    go : (w : Word) (distance : _) → reported (improved_as w ran.moves distance) ≡ some (record { word = w; moves = ran.moves })
+    go : (w : Word) (distance : _) → reported (Ok (improved_as w ran.moves distance)) ≡ some (record { word = w; moves = ran.moves })
     go settled distance = refl
     go stopped distance = refl
 
@@ -49,10 +50,10 @@ module _ (which : Neighbourhood) (d : Day) (van : Van) (visits lengths : List �
           → C (list_of (improve_visits which d van visits lengths list limit) lengths list) (reported (improve_answer which d van visits lengths list limit))
       go zero e =
           let f = fine d van visits lengths list (sym e) in
-          let is = answered_call which d van visits lengths list limit 0 refl e in
+          let is = answered_call which d van visits lengths list limit e in
           rw (← is.0, ← is.1, list_back which d van visits lengths list limit f, reports d van (run_on which d van visits lengths list limit)) (ended f)
       go (suc n) e =
-          let is = refused_call which d van visits lengths list limit (suc n) (λ h. absurd (omega arith)) e in
+          let is = refused_call which d van visits lengths list limit n e in
           rw (← is.0, ← is.1) (refused _)
 
 module _ (d : Day) (van : Van) (visits lengths : List ℕ) (list limit : ℕ) where

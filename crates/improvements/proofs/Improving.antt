@@ -3,10 +3,11 @@
 use Prim.Native.Nat.{ℕ, zero, suc, ◌+◌, ◌-◌, ◌<◌}
 use mathlib.Core.Path.{◌≡◌, refl, sym, ap, ◌∙◌}
 use mathlib.Core.Bool.{true}
+use Rattle.std.specs.Prelude.{Ok}
 use mathlib.Core.List.{List, [], ◌++◌}
 use native.Mathlib.Omega.{arith}
 use lib.Ieee.{Float}
-use lib.ListN.{length, get_or, take, drop, length-set, take-append-drop}
+use lib.ListN.{get_or, take, drop, take-append-drop}
 use lib.Seq.{drop-drop, get_or-set_same}
 use borrow.Rule.Slice.PartMut.{put_mid}
 use Rattle.day.specs.Day.{Day}
@@ -17,18 +18,18 @@ use Rattle.edits.specs.Total.{total, SameVisits, total_append}
 use Rattle.edits.proofs.Kept.{same_length}
 use Rattle.lists.specs.Table.{start_of, list_of, with_list, lists}
 use Rattle.lists.proofs.Tables.{at_lists, length_list, length-lists, lists_put, part_is, put_is}
-use Rattle.labels.specs.Columns.{Formed, Visits, columns_of, formed}
+use Rattle.labels.specs.Columns.{Columns, Visits, columns_of}
+use Rattle.evaluation.specs.Distance.{route_distance}
 use Rattle.descent.specs.Search.{Word, settled, stopped}
 use Rattle.engine.specs.Engine.{ended_as}
 use Rattle.neighbours.specs.declared.Neighbourhood.{Neighbourhood}
-use Rattle.within.specs.Within.{Ran, ran_by}
+use Rattle.within.specs.Within.{ran_by}
 use Rattle.within.proofs.Kept.{ran_same}
 use Rattle.refusals.specs.Refusal.{refusal, Fine, visits_fine}
 use Rattle.refusals.proofs.NotRefused.{fine}
-use Rattle.refusals.specs.Answered.{refused_by, answered}
+use Rattle.refusals.specs.Answered.{unless_refused, refused_as, answered}
 use Rattle.improvements.specs.Improve.{run_on, improved_as, improved_of, answer_of, improve_answer, improve_visits}
 use Rattle.improvements.specs.declared.Improved.{Improved}
-use Rattle.improvements.specs.declared.Improved.TheVariants as improved
 
 -- an end word with its moves, and the distance
 pub improved_as_lem : (w : Word) (moves : ℕ) (distance : Float) → improved_of (ended_as w moves) distance ≡ improved_as w moves distance
@@ -51,46 +52,46 @@ with_same visits lengths r new same f =
     omega arith
 
 module _ (which : Neighbourhood) (d : Day) (van : Van) (visits lengths : List ℕ) (list limit : ℕ) where
-  -- what a refused call answers and leaves
-  pub refused_call : (n : ℕ) → (n ≡ 0 → ⊥) → n ≡ refusal d van visits lengths list
-      → (improved.Refused n ≡ improve_answer which d van visits lengths list limit) × (visits ≡ improve_visits which d van visits lengths list limit)
-  unfolding improve_answer improve_visits
-  refused_call n some e = (refused_by improved.Refused _ n _ some e, refused_by (λ m. visits) _ n _ some e)
+  -- what a call that is refused by a number answers and leaves
+  pub refused_call : (n : ℕ) → suc n ≡ refusal d van visits lengths list
+      → (refused_as (suc n) ≡ improve_answer which d van visits lengths list limit) × (visits ≡ improve_visits which d van visits lengths list limit)
+  unfolding improve_answer improve_visits unless_refused
+  refused_call n e = rw (← e) (refl, refl)
 
   -- what a call that isn't refused answers and leaves
-  pub answered_call : (n : ℕ) → n ≡ 0 → n ≡ refusal d van visits lengths list
-      → (answer_of d van (run_on which d van visits lengths list limit) ≡ improve_answer which d van visits lengths list limit)
+  pub answered_call : 0 ≡ refusal d van visits lengths list
+      → (Ok (answer_of d van (run_on which d van visits lengths list limit)) ≡ improve_answer which d van visits lengths list limit)
       × (with_list visits lengths list (run_on which d van visits lengths list limit).list ≡ improve_visits which d van visits lengths list limit)
   unfolding improve_answer improve_visits
-  answered_call n none e = (answered improved.Refused _ n _ _ none e refl, answered (λ m. visits) _ n _ _ none e refl)
+  answered_call e = (answered refused_as _ 0 _ _ refl e refl, answered (λ m. visits) _ 0 _ _ refl e refl)
 
-  -- by way of the caller's part
-  pub improved_call : (n : ℕ) → n ≡ 0 → n ≡ refusal d van visits lengths list
+  -- by way of the caller's part and the columns built
+  pub improved_call : 0 ≡ refusal d van visits lengths list → (c : Columns) → c ≡ columns_of d
       → (start end : ℕ) → start ≡ start_of lengths list → end ≡ start_of lengths list + get_or lengths list 0
       → (part new : List ℕ) (r : Improved) → part ≡ take (end - start) (drop start visits)
-      → new ≡ (ran_by which (columns_of d) (limits_of van) van.depot limit part).list
-      → r ≡ answer_of d van (ran_by which (columns_of d) (limits_of van) van.depot limit part)
-      → (r ≡ improve_answer which d van visits lengths list limit)
-      × (put_mid start (end - start) visits new ≡ improve_visits which d van visits lengths list limit)
-  unfolding run_on
-  improved_call n none e start end starts ends part new r p x y =
-      let whole = answered_call n none e in
+      → (let ran = ran_by which c (limits_of van) van.depot limit part in
+      new ≡ ran.list → r ≡ improved_as ran.word ran.moves (route_distance c.l c.distances van.depot ran.list)
+      → (Ok r ≡ improve_answer which d van visits lengths list limit)
+      × (put_mid start (end - start) visits new ≡ improve_visits which d van visits lengths list limit))
+  unfolding run_on answer_of
+  improved_call none c is start end starts ends part new r p x y =
+      let whole = answered_call none in
       let same : part ≡ list_of visits lengths list = p ∙ part_is visits lengths list start end starts ends in
-      (rw (y, same) whole.0, put_is visits lengths list start end starts ends new ∙ rw (x, same) whole.1)
+      (rw (y, same, is) whole.0, put_is visits lengths list start end starts ends new ∙ rw (x, same, is) whole.1)
 
   -- what the run asks of the caller's part
-  pub improvable : refusal d van visits lengths list ≡ 0 → (part : List ℕ) → part ≡ list_of visits lengths list
-      → Formed (columns_of d) × (((van.depot < d.l) × Visits d.l part) × (all_plain d.distances ≡ true))
-  improvable none part e =
-      let f = fine d van visits lengths list none in
-      (formed f.day.shaped, ((f.depot, rw e (visits_fine d van visits lengths list f)), f.day.distances))
+  pub improvable : 0 ≡ refusal d van visits lengths list → (c : Columns) → c ≡ columns_of d → (part : List ℕ) → part ≡ list_of visits lengths list
+      → ((van.depot < c.l) × Visits c.l part) × (all_plain c.distances ≡ true)
+  improvable none c is part e =
+      let f = fine d van visits lengths list (sym none) in
+      rw (is, e) ((f.depot, visits_fine d van visits lengths list f), f.day.distances)
 
   go_same : (n : ℕ) → n ≡ refusal d van visits lengths list → SameVisits visits (improve_visits which d van visits lengths list limit)
   unfolding run_on
   go_same zero e =
-      rw (← (answered_call 0 refl e).1) (with_same visits lengths list _ (ran_same (columns_of d) (limits_of van) van.depot limit
+      rw (← (answered_call e).1) (with_same visits lengths list _ (ran_same (columns_of d) (limits_of van) van.depot limit
       (list_of visits lengths list) which))
-  go_same (suc n) e = rw (← (refused_call (suc n) (λ h. absurd (omega arith)) e).1) (λ f. refl)
+  go_same (suc n) e = rw (← (refused_call n e).1) (λ f. refl)
 
   -- whatever the numbers, the table keeps its visits
   pub improve_same : SameVisits visits (improve_visits which d van visits lengths list limit)

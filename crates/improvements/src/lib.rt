@@ -4,12 +4,12 @@
 #![tactic(auto)]
 
 ghost use Rattle.std.specs.Prelude.{◌≡◌, true, ◌<◌};
-ghost use Rattle.day.specs.Day.{day_at};
 ghost use Rattle.day.specs.Refusal.{all_plain};
 ghost use Rattle.day.specs.Vehicle.{limits_of};
 ghost use Rattle.edits.specs.Total.{SameVisits};
 ghost use Rattle.lists.specs.Table.{list_of};
-ghost use Rattle.labels.specs.Columns.{columns_at, Formed, Visits};
+ghost use Rattle.labels.specs.Columns.{Visits};
+ghost use Rattle.labels.specs.Lent.{lent};
 ghost use Rattle.evaluation.specs.Distance.{route_distance};
 ghost use Rattle.descent.specs.Permitted.{two_opt, or_opt, three_opt, n_minus_length};
 ghost use Rattle.neighbours.specs.declared.Neighbourhood.TheVariants.{Reverse, Relocate, Reconnect};
@@ -17,9 +17,12 @@ ghost use Rattle.within.specs.Within.{ran_by};
 ghost use Rattle.improvements.specs.Improve.{improved_of, improved_as, improve_answer, improve_visits, reported};
 ghost use Rattle.claims.specs.Demand3.{Claimed};
 
+use day::day::Day;
+use day::refusal::Refusal;
 use day::vehicle::{RouteLimits, Van};
 use engine::Ended;
 use evaluation::distance::route_distance;
+use labels::columns::Columns;
 use lists::{end_of, start_of};
 use neighbours::Neighbourhood;
 use refusals::refusal_of;
@@ -27,8 +30,6 @@ use refusals::refusal_of;
 // How a run on one list ended, with the moves made and the distance of the list handed back.
 #[derive(Clone, Copy)]
 pub enum Improved {
-    // A refusal by its number: nothing is changed.
-    Refused(u8),
     // No permitted move gains any more.
     Settled { moves: u32, distance: f64 },
     // The limit was used up, and another move would gain.
@@ -47,119 +48,66 @@ fn improved_of(ended: Ended, distance: f64) -> Improved
 // The run on the caller's part of the table that is the list asked for, and the distance of what it leaves.
 fn improve_part(
     which: Neighbourhood,
-    l: usize,
-    flags: &[u8],
-    service: &[f64],
-    ready: &[f64],
-    due: &[f64],
-    penalty: &[f64],
-    distances: &[f64],
-    times: &[f64],
+    columns: &Columns,
     van: Van,
     part: &mut [u16],
     limit: u32,
 ) -> Improved
-    requires formed { Formed (columns_at l flags service ready due penalty distances times) }
-    requires depot_lt_l { (van.depot < l) × Visits l part.old }
-    requires distances_value { all_plain distances.now ≡ true }
-    ensures { let c = columns_at l flags.entry service.entry ready.entry due.entry penalty.entry distances.entry times.entry in
+    requires depot_lt_l { (van.depot < columns.now.locations) × Visits columns.now.locations part.old }
+    requires distances_value { all_plain columns.now.distances.now ≡ true }
+    ensures { let c = lent columns.now in
         let ran = ran_by which c (limits_of van) van.depot limit part.old in
         (part.new ≡ ran.list)
-        × (result ≡ improved_as ran.word ran.moves (route_distance l distances.now van.depot ran.list)) }
+        × (result ≡ improved_as ran.word ran.moves (route_distance columns.now.locations columns.now.distances.now van.depot ran.list)) }
 {
     let depot = van.depot;
     let limits = RouteLimits::of(van);
-    let ended = within::improve(
-        l, flags, service, ready, due, penalty, distances, times, limits, depot, which, part, limit,
-    );
-    let distance = route_distance(l, distances, depot, part);
+    let ended = within::improve(columns, limits, depot, which, part, limit);
+    let distance = route_distance(columns.locations, columns.distances, depot, part);
     improved_of(ended, distance)
 }
 
 // What the three entries share: the refusals, and the run on the list asked for.
 fn improve_list(
     which: Neighbourhood,
-    l: usize,
-    flags: &[u8],
-    demand: &[i32],
-    service: &[f64],
-    ready: &[f64],
-    due: &[f64],
-    penalty: &[f64],
-    distances: &[f64],
-    times: &[f64],
+    day: &Day,
     van: Van,
     visits: &mut [u16],
     lengths: &[u16],
     list: usize,
     limit: u32,
-) -> Improved
-    ensures { let d = day_at l flags.entry demand.entry service.entry ready.entry due.entry penalty.entry distances.entry times.entry in
-        (result ≡ improve_answer which d van visits.old lengths.now list limit)
-        × (visits.new ≡ improve_visits which d van visits.old lengths.now list limit) }
+) -> Result<Improved, Refusal>
+    ensures { (result ≡ improve_answer which day.now van visits.old lengths.now list limit)
+        × (visits.new ≡ improve_visits which day.now van visits.old lengths.now list limit) }
 {
-    let refused = refusal_of(
-        l, flags, demand, service, ready, due, penalty, distances, times, van, visits, lengths,
-        list,
-    );
-    if refused != 0 {
-        return Improved::Refused(refused);
-    }
+    refusal_of(day, van, visits, lengths, list)?;
     let start = start_of(lengths, list);
     let end = end_of(lengths, list);
-    improve_part(
-        which,
-        l,
-        flags,
-        service,
-        ready,
-        due,
-        penalty,
-        distances,
-        times,
-        van,
-        &mut visits[start..end],
-        limit,
-    )
+    let columns = Columns::of(day);
+    let improved = improve_part(which, &columns, van, &mut visits[start..end], limit);
+    Ok(improved)
 }
 
 // 2-opt (Croes 1958) of the list asked for, by at most `limit` moves.
 pub fn two_opt_improve(
-    l: usize,
-    flags: &[u8],
-    demand: &[i32],
-    service: &[f64],
-    ready: &[f64],
-    due: &[f64],
-    penalty: &[f64],
-    distances: &[f64],
-    times: &[f64],
+    day: &Day,
     van: Van,
     visits: &mut [u16],
     lengths: &[u16],
     list: usize,
     limit: u32,
-) -> Improved
-    ensures answer { let d = day_at l flags.entry demand.entry service.entry ready.entry due.entry penalty.entry distances.entry times.entry in
-        let before = visits.old in
+) -> Result<Improved, Refusal>
+    ensures answer { let before = visits.old in
         let after = visits.new in
         let kept = lengths.now in
-        (result ≡ improve_answer Reverse d van before kept list limit)
-        × (after ≡ improve_visits Reverse d van before kept list limit)
+        (result ≡ improve_answer Reverse day.now van before kept list limit)
+        × (after ≡ improve_visits Reverse day.now van before kept list limit)
         × SameVisits before after
-        × Claimed two_opt d van limit (list_of before kept list) (list_of after kept list) (reported result) }
+        × Claimed two_opt day.now van limit (list_of before kept list) (list_of after kept list) (reported result) }
 {
     improve_list(
         Neighbourhood::Reverse,
-        l,
-        flags,
-        demand,
-        service,
-        ready,
-        due,
-        penalty,
-        distances,
-        times,
+        day,
         van,
         visits,
         lengths,
@@ -170,41 +118,24 @@ pub fn two_opt_improve(
 
 // Or-opt (Or 1976) of the list asked for, by at most `limit` moves.
 pub fn or_opt_improve(
-    l: usize,
-    flags: &[u8],
-    demand: &[i32],
-    service: &[f64],
-    ready: &[f64],
-    due: &[f64],
-    penalty: &[f64],
-    distances: &[f64],
-    times: &[f64],
+    day: &Day,
     van: Van,
     visits: &mut [u16],
     lengths: &[u16],
     list: usize,
     limit: u32,
-) -> Improved
-    ensures answer { let d = day_at l flags.entry demand.entry service.entry ready.entry due.entry penalty.entry distances.entry times.entry in
-        let before = visits.old in
+) -> Result<Improved, Refusal>
+    ensures answer { let before = visits.old in
         let after = visits.new in
         let kept = lengths.now in
-        (result ≡ improve_answer Relocate d van before kept list limit)
-        × (after ≡ improve_visits Relocate d van before kept list limit)
+        (result ≡ improve_answer Relocate day.now van before kept list limit)
+        × (after ≡ improve_visits Relocate day.now van before kept list limit)
         × SameVisits before after
-        × Claimed (or_opt n_minus_length) d van limit (list_of before kept list) (list_of after kept list) (reported result) }
+        × Claimed (or_opt n_minus_length) day.now van limit (list_of before kept list) (list_of after kept list) (reported result) }
 {
     improve_list(
         Neighbourhood::Relocate,
-        l,
-        flags,
-        demand,
-        service,
-        ready,
-        due,
-        penalty,
-        distances,
-        times,
+        day,
         van,
         visits,
         lengths,
@@ -215,41 +146,24 @@ pub fn or_opt_improve(
 
 // 3-opt (Lin 1965) of the list asked for, by at most `limit` moves.
 pub fn three_opt_improve(
-    l: usize,
-    flags: &[u8],
-    demand: &[i32],
-    service: &[f64],
-    ready: &[f64],
-    due: &[f64],
-    penalty: &[f64],
-    distances: &[f64],
-    times: &[f64],
+    day: &Day,
     van: Van,
     visits: &mut [u16],
     lengths: &[u16],
     list: usize,
     limit: u32,
-) -> Improved
-    ensures answer { let d = day_at l flags.entry demand.entry service.entry ready.entry due.entry penalty.entry distances.entry times.entry in
-        let before = visits.old in
+) -> Result<Improved, Refusal>
+    ensures answer { let before = visits.old in
         let after = visits.new in
         let kept = lengths.now in
-        (result ≡ improve_answer Reconnect d van before kept list limit)
-        × (after ≡ improve_visits Reconnect d van before kept list limit)
+        (result ≡ improve_answer Reconnect day.now van before kept list limit)
+        × (after ≡ improve_visits Reconnect day.now van before kept list limit)
         × SameVisits before after
-        × Claimed three_opt d van limit (list_of before kept list) (list_of after kept list) (reported result) }
+        × Claimed three_opt day.now van limit (list_of before kept list) (list_of after kept list) (reported result) }
 {
     improve_list(
         Neighbourhood::Reconnect,
-        l,
-        flags,
-        demand,
-        service,
-        ready,
-        due,
-        penalty,
-        distances,
-        times,
+        day,
         van,
         visits,
         lengths,

@@ -15,7 +15,6 @@ ghost use Rattle.insertions.specs.Cache.{lesser, forgotten, first_of, vanished, 
 ghost use Rattle.insertions.specs.Cache.{cell, column, left_at, came_at};
 
 use deltas_across::insertion_delta;
-use edits::wide;
 use numbers::{is_finite, unknown};
 
 // A least insertion, and the first place that reaches it.
@@ -69,20 +68,14 @@ fn is_vanished(place: u16, position: u16) -> bool
     requires { position < 65535 }
     ensures { result ≡ vanished place position }
 {
-    if place == position {
-        return true;
-    }
-    place == position + 1
+    place == position || place == position + 1
 }
 
 // Where a place stands once the visit at `position` has left.
 fn moved_down(place: u16, position: u16) -> u16
     ensures { result ≡ moved_down place position }
 {
-    if position < place {
-        return place - 1;
-    }
-    place
+    place - u16::from(position < place)
 }
 
 // Where it stands once a visit has come in at `position`.
@@ -90,10 +83,7 @@ fn moved_up(place: u16, position: u16) -> u16
     requires { place < 65535 }
     ensures { result ≡ moved_up place position }
 {
-    if position < place {
-        return place + 1;
-    }
-    place
+    place + u16::from(position < place)
 }
 
 // ---- one visit
@@ -119,7 +109,15 @@ fn least_left(
     if is_vanished(known.place, position) {
         return forget(known);
     }
-    let figure = insertion_delta(l, distances, depot, fixed, list, visit, wide(position));
+    let figure = insertion_delta(
+        l,
+        distances,
+        depot,
+        fixed,
+        list,
+        visit,
+        usize::from(position),
+    );
     let kept = Least {
         figure: known.figure,
         place: moved_down(known.place, position),
@@ -155,7 +153,7 @@ fn least_came(
     if known.place == position {
         return forget(known);
     }
-    let at = wide(position);
+    let at = usize::from(position);
     let before = insertion_delta(l, distances, depot, fixed, list, visit, at);
     let behind = insertion_delta(l, distances, depot, fixed, list, visit, at + 1);
     let kept = Least {
@@ -208,8 +206,7 @@ pub fn after_removal(
         in (figures.new ≡ column (λ v. (f v).figure) r l figures.old)
         × (places.new ≡ column (λ v. (f v).place) r l places.old) }
 {
-    let mut visit = 0;
-    while visit < l {
+    for visit in 0..l {
         let cell = 16 * visit + r;
         let known = Least {
             figure: figures[cell],
@@ -218,7 +215,6 @@ pub fn after_removal(
         let left = least_left(known, position, l, distances, depot, fixed, list, visit);
         figures[cell] = left.figure;
         places[cell] = left.place;
-        visit += 1;
     }
 }
 
@@ -243,8 +239,7 @@ pub fn after_insertion(
         in (figures.new ≡ column (λ v. (f v).figure) r l figures.old)
         × (places.new ≡ column (λ v. (f v).place) r l places.old) }
 {
-    let mut visit = 0;
-    while visit < l {
+    for visit in 0..l {
         let cell = 16 * visit + r;
         let known = Least {
             figure: figures[cell],
@@ -253,6 +248,5 @@ pub fn after_insertion(
         let came = least_came(known, position, l, distances, depot, fixed, list, visit);
         figures[cell] = came.figure;
         places[cell] = came.place;
-        visit += 1;
     }
 }

@@ -12,17 +12,16 @@ use lib.Dec.{eqb}
 use lib.ListN.{length, get_or, set, take, length-set}
 use lib.Seq.{take-suc, get_or-set_same, get_or-set_other}
 use lib.Ieee.{Float, nan}
+use Rattle.std.specs.Prelude.{Option, Some, None}
 use Rattle.numbers.specs.Operations.{◌⊕◌, zero64}
 use Rattle.day.specs.Customer.{is_violated, waiting_time, lateness_at}
 use Rattle.day.specs.declared.customer.Window.{Window}
 use Rattle.day.specs.declared.customer.Window.TheVariants.{Open, Hard, Soft}
 use Rattle.labels.specs.Columns.{Columns, travel_in, stop_at}
-use Rattle.labels.specs.Walk.{Tour, tour_of, onward, walk, walk_on, walk_keeps}
+use Rattle.labels.specs.Walk.{Tour, tour_of, onward, walk_on, walk_keeps}
 use Rattle.labels.specs.Label.{at_start, in_time, too_late, served_in, served, served_from}
 use Rattle.evaluation.specs.Route.{tick}
 use Rattle.labels.specs.declared.label.Label.{Label}
-use Rattle.labels.specs.declared.label.Reached.{Reached}
-use Rattle.labels.specs.declared.label.Reached.TheVariants.{Missed, Served}
 use Rattle.heads.specs.Head.{at_depot, tour_at, Drove}
 use Rattle.kept_heads.specs.Kept.{place_before, head_of, stored, walked, Kept}
 use Rattle.heads.specs.declared.Head.{Head}
@@ -31,16 +30,16 @@ use Rattle.heads.proofs.Heads.{walk_further}
 -- ---- no break is taken
 
 -- what a label says of the break: none is taken
-abbrev Unrested : Reached → Type 0
-Unrested Missed = Unit
-Unrested (Served label) = (label.position ≡ 0) × (label.start ≡ zero64)
+abbrev Unrested : Option Label → Type 0
+Unrested None = Unit
+Unrested (Some label) = (label.position ≡ 0) × (label.start ≡ zero64)
 
-unrested_in : (window : Window) (label : Label) (ready service : Float) → Unrested (Served label) → Unrested (served_in window label ready service)
+unrested_in : (window : Window) (label : Label) (ready service : Float) → Unrested (Some label) → Unrested (served_in window label ready service)
 unfolding served_in in_time too_late
 unrested_in Open label ready service h = h
 unrested_in (Hard span) label ready service h = by_test (is_violated span ready)
   where
-    by_test : (b : Bool) → Unrested (cond b Missed (in_time label (ready ⊕ waiting_time span ready) service))
+    by_test : (b : Bool) → Unrested (cond b None (in_time label (ready ⊕ waiting_time span ready) service))
     by_test true = tt
     by_test false = h
 unrested_in (Soft span penalty) label ready service h = by_test (is_violated span ready)
@@ -51,31 +50,31 @@ unrested_in (Soft span penalty) label ready service h = by_test (is_violated spa
     by_test false = h
 
 -- one visit more
-unrested_tick : (c : Columns) (reached : Reached) (place visit : ℕ) → Unrested reached → Unrested (tick c reached place visit)
+unrested_tick : (c : Columns) (reached : Option Label) (place visit : ℕ) → Unrested reached → Unrested (tick c reached place visit)
 unfolding served_from served
-unrested_tick c Missed place visit h = tt
-unrested_tick c (Served label) place visit h =
+unrested_tick c None place visit h = tt
+unrested_tick c (Some label) place visit h =
     unrested_in (stop_at c visit).window label (label.time ⊕ travel_in c place visit) (stop_at c visit).service h
 
 module _ (c : Columns) (depot : ℕ) (list : List ℕ) where
   -- so the label of a head has taken none
-  unrested_head : (k : ℕ) (head : Head) → walked c depot list k ≡ tour_at head → Unrested (Served head.label)
+  unrested_head : (k : ℕ) (head : Head) → walked c depot list k ≡ tour_at head → Unrested (Some head.label)
   unfolding at_start
   unrested_head k head e =
-      subst Unrested (ap (λ (t : Tour Reached). t.clock) e)
-      (walk_keeps c (tick c) Unrested (unrested_tick c) (take k list) (tour_of zero64 (Served at_start) depot) (refl, refl))
+      subst Unrested (ap (λ (t : Tour (Option Label)). t.clock) e)
+      (walk_keeps c (tick c) Unrested (unrested_tick c) (take k list) (tour_of zero64 (Some at_start) depot) (refl, refl))
 
   -- one visit more
   pub walked_more : (k : ℕ) → k < length list → walked c depot list (k + 1) ≡ onward c (tick c) (walked c depot list k) (get_or list k 0)
   walked_more k h =
-      rw (add-one k, take-suc list k 0 h) (walk_on c (tick c) (tour_of zero64 (Served at_start) depot) (take k list) (get_or list k 0 ∷ []))
+      rw (add-one k, take-suc list k 0 h) (walk_on c (tick c) (tour_of zero64 (Some at_start) depot) (take k list) (get_or list k 0 ∷ []))
 
   -- a walk ends at the last visit
   walked-place : (k : ℕ) → k ≤ length list → (walked c depot list k).place ≡ place_before depot list k
   walked-place zero h = refl
   walked-place (suc k) h =
       subst (λ (n : ℕ). (walked c depot list n).place ≡ place_before depot list n) (add-one k)
-      (ap (λ (t : Tour Reached). t.place) (walked_more k (omega arith)) ∙ ap (λ (n : ℕ). place_before depot list n) (sym (add-one k)))
+      (ap (λ (t : Tour (Option Label)). t.place) (walked_more k (omega arith)) ∙ ap (λ (n : ℕ). place_before depot list n) (sym (add-one k)))
 
 -- the last visit, behind one at least
 pub place-behind : (depot : ℕ) (list : List ℕ) (k : ℕ) → k ≢ 0 → get_or list (k - 1) 0 ≡ place_before depot list k
@@ -132,7 +131,7 @@ same_tour : (head : Head) (distance time lateness cost : Float) (position : ℕ)
     time ≡ head.label.time → lateness ≡ head.label.lateness → cost ≡ head.label.lateness_cost → position ≡ head.label.position →
     start ≡ head.label.start → place ≡ head.place →
     tour_at head
-    ≡ tour_of distance (Served (record { time = time; lateness = lateness; lateness_cost = cost; position = position; start = start })) place
+    ≡ tour_of distance (Some (record { time = time; lateness = lateness; lateness_cost = cost; position = position; start = start })) place
 same_tour head distance time lateness cost position start place e0 e1 e2 e3 e4 e5 e6 = rw (e0, e1, e2, e3, e4, e5, e6)
 
 module _ (heads : List Float) (k : ℕ) (head : Head) where
@@ -149,7 +148,7 @@ module _ (heads : List Float) (k : ℕ) (head : Head) where
         walked c depot list k ≡ tour_at (head_of (stored heads k head) depot list k)
     stored_head c depot list h e =
         let none = unrested_head c depot list k head e in
-        let placed : head.place ≡ place_before depot list k = sym (ap (λ (t : Tour Reached). t.place) e) ∙ walked-place c depot list k h in
+        let placed : head.place ≡ place_before depot list k = sym (ap (λ (t : Tour (Option Label)). t.place) e) ∙ walked-place c depot list k h in
         let first = four_first heads (4 * k) head.distance head.label.time head.label.lateness head.label.lateness_cost long in
         let second = four_second heads (4 * k) head.distance head.label.time head.label.lateness head.label.lateness_cost long in
         let third = four_third heads (4 * k) head.distance head.label.time head.label.lateness head.label.lateness_cost long in
@@ -196,7 +195,7 @@ module _ (c : Columns) (depot : ℕ) (list : List ℕ) where
     module _ (r : Head) (there : k < length list) (drove : Drove c head list k (k + 1) r) where
       on : walked c depot list r.visits ≡ tour_at r
       on =
-          walk_further c (tour_of zero64 (Served at_start) depot) list k r.visits (tour_at head) drove.behind kept.at_hand ∙ drove.same
+          walk_further c (tour_of zero64 (Some at_start) depot) list k r.visits (tour_at head) drove.behind kept.at_hand ∙ drove.same
 
       -- the visit can't be served
       pub keeping_stops : r.visits ≡ k → Kept c depot list heads k
@@ -204,8 +203,8 @@ module _ (c : Columns) (depot : ℕ) (list : List ℕ) where
         few = kept.within;
         long = omega (arith, kept.same_length);
         head_at = kept.so_far;
-        lost = λ left. ap (λ (t : Tour Reached). t.clock) (walked_more c depot list k there)
-            ∙ ap (λ (t : Tour Reached). tick c t.clock t.place (get_or list k 0)) (rw e at on)
+        lost = λ left. ap (λ (t : Tour (Option Label)). t.clock) (walked_more c depot list k there)
+            ∙ ap (λ (t : Tour (Option Label)). tick c t.clock t.place (get_or list k 0)) (rw e at on)
             ∙ sym (rw e at (drove.lost (omega (arith, e))));
       }
 

@@ -1,6 +1,6 @@
 -- The heads of a list, driven once and kept in a lent table of numbers, four a head. For the searches that price many lists which share their first visits
 -- with one list. Assumes nothing.
-use Rattle.std.specs.Prelude.{ℕ, ◌+◌, ◌*◌, ◌<◌, ◌≤◌, ◌≡◌, List, ◌∷◌, length, get_or, set, take, Float}
+use Rattle.std.specs.Prelude.{ℕ, ◌+◌, ◌*◌, ◌<◌, ◌≤◌, ◌≡◌, List, ◌∷◌, length, get_or, set, take, Float, Option, Some, None}
 use Rattle.std.specs.Float.{nan}
 use Rattle.numbers.specs.Operations.{zero64}
 use Rattle.labels.specs.Columns.{Columns}
@@ -8,8 +8,6 @@ use Rattle.labels.specs.Walk.{Tour, tour_of, walk}
 use Rattle.labels.specs.Label.{at_start}
 use Rattle.evaluation.specs.Route.{tick}
 use Rattle.labels.specs.declared.label.Label.{Label}
-use Rattle.labels.specs.declared.label.Reached.{Reached}
-use Rattle.labels.specs.declared.label.Reached.TheVariants.{Missed, Served}
 use Rattle.heads.specs.declared.Head.{Head}
 use Rattle.heads.specs.Head.{tour_at}
 
@@ -39,12 +37,12 @@ stored heads k head =
     head.label.lateness_cost
 
 -- the walk over the first k visits from the depot at time 0
-abbrev pub walked : Columns → ℕ → List ℕ → ℕ → Tour Reached
-walked c depot list k = walk c (tick c) (tour_of zero64 (Served at_start) depot) (take k list)
+abbrev pub walked : Columns → ℕ → List ℕ → ℕ → Tour (Option Label)
+walked c depot list k = walk c (tick c) (tour_of zero64 (Some at_start) depot) (take k list)
 
 -- the table holds the heads of the first `reached` visits and of fewer; the visit behind them, where there is one, can't be served
 pub record Kept (c : Columns) (depot : ℕ) (list : List ℕ) (heads : List Float) (reached : ℕ) : Type 0 where
   pub few : reached ≤ length list
   pub long : 256 ≤ length heads
   pub head_at : (k : ℕ) → k ≤ reached → walked c depot list k ≡ tour_at (head_of heads depot list k)
-  pub lost : reached < length list → (walked c depot list (reached + 1)).clock ≡ Missed
+  pub lost : reached < length list → (walked c depot list (reached + 1)).clock ≡ None

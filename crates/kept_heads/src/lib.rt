@@ -3,10 +3,12 @@
 #![tactic(auto)]
 
 ghost use Rattle.std.specs.Prelude.{◌≡◌, ◌<◌, ◌≤◌, length};
-ghost use Rattle.labels.specs.Columns.{columns_at, Formed, Visits};
+ghost use Rattle.labels.specs.Columns.{Visits};
+ghost use Rattle.labels.specs.Lent.{lent};
 ghost use Rattle.kept_heads.specs.Kept.{place_before, head_of, stored, Kept};
 
 use heads::{Head, at_depot, drive};
+use labels::columns::Columns;
 use labels::label::Label;
 
 // Puts the head of k visits into the table.
@@ -22,53 +24,20 @@ fn store_head(heads: &mut [f64], k: usize, head: Head)
 }
 
 // Fills the table with the heads of a list, and says of how many visits the last one is: it ends before a visit that can't be served.
-pub fn fill_heads(
-    l: usize,
-    flags: &[u8],
-    service: &[f64],
-    ready: &[f64],
-    due: &[f64],
-    penalty: &[f64],
-    distances: &[f64],
-    times: &[f64],
-    depot: usize,
-    list: &[u16],
-    heads: &mut [f64],
-) -> usize
-    requires formed { Formed (columns_at l flags service ready due penalty distances times) }
-    requires depot_lt_l { (depot < l) × Visits l list.now × (length heads.old ≡ 256) }
-    ensures { Kept
-        (columns_at l flags.entry service.entry ready.entry due.entry penalty.entry distances.entry times.entry)
-        depot
-        list.now
-        heads.new
-        result }
+pub fn fill_heads(columns: &Columns, depot: usize, list: &[u16], heads: &mut [f64]) -> usize
+    requires { (depot < columns.now.locations) × Visits columns.now.locations list.now × (length heads.old ≡ 256) }
+    ensures { Kept (lent columns.now) depot list.now heads.new result }
 {
     let mut head = at_depot(depot);
     store_head(heads, 0, head);
-    let mut k = 0;
-    while k < list.len() {
-        head = drive(
-            l,
-            flags,
-            service,
-            ready,
-            due,
-            penalty,
-            distances,
-            times,
-            head,
-            list,
-            k,
-            k + 1,
-        );
+    for k in 0..list.len() {
+        head = drive(columns, head, list, k, k + 1);
         if head.visits == k {
             return k;
         }
-        k += 1;
-        store_head(heads, k, head);
+        store_head(heads, k + 1, head);
     }
-    k
+    list.len()
 }
 
 // Where the van is behind the first k visits of a list.

@@ -1,3 +1,4 @@
 pub mod Columns
+pub mod Lent
 pub mod Walk
 pub mod Label

@@ -6,7 +6,7 @@ ghost use Rattle.numbers.specs.Operations.{◌⊕◌};
 ghost use Rattle.numbers.specs.Total.{larger};
 ghost use Rattle.day.specs.Customer.{waiting_time};
 ghost use Rattle.day.specs.declared.customer.Window.TheVariants.{Hard, Soft};
-ghost use Rattle.labels.specs.Label.{at_start, in_time, too_late, served_in, resting, served, served_rested, is_served};
+ghost use Rattle.labels.specs.Label.{at_start, in_time, too_late, served_in, resting, served, served_rested};
 ghost use Rattle.labels.specs.Label.{served_from, served_rested_from, is_earlier, earlier_of};
 
 use crate::stop::Stop;
@@ -14,13 +14,13 @@ use day::customer::{TimeWindow, Window};
 use day::vehicle::VehicleBreak;
 use tests::{both, either};
 
-// Whether the break is taken.
+// Where the break is taken.
 #[derive(Clone, Copy)]
-pub enum Taken {
-    // It is still to take, or left out.
-    Untaken,
-    // It comes before the service of the visit at this position of the list, and starts at this time.
-    At(usize, f64),
+pub struct Taken {
+    // It comes before the service of the visit at this position of the list.
+    pub position: usize,
+    // When it starts.
+    pub start: f64,
 }
 
 // The van at a stop with its service done.
@@ -32,15 +32,6 @@ pub struct Label {
     // Where the break is taken, and when it starts; 0 while it is still to take.
     pub position: usize,
     pub start: f64,
-}
-
-// A label, or none.
-#[derive(Clone, Copy)]
-pub enum Reached {
-    // A hard window closed before the service, or the break could not start by its latest.
-    Missed,
-    // The stop is served.
-    Served(Label),
 }
 
 // The van at the depot at time 0.
@@ -57,10 +48,10 @@ pub fn at_start() -> Label
 }
 
 // A service that starts in time, done.
-fn in_time(label: Label, begin: f64, service: f64) -> Reached
+fn in_time(label: Label, begin: f64, service: f64) -> Option<Label>
     ensures { result ≡ in_time label begin service }
 {
-    Reached::Served(Label {
+    Some(Label {
         time: begin + service,
         lateness: label.lateness,
         lateness_cost: label.lateness_cost,
@@ -70,10 +61,10 @@ fn in_time(label: Label, begin: f64, service: f64) -> Reached
 }
 
 // A service that starts late at a soft window, done.
-fn too_late(label: Label, begin: f64, service: f64, late: f64, penalty: f64) -> Reached
+fn too_late(label: Label, begin: f64, service: f64, late: f64, penalty: f64) -> Option<Label>
     ensures { result ≡ too_late label begin service late penalty }
 {
-    Reached::Served(Label {
+    Some(Label {
         time: begin + service,
         lateness: label.lateness + late,
         lateness_cost: label.lateness_cost + penalty * late,
@@ -98,18 +89,24 @@ fn begin_at(span: TimeWindow, ready: f64) -> f64
 }
 
 // The service at a hard window.
-fn serve_hard(label: Label, span: TimeWindow, ready: f64, service: f64) -> Reached
+fn serve_hard(label: Label, span: TimeWindow, ready: f64, service: f64) -> Option<Label>
     requires { T (fits binary64 ready) }
     ensures { result ≡ served_in (Hard span) label ready service }
 {
     if span.is_violated(ready) {
-        return Reached::Missed;
+        return None;
     }
     in_time(label, begin_at(span, ready), service)
 }
 
 // The service at a soft window.
-fn serve_soft(label: Label, span: TimeWindow, penalty: f64, ready: f64, service: f64) -> Reached
+fn serve_soft(
+    label: Label,
+    span: TimeWindow,
+    penalty: f64,
+    ready: f64,
+    service: f64,
+) -> Option<Label>
     requires { T (fits binary64 ready) }
     ensures { result ≡ served_in (Soft span penalty) label ready service }
 {
@@ -121,7 +118,7 @@ fn serve_soft(label: Label, span: TimeWindow, penalty: f64, ready: f64, service:
 }
 
 // The service of a stop for which the van is ready at this time: the wait for its window, and what being late means there.
-fn serve_at(label: Label, ready: f64, stop: Stop) -> Reached
+fn serve_at(label: Label, ready: f64, stop: Stop) -> Option<Label>
     requires { T (fits binary64 ready) }
     ensures { result ≡ served_in stop.window label ready stop.service }
 {
@@ -156,59 +153,51 @@ fn rest_here(label: Label, index: usize, start: f64) -> Label
     }
 }
 
-// One stop: the travel to it, the wait and the service.
-pub fn serve(label: Label, travel: f64, stop: Stop) -> Reached
+// One stop: the travel to it, the wait and the service. None where a hard window closed before the service.
+pub fn serve(label: Label, travel: f64, stop: Stop) -> Option<Label>
     ensures { result ≡ served label travel stop }
 {
     serve_at(label, label.time + travel, stop)
 }
 
-// One stop: the travel to it, the break, the wait and the service. `index` is its position in the list.
-fn serve_rested(label: Label, travel: f64, stop: Stop, index: usize, rest: VehicleBreak) -> Reached
+// One stop: the travel to it, the break, the wait and the service. `index` is its position in the list. None where a hard window closed before the service,
+// or the break could not start by its latest.
+fn serve_rested(
+    label: Label,
+    travel: f64,
+    stop: Stop,
+    index: usize,
+    rest: VehicleBreak,
+) -> Option<Label>
     ensures { result ≡ served_rested label travel stop index rest }
 {
     let start = later_of(label.time + travel, rest.earliest);
     if start > rest.latest {
-        return Reached::Missed;
+        return None;
     }
     serve_at(rest_here(label, index, start), start + rest.duration, stop)
 }
 
-impl Reached {
-    // One stop more, where the ones before were reached.
-    pub fn serve_next(self, travel: f64, stop: Stop) -> Reached
-        ensures { result ≡ served_from self travel stop }
-    {
-        match self {
-            Reached::Missed => Reached::Missed,
-            Reached::Served(label) => serve(label, travel, stop),
-        }
-    }
+// One stop more, where the ones before were reached.
+#[tactic(auto, unfolding(crate::specs::Label::served_from))]
+pub fn serve_next(reached: Option<Label>, travel: f64, stop: Stop) -> Option<Label>
+    ensures { result ≡ served_from reached travel stop }
+{
+    serve(reached?, travel, stop)
+}
 
-    // One stop more with the break before it, where the ones before were reached.
-    pub fn serve_next_rested(
-        self,
-        travel: f64,
-        stop: Stop,
-        index: usize,
-        rest: VehicleBreak,
-    ) -> Reached
-        ensures { result ≡ served_rested_from self travel stop index rest }
-    {
-        match self {
-            Reached::Missed => Reached::Missed,
-            Reached::Served(label) => serve_rested(label, travel, stop, index, rest),
-        }
-    }
-
-    pub fn is_served(self) -> bool
-        ensures { result ≡ is_served self }
-    {
-        match self {
-            Reached::Missed => false,
-            Reached::Served(_) => true,
-        }
-    }
+// One stop more with the break before it, where the ones before were reached.
+#[tactic(auto, unfolding(crate::specs::Label::served_rested_from))]
+pub fn serve_next_rested(
+    reached: Option<Label>,
+    travel: f64,
+    stop: Stop,
+    index: usize,
+    rest: VehicleBreak,
+) -> Option<Label>
+    ensures { result ≡ served_rested_from reached travel stop index rest }
+{
+    serve_rested(reached?, travel, stop, index, rest)
 }
 
 // Whether the second label is the lesser (time, lateness cost).
@@ -225,19 +214,18 @@ fn is_earlier(carried: Label, here: Label) -> bool
 }
 
 // The earlier of two labels, the cheaper in lateness at equal times. A tie goes to the one carried.
-pub fn earlier(carried: Reached, here: Reached) -> Reached
+#[tactic(auto, unfolding(crate::specs::Label::earlier_of))]
+pub fn earlier(carried: Option<Label>, here: Option<Label>) -> Option<Label>
     ensures { result ≡ earlier_of carried here }
 {
-    match carried {
-        Reached::Missed => here,
-        Reached::Served(a) => match here {
-            Reached::Missed => carried,
-            Reached::Served(b) => {
-                if is_earlier(a, b) {
-                    return here;
-                }
-                carried
-            }
-        },
+    let Some(a) = carried else {
+        return here;
+    };
+    let Some(b) = here else {
+        return carried;
+    };
+    if is_earlier(a, b) {
+        return here;
     }
+    carried
 }

@@ -6,7 +6,8 @@
 ghost use Rattle.std.specs.Prelude.{◌≡◌, true, false, ◌+◌, ◌-◌, ◌<◌, ◌≤◌, length, take, drop, get_or};
 ghost use Rattle.std.proofs.Math.Seq.{slice};
 ghost use Rattle.edits.specs.Edits.{Appended};
-ghost use Rattle.labels.specs.Columns.{columns_at, Formed, Visits};
+ghost use Rattle.labels.specs.Columns.{Visits};
+ghost use Rattle.labels.specs.Lent.{lent};
 ghost use Rattle.evaluation.specs.Route.{feasible};
 ghost use Rattle.heads.specs.Head.{Driven};
 ghost use Rattle.descent.specs.Permitted.{turn};
@@ -14,12 +15,11 @@ ghost use Rattle.engine.specs.Engine.{passing};
 ghost use Rattle.layouts.specs.Layout.{arrangement, way_of, layout, laid, CutIn, passes_from};
 
 use buffers::{append, append_stretch, append_stretch_reversed};
-use day::matrix::{get, travel_time};
-use day::vehicle::{Rest, RouteLimits};
+use day::vehicle::{RouteLimits, VehicleBreak};
 use evaluation::route::route_feasible;
 use heads::{Head, reach};
-use labels::label::{Reached, serve};
-use labels::stop::stop_of;
+use labels::columns::Columns;
+use labels::label::serve;
 use stops::visit_at;
 
 // How two pieces are arranged.
@@ -92,7 +92,7 @@ pub fn way_of(pattern: usize) -> Way
 
 // The list cut behind its visits i, j and k, and reconnected as a pattern has it.
 pub fn reconnection(i: usize, j: usize, k: usize, pattern: usize) -> Layout
-    requires { (i < 64) × (j < 64) × (k < 64) × (pattern < 8) }
+    requires { (i < usize.MAX) × (j < usize.MAX) × (k < usize.MAX) × (pattern < 8) }
     ensures { result ≡ layout (i + 1) (j + 1) (k + 1) (way_of pattern) }
 {
     let way = way_of(pattern);
@@ -209,49 +209,34 @@ fn visit_laid(list: &[u16], p: Layout, k: usize) -> usize
 
 // Whether the list as it is laid out passes with no break to take, driven from the end of a head that it shares.
 fn passes_from(
-    l: usize,
-    flags: &[u8],
-    service: &[f64],
-    ready: &[f64],
-    due: &[f64],
-    penalty: &[f64],
-    distances: &[f64],
-    times: &[f64],
+    columns: &Columns,
     limits: RouteLimits,
     depot: usize,
     list: &[u16],
     head: Head,
     p: Layout,
 ) -> bool
-    requires formed { Formed (columns_at l flags service ready due penalty distances times) }
-    requires depot_lt_l { (depot < l) × Visits l list.now }
-    requires cut_in { CutIn (length list.now) p × (head.place < l) }
-    ensures { result ≡ passes_from
-        (columns_at l flags.entry service.entry ready.entry due.entry penalty.entry distances.entry times.entry)
-        limits
-        depot
-        head
-        (laid list.now p) }
+    requires depot_lt_l { (depot < columns.now.locations) × Visits columns.now.locations list.now }
+    requires cut_in { CutIn (length list.now) p × (head.place < columns.now.locations) }
+    ensures { result ≡ passes_from (lent columns.now) limits depot head (laid list.now p) }
 {
     let mut label = head.label;
     let mut distance = head.distance;
     let mut place = head.place;
-    let mut i = head.visits;
-    while i < list.len() {
+    for i in head.visits..list.len() {
         let visit = visit_laid(list, p, i);
-        distance = distance + get(l, distances, place, visit);
-        let travel = travel_time(l, distances, times, place, visit);
-        let stop = stop_of(flags, service, ready, due, penalty, visit);
+        distance = distance + columns.distance(place, visit);
+        let travel = columns.travel_time(place, visit);
+        let stop = columns.stop(visit);
         let reached = serve(label, travel, stop);
-        let Reached::Served(next) = reached else {
+        let Some(next) = reached else {
             return false;
         };
         label = next;
         place = visit;
-        i += 1;
     }
-    distance = distance + get(l, distances, place, depot);
-    let back = travel_time(l, distances, times, place, depot);
+    distance = distance + columns.distance(place, depot);
+    let back = columns.travel_time(place, depot);
     limits.allow(distance, label.time + back)
 }
 
@@ -259,111 +244,58 @@ fn passes_from(
 
 // Whether the list as it is laid out passes, built in a buffer and checked whole.
 fn built_passes(
-    l: usize,
-    flags: &[u8],
-    service: &[f64],
-    ready: &[f64],
-    due: &[f64],
-    penalty: &[f64],
-    distances: &[f64],
-    times: &[f64],
+    columns: &Columns,
     limits: RouteLimits,
     depot: usize,
     list: &[u16],
     p: Layout,
 ) -> bool
-    requires formed { Formed (columns_at l flags service ready due penalty distances times) }
-    requires depot_lt_l { (depot < l) × Visits l list.now × CutIn (length list.now) p }
-    ensures { result ≡ feasible
-        (columns_at l flags.entry service.entry ready.entry due.entry penalty.entry distances.entry times.entry)
-        limits
-        depot
-        (laid list.now p) }
+    requires { (depot < columns.now.locations) × Visits columns.now.locations list.now × CutIn (length list.now) p }
+    ensures { result ≡ feasible (lent columns.now) limits depot (laid list.now p) }
 {
     let mut buffer = [0u16; 64];
     let n = list.len();
     lay_out(&mut buffer, list, p, 0);
-    route_feasible(
-        l,
-        flags,
-        service,
-        ready,
-        due,
-        penalty,
-        distances,
-        times,
-        limits,
-        depot,
-        &buffer[0..n],
-    )
+    route_feasible(columns, limits, depot, &buffer[0..n])
 }
 
 // Whether the list as it is laid out passes. Where no check is needed it does; with a break to take it is built.
 pub fn laid_passes(
     needed: bool,
-    l: usize,
-    flags: &[u8],
-    service: &[f64],
-    ready: &[f64],
-    due: &[f64],
-    penalty: &[f64],
-    distances: &[f64],
-    times: &[f64],
+    columns: &Columns,
     limits: RouteLimits,
     depot: usize,
     list: &[u16],
     head: Head,
     p: Layout,
 ) -> bool
-    requires formed { Formed (columns_at l flags service ready due penalty distances times) }
-    requires depot_lt_l { (depot < l) × Visits l list.now × CutIn (length list.now) p }
-    requires driven { Driven (columns_at l flags service ready due penalty distances times) limits.rest depot list.now head × (head.visits ≤ p.b) }
-    ensures { result ≡ passing needed
-        (columns_at l flags.entry service.entry ready.entry due.entry penalty.entry distances.entry times.entry)
-        limits
-        depot
-        (laid list.now p) }
+    requires depot_lt_l { (depot < columns.now.locations) × Visits columns.now.locations list.now × CutIn (length list.now) p }
+    requires driven { Driven (lent columns.now) limits.rest depot list.now head × (head.visits ≤ p.b) }
+    ensures { result ≡ passing needed (lent columns.now) limits depot (laid list.now p) }
 {
     if !needed {
         return true;
     }
     let rest = limits.rest;
     match rest {
-        Rest::NoBreak => passes_from(
-            l, flags, service, ready, due, penalty, distances, times, limits, depot, list, head, p,
-        ),
-        Rest::Break(_) => built_passes(
-            l, flags, service, ready, due, penalty, distances, times, limits, depot, list, p,
-        ),
+        None => passes_from(columns, limits, depot, list, head, p),
+        Some(_) => built_passes(columns, limits, depot, list, p),
     }
 }
 
 // The head of a list up to a position, kept where it is there already or candidates need no check.
 pub fn head_up_to(
     needed: bool,
-    l: usize,
-    flags: &[u8],
-    service: &[f64],
-    ready: &[f64],
-    due: &[f64],
-    penalty: &[f64],
-    distances: &[f64],
-    times: &[f64],
-    rest: Rest,
+    columns: &Columns,
+    rest: Option<VehicleBreak>,
     depot: usize,
     list: &[u16],
     head: Head,
     to: usize,
 ) -> Head
-    requires formed { Formed (columns_at l flags service ready due penalty distances times) }
-    requires depot_lt_l { (depot < l) × Visits l list.now × (to ≤ length list.now) }
-    requires driven { Driven (columns_at l flags service ready due penalty distances times) rest depot list.now head × (head.visits ≤ to) }
-    ensures driven_2 { Driven
-        (columns_at l flags.entry service.entry ready.entry due.entry penalty.entry distances.entry times.entry)
-        rest
-        depot
-        list.now
-        result }
+    requires depot_lt_l { (depot < columns.now.locations) × Visits columns.now.locations list.now × (to ≤ length list.now) }
+    requires driven { Driven (lent columns.now) rest depot list.now head × (head.visits ≤ to) }
+    ensures driven_2 { Driven (lent columns.now) rest depot list.now result }
     ensures visits_le_to { result.visits ≤ to }
 {
     if !needed {
@@ -372,7 +304,5 @@ pub fn head_up_to(
     if head.visits == to {
         return head;
     }
-    reach(
-        l, flags, service, ready, due, penalty, distances, times, rest, depot, list, head, to,
-    )
+    reach(columns, rest, depot, list, head, to)
 }

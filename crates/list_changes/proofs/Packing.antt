@@ -6,8 +6,10 @@ use mathlib.Core.List.{List, [], ◌∷◌, ◌++◌, append_assoc, append-nil}
 use Prim.Native.Nat.{ℕ, zero, suc, ◌+◌, ◌-◌, ◌≤◌, ◌<◌}
 use native.Mathlib.Numerals.{add-one}
 use native.Mathlib.Omega.{arith}
-use lib.ListN.{length, get_or, set, take, drop, replicate, length-append, length-replicate, length-drop, length-set}
-use lib.Seq.{drop-drop, take-suc, drop-cons, set_at, take_at, take-length, drop-length, append_snoc, set-append_seam, get_or_at, length-take-le}
+use lib.ListN.{length, get_or, take, drop, replicate, length-append, length-replicate, length-drop}
+use lib.Seq.{drop-drop, take-suc, drop-cons, set_at, take_at, take-length, drop-length, append_snoc, get_or_at, length-take-le}
+use Rattle.std.specs.List.{swap}
+use Rattle.std.proofs.lemmas.List.Edits.{swap_is, length-swap}
 use Rattle.lists.specs.Table.{sum, lists}
 use Rattle.lists.proofs.Tables.{length-lists}
 use Rattle.list_changes.specs.Edits.{filled, nonzero, packed}
@@ -91,13 +93,36 @@ zeros_first : (k : ℕ) (rest : List ℕ) → replicate k 0 ++ 0 ∷ rest ≡ 0 
 zeros_first zero rest = refl
 zeros_first (suc k) rest = ap (λ z. 0 ∷ z) (zeros_first k rest)
 
--- a 0 at the seam, and the length that stood there behind those that are packed already
-stored : (A : List ℕ) (i k x : ℕ) (rest : List ℕ) → length A + k ≡ i
-    → set (set (A ++ (replicate k 0 ++ x ∷ rest)) i 0) (length A) x ≡ A ++ x ∷ (replicate k 0 ++ rest)
-stored A i k x rest e =
-    let long : length (A ++ replicate k 0) ≡ i = simp (length-append, length-replicate) e in
-    rw (← append_assoc A (replicate k 0) (x ∷ rest), set_at (A ++ replicate k 0) x rest 0 i long, append_assoc, zeros_first)
-    (set-append_seam A 0 (replicate k 0 ++ rest) x)
+-- the length behind the zeros and the first of them change places
+swapped_up : (A : List ℕ) (i k x : ℕ) (rest : List ℕ) → length A + k ≡ i
+    → swap (A ++ (replicate k 0 ++ x ∷ rest)) (length A) i ≡ A ++ x ∷ (replicate k 0 ++ rest)
+swapped_up A i zero x rest e =
+    let all : List ℕ = A ++ x ∷ rest in
+    let long : length all ≡ length A + suc (length rest) = length-append A (x ∷ rest) in
+    let here : length A ≡ i = omega arith in
+    let there : get_or all i 0 ≡ x = get_or_at A x rest 0 i here in
+    let first : get_or all (length A) 0 ≡ x = get_or_at A x rest 0 (length A) refl in
+    sym (swap_is all (length A) i 0 (omega arith) (omega arith))
+    ∙ rw (there, first, set_at A x rest x (length A) refl) (set_at A x rest x i here)
+swapped_up A i (suc k) x rest e =
+    let all : List ℕ = A ++ 0 ∷ (replicate k 0 ++ x ∷ rest) in
+    let zeros : List ℕ = A ++ replicate (suc k) 0 in
+    let long : length zeros ≡ i = simp (length-append, length-replicate) e in
+    let front_long : length (A ++ x ∷ replicate k 0) ≡ i = simp (length-append, length-replicate) e in
+    let split : all ≡ zeros ++ x ∷ rest = sym (append_assoc A (replicate (suc k) 0) (x ∷ rest)) in
+    let longer : length all ≡ i + suc (length rest) = ap length split ∙ length-append zeros (x ∷ rest) ∙ ap (λ (n : ℕ). n + suc (length rest)) long in
+    let there : get_or all i 0 ≡ x = ap (λ (l : List ℕ). get_or l i 0) split ∙ get_or_at zeros x rest 0 i long in
+    let first : get_or all (length A) 0 ≡ 0 = get_or_at A 0 (replicate k 0 ++ x ∷ rest) 0 (length A) refl in
+    sym (swap_is all (length A) i 0 (omega arith) (omega arith))
+    ∙ rw (
+      there,
+      first,
+      set_at A 0 (replicate k 0 ++ x ∷ rest) x (length A) refl,
+      ← append_assoc A (x ∷ replicate k 0) (x ∷ rest),
+      set_at (A ++ x ∷ replicate k 0) x rest 0 i front_long,
+      append_assoc,
+      zeros_first,
+    )
 
 -- it counts as packed where it isn't 0, and else as one more 0
 counted : (A : List ℕ) (i k x : ℕ) (rest : List ℕ) → length A + k ≡ i
@@ -118,11 +143,11 @@ module _ (xs : List ℕ) (i : ℕ) (there : i < length xs) where
       let long : length (nonzero (take i xs) ++ replicate (i - length (nonzero (take i xs))) 0) ≡ i = simp (length-append, length-replicate) behind in
       rw (drop-cons xs i 0 there, ← append_assoc (nonzero (take i xs)), get_or_at _ (get_or xs i 0) (drop (suc i) xs) 0 i long)
 
-  pub packed_more : set (set (packed_to i xs) i 0) (length (nonzero (take i xs))) (get_or xs i 0) ≡ packed_to (i + 1) xs
+  pub packed_more : swap (packed_to i xs) (length (nonzero (take i xs))) i ≡ packed_to (i + 1) xs
   unfolding packed_to nonzero
   packed_more =
       rw (add-one, take-suc xs i 0 there, nonzero_append, drop-cons xs i 0 there)
-      (stored (nonzero (take i xs)) i _ (get_or xs i 0) (drop (suc i) xs) behind ∙ counted (nonzero (take i xs)) i _ (get_or xs i 0) (drop (suc i) xs) behind)
+      (swapped_up (nonzero (take i xs)) i _ (get_or xs i 0) (drop (suc i) xs) behind ∙ counted (nonzero (take i xs)) i _ (get_or xs i 0) (drop (suc i) xs) behind)
 
   pub count_more : length (nonzero (take i xs)) + length (nonzero (get_or xs i 0 ∷ [])) ≡ length (nonzero (take (i + 1) xs))
   count_more = rw (add-one, take-suc xs i 0 there, nonzero_append, length-append)
@@ -149,23 +174,22 @@ pub packing_starts : (xs : List ℕ) → Packing xs xs 0 0
 unfolding nonzero
 packing_starts xs = record { reached = omega arith; kept_below = omega arith; same_length = refl; kept_is = refl; now_is = packed_none xs }
 
-pub packing_turns : (xs now : List ℕ) (kept i more : ℕ) → Packing xs now kept i → i < length now → more ≡ length (nonzero (get_or now i 0 ∷ []))
-    → Packing xs (set (set now i 0) kept (get_or now i 0)) (kept + more) (i + 1)
-packing_turns xs now kept i more p h e =
-    let there : i < length xs = omega (arith, p.same_length) in
+pub packing_turns : (xs now : List ℕ) (kept i more : ℕ) → Packing xs now kept i → i < length xs → more ≡ length (nonzero (get_or now i 0 ∷ []))
+    → Packing xs (swap now kept i) (kept + more) (i + 1)
+packing_turns xs now kept i more p there e =
     let here : get_or now i 0 ≡ get_or xs i 0 = rw p.now_is (packed-at xs i there) in
     let count : kept + more ≡ length (nonzero (take (i + 1) xs)) = rw (p.kept_is, e, here) (count_more xs i there) in
     record {
       reached = omega arith;
       kept_below = omega (arith, count, nonzero_le (take (i + 1) xs), length-take-le (i + 1) xs (omega arith));
-      same_length = simp length-set p.same_length;
+      same_length = length-swap now kept i ∙ p.same_length;
       kept_is = count;
-      now_is = rw (here, p.kept_is, p.now_is) (packed_more xs i there);
+      now_is = rw (p.kept_is, p.now_is) (packed_more xs i there);
     }
 
-pub packing_ends : (xs now : List ℕ) (kept i : ℕ) → Packing xs now kept i → length now ≤ i → (kept ≡ length (nonzero xs)) × (now ≡ packed xs)
+pub packing_ends : (xs now : List ℕ) (kept i : ℕ) → Packing xs now kept i → length xs ≤ i → (kept ≡ length (nonzero xs)) × (now ≡ packed xs)
 packing_ends xs now kept i p h =
-    let all : i ≡ length xs = omega (arith, p.reached, p.same_length) in (
+    let all : i ≡ length xs = omega (arith, p.reached) in (
       p.kept_is ∙ ap (λ k. length (nonzero (take k xs))) all ∙ ap (λ z. length (nonzero z)) (take-length xs),
       p.now_is ∙ ap (λ k. packed_to k xs) all ∙ packed_all xs,
     )

@@ -10,7 +10,7 @@ ghost use Rattle.list_changes.specs.Edits.{nonzero, packed, Edited, Relocates, r
 use lists::{end_of, length_of, place_of};
 
 // 1 for a list that has a visit, 0 for an empty one.
-fn one_if_filled(n: u16) -> usize
+pub fn one_if_filled(n: u16) -> usize
     ensures { result ≡ length (nonzero (n ∷ [])) }
 {
     if n == 0 {
@@ -25,14 +25,11 @@ pub fn drop_empty(lengths: &mut [u16]) -> usize
     ensures count { result ≡ length (nonzero lengths.old) }
     ensures lengths { lengths.new ≡ packed lengths.old }
 {
-    let mut kept: usize = 0;
-    let mut i = 0;
-    while i < lengths.len() {
+    let mut kept = 0;
+    for i in 0..lengths.len() {
         let n = lengths[i];
-        lengths[i] = 0;
-        lengths[kept] = n;
+        lengths.swap(kept, i);
         kept += one_if_filled(n);
-        i += 1;
     }
     kept
 }

@@ -5,29 +5,24 @@
 
 ghost use Rattle.std.specs.Prelude.{◌≡◌, ◌<◌, length, set};
 ghost use Rattle.edits.specs.Total.{total};
-ghost use Rattle.labels.specs.Columns.{columns_at};
 ghost use Rattle.lists.specs.Table.{lists};
 ghost use Rattle.list_changes.specs.Edits.{at};
 ghost use Rattle.loads.specs.Loads.{boxes_of, Held};
 ghost use Rattle.tail_prices.specs.Changes.{cost_in};
 ghost use Rattle.soft_tail_candidates.specs.Candidate.{Asked};
 ghost use Rattle.list_figures.specs.Kept.{KeptFigures, FiguredAgain, ReadAt};
+ghost use Rattle.labels.specs.Lent.{lent};
 
 use evaluation::route::effective_cost;
+use labels::columns::Columns;
 use lists::list_of;
 use loads::load_of;
 use tail_prices::{Figures, Terms};
 
 // Puts what list r costs and loads into the tables.
 fn figure_list(
-    flags: &[u8],
+    columns: &Columns,
     demand: &[i32],
-    service: &[f64],
-    ready: &[f64],
-    due: &[f64],
-    penalty: &[f64],
-    distances: &[f64],
-    times: &[f64],
     terms: Terms,
     visits: &[u16],
     lengths: &[u16],
@@ -35,77 +30,44 @@ fn figure_list(
     costs: &mut [f64],
     loads: &mut [usize],
 )
-    requires asked { Asked (columns_at terms.l flags service ready due penalty distances times) demand.now terms }
-    requires held { Held terms.l visits.now lengths.now × (r < length lengths.now) }
+    requires asked { Asked (lent columns.now) demand.now terms }
+    requires held { Held columns.now.locations visits.now lengths.now × (r < length lengths.now) }
     requires costs_len { (length costs.old ≡ 16) × (length loads.old ≡ 16) }
     ensures { let list = at (lists visits.now lengths.now) r
-        in (costs.new ≡ set costs.old r (cost_in
-        (columns_at terms.l flags.entry service.entry ready.entry due.entry penalty.entry distances.entry times.entry) terms list))
+        in (costs.new ≡ set costs.old r (cost_in (lent columns.now) terms list))
         × (loads.new ≡ set loads.old r (total (boxes_of demand.now) list)) }
 {
     let list = list_of(visits, lengths, r);
-    let cost = effective_cost(
-        terms.l,
-        flags,
-        service,
-        ready,
-        due,
-        penalty,
-        distances,
-        times,
-        terms.limits,
-        terms.depot,
-        list,
-    );
-    let load = load_of(terms.l, demand, list);
+    let cost = effective_cost(columns, terms.limits, terms.depot, list);
+    let load = load_of(columns.locations, demand, list);
     costs[r] = cost;
     loads[r] = load;
 }
 
 // Puts what every list costs and loads into the tables.
 pub fn figure_lists(
-    flags: &[u8],
+    columns: &Columns,
     demand: &[i32],
-    service: &[f64],
-    ready: &[f64],
-    due: &[f64],
-    penalty: &[f64],
-    distances: &[f64],
-    times: &[f64],
     terms: Terms,
     visits: &[u16],
     lengths: &[u16],
     costs: &mut [f64],
     loads: &mut [usize],
 )
-    requires asked { Asked (columns_at terms.l flags service ready due penalty distances times) demand.now terms }
-    requires held { Held terms.l visits.now lengths.now }
+    requires asked { Asked (lent columns.now) demand.now terms }
+    requires held { Held columns.now.locations visits.now lengths.now }
     requires costs_len { (length costs.old ≡ 16) × (length loads.old ≡ 16) }
-    ensures { KeptFigures
-        (columns_at terms.l flags.entry service.entry ready.entry due.entry penalty.entry distances.entry times.entry)
-        demand.now terms (lists visits.now lengths.now) (length lengths.now)
-        costs.new loads.new }
+    ensures { KeptFigures (lent columns.now) demand.now terms (lists visits.now lengths.now) (length lengths.now) costs.new loads.new }
 {
-    let mut r = 0;
-    while r < lengths.len() {
-        figure_list(
-            flags, demand, service, ready, due, penalty, distances, times, terms, visits, lengths,
-            r, costs, loads,
-        );
-        r += 1;
+    for r in 0..lengths.len() {
+        figure_list(columns, demand, terms, visits, lengths, r, costs, loads);
     }
 }
 
 // Puts what two lists cost and load into the tables.
 pub fn figure_two(
-    flags: &[u8],
+    columns: &Columns,
     demand: &[i32],
-    service: &[f64],
-    ready: &[f64],
-    due: &[f64],
-    penalty: &[f64],
-    distances: &[f64],
-    times: &[f64],
     terms: Terms,
     visits: &[u16],
     lengths: &[u16],
@@ -114,22 +76,13 @@ pub fn figure_two(
     costs: &mut [f64],
     loads: &mut [usize],
 )
-    requires asked { Asked (columns_at terms.l flags service ready due penalty distances times) demand.now terms }
-    requires held { Held terms.l visits.now lengths.now × (one < length lengths.now) × (other < length lengths.now) }
+    requires asked { Asked (lent columns.now) demand.now terms }
+    requires held { Held columns.now.locations visits.now lengths.now × (one < length lengths.now) × (other < length lengths.now) }
     requires costs_len { (length costs.old ≡ 16) × (length loads.old ≡ 16) }
-    ensures { FiguredAgain
-        (columns_at terms.l flags.entry service.entry ready.entry due.entry penalty.entry distances.entry times.entry)
-        demand.now terms (lists visits.now lengths.now) one other
-        costs.old loads.old costs.new loads.new }
+    ensures { FiguredAgain (lent columns.now) demand.now terms (lists visits.now lengths.now) one other costs.old loads.old costs.new loads.new }
 {
-    figure_list(
-        flags, demand, service, ready, due, penalty, distances, times, terms, visits, lengths, one,
-        costs, loads,
-    );
-    figure_list(
-        flags, demand, service, ready, due, penalty, distances, times, terms, visits, lengths,
-        other, costs, loads,
-    );
+    figure_list(columns, demand, terms, visits, lengths, one, costs, loads);
+    figure_list(columns, demand, terms, visits, lengths, other, costs, loads);
 }
 
 // What the tables say of two lists.

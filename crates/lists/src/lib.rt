@@ -12,10 +12,8 @@ pub fn place_of(lengths: &[u16], r: usize, position: usize) -> usize
     ensures { result ≡ start_of lengths.now r + position }
 {
     let mut place = position;
-    let mut i = 0;
-    while i < r {
-        place += lengths[i] as usize;
-        i += 1;
+    for length in &lengths[..r] {
+        place += *length as usize;
     }
     place
 }

@@ -43,10 +43,8 @@ pub fn load_of(l: usize, demand: &[i32], list: &[u16]) -> usize
     ensures { (result ≡ total (boxes_of demand.now) list.now) × (result ≤ 63000000) }
 {
     let mut load = 0;
-    let mut k = 0;
-    while k < list.len() {
-        load += boxes_at(l, demand, list, k);
-        k += 1;
+    for visit in list {
+        load += boxes_of(demand, *visit as usize);
     }
     load
 }

@@ -8,6 +8,7 @@ use native.Mathlib.Numerals.{add-one}
 use native.Mathlib.Omega.{arith}
 use borrow.Author.Tests.{lt-ltb, le-ltb, le-leb, lt-leb}
 use lib.Seq.{drop-cons}
+use Rattle.std.specs.Prelude.{Option, Some, None}
 use Rattle.descent.specs.Order.{from_on, range, each}
 use Rattle.descent.specs.Permitted.{seven}
 use Rattle.descent.specs.Within.{pieces, cuts}
@@ -17,24 +18,23 @@ use Rattle.neighbours.specs.Places.{way_of, meant, Inside, InsideAny, onward, re
 use Rattle.neighbours.specs.Places.{cuts_from, reconnections_from}
 use Rattle.neighbours.specs.declared.Place.TheVariants.{Turned, Moved, Reconnected}
 use Rattle.neighbours.specs.declared.Neighbourhood.TheVariants.{Reconnect}
-use Rattle.neighbours.specs.declared.Found.{Found}
-use Rattle.neighbours.specs.declared.Found.TheVariants.{Nothing, At}
+use Rattle.neighbours.specs.declared.Place.{Place}
 
 -- ---- reversals
 
-pub turned-first : (n i : ℕ) → i + 1 < n → (rest n (At (Turned i (i + 1))) ≡ map reversal (rows_from n i)) × InsideAny n (At (Turned i (i + 1)))
+pub turned-first : (n i : ℕ) → i + 1 < n → (rest n (Some (Turned i (i + 1))) ≡ map reversal (rows_from n i)) × InsideAny n (Some (Turned i (i + 1)))
 unfolding rest onward InsideAny Inside
 turned-first n i h = (rw (add-one, range_step i (n - 1) (omega arith)), (omega arith, h))
 
-pub turned_none : (n i : ℕ) → n ≤ i + 1 → (rest n Nothing ≡ map reversal (rows_from n i)) × InsideAny n Nothing
+pub turned_none : (n i : ℕ) → n ≤ i + 1 → (rest n None ≡ map reversal (rows_from n i)) × InsideAny n None
 unfolding rest InsideAny
 turned_none n i h = (rw (range_done i (n - 1) (omega arith)), tt)
 
-pub turned_on : (n first last : ℕ) → Inside n (Turned first last) → last + 1 < n → Follows n (Turned first last) (At (Turned first (last + 1)))
+pub turned_on : (n first last : ℕ) → Inside n (Turned first last) → last + 1 < n → Follows n (Turned first last) (Some (Turned first (last + 1)))
 unfolding rest onward meant InsideAny Inside
 turned_on n first last w h = record { same = rw add-one (ap (map reversal) (reversals_turn n first last w.1)); inside = (omega arith, h) }
 
-pub turned-row : (n first last : ℕ) (r : Found) → Inside n (Turned first last) → n ≤ last + 1
+pub turned-row : (n first last : ℕ) (r : Option Place) → Inside n (Turned first last) → n ≤ last + 1
     → (rest n r ≡ map reversal (rows_from n (first + 1))) × InsideAny n r → Follows n (Turned first last) r
 unfolding onward meant Inside
 turned-row n first last r w h (left, inside) = record {
@@ -74,12 +74,12 @@ one_size n size h k =
     )
 
 pub moved_first : (n size : ℕ) → 1 ≤ size → size < 4 → size < n
-    → (rest n (At (Moved size 0 (size + 1))) ≡ map relocation (each (range size 4) (pieces to_the_end n))) × InsideAny n (At (Moved size 0 (size + 1)))
+    → (rest n (Some (Moved size 0 (size + 1))) ≡ map relocation (each (range size 4) (pieces to_the_end n))) × InsideAny n (Some (Moved size 0 (size + 1)))
 unfolding rest onward InsideAny Inside
 moved_first n size o h k = (ap (map relocation) (one_size n size h k), (o, omega arith, omega arith, inr (omega arith), omega arith))
 
 pub moved_none : (n size : ℕ) → (4 ≤ size) ⊎ (n ≤ size)
-    → (rest n Nothing ≡ map relocation (each (range size 4) (pieces to_the_end n))) × InsideAny n Nothing
+    → (rest n None ≡ map relocation (each (range size 4) (pieces to_the_end n))) × InsideAny n None
 unfolding rest InsideAny
 moved_none n size (inl h) = (rw (range_done size 4 h), tt)
 moved_none n size (inr h) = (sym (ap (map relocation) (no_sizes n size (4 - size) h)), tt)
@@ -123,13 +123,13 @@ to_last n size from to next (one, three, fits, inr behind, end) (inr (more, is))
     rw (tos_behind n size from to (omega arith), range_step to (suc n) (omega arith), range_done (suc to) (suc n) (omega arith))
 
 module _ (n size from to next : ℕ) (w : Inside n (Moved size from to)) (e : Next size from to next) where
-  pub moved_on : next ≤ n → Follows n (Moved size from to) (At (Moved size from next))
+  pub moved_on : next ≤ n → Follows n (Moved size from to) (Some (Moved size from next))
   unfolding rest onward meant InsideAny Inside
   moved_on h =
       let on = to_on n size from to next w e h in
       record { same = rw on.0; inside = (w.0, w.1, w.2, on.1, h) }
 
-  pub moved_row : n < next → from + size < n → Follows n (Moved size from to) (At (Moved size (from + 1) 0))
+  pub moved_row : n < next → from + size < n → Follows n (Moved size from to) (Some (Moved size (from + 1) 0))
   unfolding rest onward meant InsideAny Inside
   moved_row h k = record {
     same = rw (
@@ -143,7 +143,7 @@ module _ (n size from to next : ℕ) (w : Inside n (Moved size from to)) (e : Ne
     inside = (w.0, w.1, omega arith, inl (omega arith), omega arith);
   }
 
-  pub moved_size : (r : Found) → n < next → n ≤ from + size
+  pub moved_size : (r : Option Place) → n < next → n ≤ from + size
       → (rest n r ≡ map relocation (each (range (size + 1) 4) (pieces to_the_end n))) × InsideAny n r → Follows n (Moved size from to) r
   unfolding onward meant
   moved_size r h k (left, inside) = record {
@@ -159,7 +159,7 @@ first-cut n i h =
     rw (range_step i (n - 2) (omega arith), range_step (suc i) (n - 1) (omega arith), range_step (suc (suc i)) n h, append_assoc)
 
 pub cut-first : (n i : ℕ) → i + 2 < n
-    → (rest n (At (Reconnected i (i + 1) (i + 2) 0)) ≡ map reconnection (each (firsts_from n i) ways)) × InsideAny n (At (Reconnected i (i + 1) (i + 2) 0))
+    → (rest n (Some (Reconnected i (i + 1) (i + 2) 0)) ≡ map reconnection (each (firsts_from n i) ways)) × InsideAny n (Some (Reconnected i (i + 1) (i + 2) 0))
 unfolding rest onward InsideAny Inside
 cut-first n i h =
     let two : i + 2 ≡ suc (suc i) = omega arith in (
@@ -169,12 +169,12 @@ cut-first n i h =
       (omega arith, omega arith, h, omega arith),
     )
 
-pub cut_none : (n i : ℕ) → n ≤ i + 2 → (rest n Nothing ≡ map reconnection (each (firsts_from n i) ways)) × InsideAny n Nothing
+pub cut_none : (n i : ℕ) → n ≤ i + 2 → (rest n None ≡ map reconnection (each (firsts_from n i) ways)) × InsideAny n None
 unfolding rest InsideAny
 cut_none n i h = (rw (range_done i (n - 2) (omega arith)), tt)
 
 module _ (n i j k way : ℕ) (w : Inside n (Reconnected i j k way)) where
-  pub way_on : way < 6 → Follows n (Reconnected i j k way) (At (Reconnected i j k (way + 1)))
+  pub way_on : way < 6 → Follows n (Reconnected i j k way) (Some (Reconnected i j k (way + 1)))
   unfolding rest onward meant InsideAny Inside
   way_on h = record { same = rw (add-one, drop-cons seven way (false, false, false) w.3); inside = (w.0, w.1, w.2, omega arith) }
 
@@ -183,7 +183,7 @@ module _ (n i j k way : ℕ) (w : Inside n (Reconnected i j k way)) where
   unfolding Inside
   last-way h = let six : way ≡ 6 = omega arith in rw six
 
-  pub cut_on : 6 ≤ way → k + 1 < n → Follows n (Reconnected i j k way) (At (Reconnected i j (k + 1) 0))
+  pub cut_on : 6 ≤ way → k + 1 < n → Follows n (Reconnected i j k way) (Some (Reconnected i j (k + 1) 0))
   unfolding rest onward meant InsideAny Inside
   cut_on h l = record {
     same = ap (map reconnection) (last-way h) ∙ rw (add-one, range_step (suc k) n (omega arith));
@@ -195,7 +195,7 @@ module _ (n i j k way : ℕ) (w : Inside n (Reconnected i j k way)) where
   next_row l m =
       rw (range_done (suc k) n (omega arith), range_step (suc j) (n - 1) (omega arith), range_step (suc (suc j)) n (omega arith), append_assoc)
 
-  pub cut-row : 6 ≤ way → n ≤ k + 1 → j + 2 < n → Follows n (Reconnected i j k way) (At (Reconnected i (j + 1) (j + 2) 0))
+  pub cut-row : 6 ≤ way → n ≤ k + 1 → j + 2 < n → Follows n (Reconnected i j k way) (Some (Reconnected i (j + 1) (j + 2) 0))
   unfolding rest onward meant InsideAny Inside
   cut-row h l m =
       let two : j + 2 ≡ suc (suc j) = omega arith in
@@ -207,7 +207,7 @@ module _ (n i j k way : ℕ) (w : Inside n (Reconnected i j k way)) where
         inside = (omega arith, omega arith, m, omega arith);
       }
 
-  pub cut_rows : (r : Found) → 6 ≤ way → n ≤ k + 1 → n ≤ j + 2
+  pub cut_rows : (r : Option Place) → 6 ≤ way → n ≤ k + 1 → n ≤ j + 2
       → (rest n r ≡ map reconnection (each (firsts_from n (i + 1)) ways)) × InsideAny n r → Follows n (Reconnected i j k way) r
   unfolding onward meant
   cut_rows r h l m (left, inside) = record {
@@ -216,11 +216,11 @@ module _ (n i j k way : ℕ) (w : Inside n (Reconnected i j k way)) where
   }
 
 -- lists of four or more
-pub cuts-few : (n : ℕ) → n < 4 → (rest n Nothing ≡ neighbours Reconnect n) × InsideAny n Nothing
+pub cuts-few : (n : ℕ) → n < 4 → (rest n None ≡ neighbours Reconnect n) × InsideAny n None
 unfolding rest InsideAny neighbours
 cuts-few n h = (rw (lt-leb 4 n h, cuts), tt)
 
-pub cuts_many : (n : ℕ) (r : Found) → 4 ≤ n → (rest n r ≡ map reconnection (each (firsts_from n 0) ways)) × InsideAny n r
+pub cuts_many : (n : ℕ) (r : Option Place) → 4 ≤ n → (rest n r ≡ map reconnection (each (firsts_from n 0) ways)) × InsideAny n r
     → (rest n r ≡ neighbours Reconnect n) × InsideAny n r
 unfolding neighbours
 cuts_many n r h (left, inside) = (rw (le-leb 4 n h, cuts) left, inside)

@@ -1,5 +1,5 @@
 -- A neighbour by its numbers, as the code goes through them one by one, and a list laid out in four pieces. For the inner contracts. Assumes nothing.
-use Rattle.std.specs.Prelude.{ℕ, suc, ◌+◌, ◌-◌, ◌≤◌, ◌<◌, ◌≡◌, ◌⊎◌, true, false, List, [], ◌∷◌, ◌++◌, map, ltb, drop, get_or}
+use Rattle.std.specs.Prelude.{ℕ, suc, ◌+◌, ◌-◌, ◌≤◌, ◌<◌, ◌≡◌, ◌⊎◌, true, false, List, [], ◌∷◌, ◌++◌, map, ltb, drop, get_or, Option, Some, None}
 use Rattle.descent.specs.Order.{range, each}
 use Rattle.descent.specs.Permitted.{Arrangement, seven}
 use Rattle.descent.specs.Within.{Piece, pieces, Cut, Reconnection}
@@ -7,8 +7,6 @@ use Rattle.descent.proofs.Loops.{reversals_from}
 use Rattle.neighbours.specs.Neighbours.{Neighbour, reversal, relocation, reconnection, ways, to_the_end, made}
 use Rattle.neighbours.specs.declared.Place.{Place}
 use Rattle.neighbours.specs.declared.Place.TheVariants.{Turned, Moved, Reconnected}
-use Rattle.neighbours.specs.declared.Found.{Found}
-use Rattle.neighbours.specs.declared.Found.TheVariants.{Nothing, At}
 use Rattle.layouts.specs.Layout.{laid, CutIn}
 use Rattle.layouts.specs.declared.Layout.{Layout}
 
@@ -29,9 +27,9 @@ Inside n (Moved size from to) = (1 ≤ size) × (size ≤ 3) × (from + size ≤
 Inside n (Reconnected i j k way) = (i < j) × (j < k) × (k < n) × (way < 7)
 
 -- the same, if there is one
-unfoldable pub InsideAny : ℕ → Found → Type 0
-InsideAny n Nothing = Unit
-InsideAny n (At place) = Inside n place
+unfoldable pub InsideAny : ℕ → Option Place → Type 0
+InsideAny n None = Unit
+InsideAny n (Some place) = Inside n place
 
 -- ---- the neighbours from a place on
 
@@ -80,12 +78,12 @@ onward n (Moved size from to) = map relocation (pieces_from n size from to)
 onward n (Reconnected i j k way) = map reconnection (reconnections_from n i j k way)
 
 -- the same, if there is a place
-unfoldable pub rest : ℕ → Found → List Neighbour
-rest n Nothing = []
-rest n (At place) = onward n place
+unfoldable pub rest : ℕ → Option Place → List Neighbour
+rest n None = []
+rest n (Some place) = onward n place
 
 -- r is the place after another: what is left from there on is its neighbour, and what is left from r on
-pub record Follows (n : ℕ) (place : Place) (r : Found) : Type 0 where
+pub record Follows (n : ℕ) (place : Place) (r : Option Place) : Type 0 where
   pub same : onward n place ≡ meant place ∷ rest n r
   pub inside : InsideAny n r
 

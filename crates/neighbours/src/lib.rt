@@ -38,46 +38,39 @@ pub enum Place {
     Reconnected(usize, usize, usize, usize),
 }
 
-// A place, if there is one.
-#[derive(Clone, Copy)]
-pub enum Found {
-    Nothing,
-    At(Place),
-}
-
 // The first reversal whose stretch starts at i or behind it.
-fn first_reversal(n: usize, i: usize) -> Found
+fn first_reversal(n: usize, i: usize) -> Option<Place>
     requires { (n ≤ 63) × (i ≤ 63) }
     ensures { (rest n result ≡ map reversal (rows_from n i)) × InsideAny n result }
 {
     if i + 1 < n {
-        return Found::At(Place::Turned(i, i + 1));
+        return Some(Place::Turned(i, i + 1));
     }
-    Found::Nothing
+    None
 }
 
-fn after_reversal(n: usize, first: usize, last: usize) -> Found
+fn after_reversal(n: usize, first: usize, last: usize) -> Option<Place>
     requires { (n ≤ 63) × Inside n (Turned first last) }
     ensures { Follows n (Turned first last) result }
 {
     if last + 1 < n {
-        return Found::At(Place::Turned(first, last + 1));
+        return Some(Place::Turned(first, last + 1));
     }
     first_reversal(n, first + 1)
 }
 
 // The first relocation of a piece of this size or a greater one. A piece is shorter than the list.
-fn first_relocation(n: usize, size: usize) -> Found
+fn first_relocation(n: usize, size: usize) -> Option<Place>
     requires { (n ≤ 63) × (1 ≤ size) × (size ≤ 4) }
     ensures { (rest n result ≡ map relocation (each (range size 4) (pieces to_the_end n))) × InsideAny n result }
 {
     if size == 4 {
-        return Found::Nothing;
+        return None;
     }
     if size < n {
-        return Found::At(Place::Moved(size, 0, size + 1));
+        return Some(Place::Moved(size, 0, size + 1));
     }
-    Found::Nothing
+    None
 }
 
 // The place that a piece goes to after `to`: the next one, but past the piece itself.
@@ -91,49 +84,49 @@ fn next_to(size: usize, from: usize, to: usize) -> usize
     to + 1
 }
 
-fn after_relocation(n: usize, size: usize, from: usize, to: usize) -> Found
+fn after_relocation(n: usize, size: usize, from: usize, to: usize) -> Option<Place>
     requires { (n ≤ 63) × Inside n (Moved size from to) }
     ensures { Follows n (Moved size from to) result }
 {
     let next = next_to(size, from, to);
     if next <= n {
-        return Found::At(Place::Moved(size, from, next));
+        return Some(Place::Moved(size, from, next));
     }
     if from + size < n {
-        return Found::At(Place::Moved(size, from + 1, 0));
+        return Some(Place::Moved(size, from + 1, 0));
     }
     first_relocation(n, size + 1)
 }
 
 // The first reconnection whose first cut is behind the visit i or a later one.
-fn first_reconnection(n: usize, i: usize) -> Found
+fn first_reconnection(n: usize, i: usize) -> Option<Place>
     requires { (n ≤ 63) × (i ≤ 63) }
     ensures { (rest n result ≡ map reconnection (each (firsts_from n i) ways)) × InsideAny n result }
 {
     if i + 2 < n {
-        return Found::At(Place::Reconnected(i, i + 1, i + 2, 0));
+        return Some(Place::Reconnected(i, i + 1, i + 2, 0));
     }
-    Found::Nothing
+    None
 }
 
-fn after_reconnection(n: usize, i: usize, j: usize, k: usize, way: usize) -> Found
+fn after_reconnection(n: usize, i: usize, j: usize, k: usize, way: usize) -> Option<Place>
     requires { (n ≤ 63) × Inside n (Reconnected i j k way) }
     ensures { Follows n (Reconnected i j k way) result }
 {
     if way < 6 {
-        return Found::At(Place::Reconnected(i, j, k, way + 1));
+        return Some(Place::Reconnected(i, j, k, way + 1));
     }
     if k + 1 < n {
-        return Found::At(Place::Reconnected(i, j, k + 1, 0));
+        return Some(Place::Reconnected(i, j, k + 1, 0));
     }
     if j + 2 < n {
-        return Found::At(Place::Reconnected(i, j + 1, j + 2, 0));
+        return Some(Place::Reconnected(i, j + 1, j + 2, 0));
     }
     first_reconnection(n, i + 1)
 }
 
 // The first neighbour of a list of n. 3-opt is for lists of four or more.
-pub fn first_place(which: Neighbourhood, n: usize) -> Found
+pub fn first_place(which: Neighbourhood, n: usize) -> Option<Place>
     requires { n ≤ 63 }
     ensures { (rest n result ≡ neighbours which n) × InsideAny n result }
 {
@@ -142,7 +135,7 @@ pub fn first_place(which: Neighbourhood, n: usize) -> Found
         Neighbourhood::Relocate => first_relocation(n, 1),
         Neighbourhood::Reconnect => {
             if n < 4 {
-                return Found::Nothing;
+                return None;
             }
             first_reconnection(n, 0)
         }
@@ -150,7 +143,7 @@ pub fn first_place(which: Neighbourhood, n: usize) -> Found
 }
 
 // The neighbour after the one at a place.
-pub fn after(n: usize, place: Place) -> Found
+pub fn after(n: usize, place: Place) -> Option<Place>
     requires { (n ≤ 63) × Inside n place }
     ensures { Follows n place result }
 {

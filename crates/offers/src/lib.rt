@@ -9,12 +9,13 @@
 
 ghost use Rattle.std.specs.Prelude.{◌≡◌, ◌<◌, ◌≤◌, length};
 ghost use Rattle.lists.specs.Table.{lists};
-ghost use Rattle.labels.specs.Columns.{columns_at};
 ghost use Rattle.loads.specs.Loads.{Loaded, Held};
 ghost use Rattle.pairs.specs.Pairs.{IsBest};
 ghost use Rattle.places.specs.Places.{Prepared};
 ghost use Rattle.offers.specs.Offers.{search_of, judge_of, bound, Cached};
+ghost use Rattle.labels.specs.Lent.{lent};
 
+use labels::columns::Columns;
 use lists::{length_of, list_of};
 use loads::load_of;
 use pairs::Choice;
@@ -24,13 +25,7 @@ use visit_offers::offer_visit;
 // The best move out of list `from` into list `to`; a list has none into itself, and an empty one has none. The receiver's load is added up once.
 pub fn best_between(
     setup: Setup,
-    flags: &[u8],
-    service: &[f64],
-    ready: &[f64],
-    due: &[f64],
-    penalty: &[f64],
-    distances: &[f64],
-    times: &[f64],
+    columns: &Columns,
     demand: &[i32],
     visits: &[u16],
     lengths: &[u16],
@@ -41,12 +36,11 @@ pub fn best_between(
     from: usize,
     to: usize,
 ) -> Choice
-    requires prepared { Prepared setup (columns_at setup.l flags service ready due penalty distances times) }
-    requires loaded { Loaded setup.l demand.now × Held setup.l visits.now lengths.now }
+    requires prepared { Prepared setup (lent columns.now) }
+    requires loaded { Loaded columns.now.locations demand.now × Held columns.now.locations visits.now lengths.now }
     requires in_bounds { (64 ≤ length buffer.old) × (from < length lengths.now) × (to < length lengths.now) }
-    requires cached { Cached (columns_at setup.l flags service ready due penalty distances times) setup (lists visits.now lengths.now)
-        figures.old places.old }
-    ensures { let c = columns_at setup.l flags.entry service.entry ready.entry due.entry penalty.entry distances.entry times.entry in
+    requires cached { Cached (lent columns.now) setup (lists visits.now lengths.now) figures.old places.old }
+    ensures { let c = lent columns.now in
         let ls = lists visits.now lengths.now
         in IsBest ((judge_of c setup).delta ls) ((search_of c demand.now setup).passes ls) (bound c) ls from to result
         × Cached c setup ls figures.new places.new }
@@ -67,14 +61,12 @@ pub fn best_between(
     }
     let giver = list_of(visits, lengths, from);
     let receiver = list_of(visits, lengths, to);
-    let load = load_of(setup.l, demand, receiver);
-    let mut position = 0;
-    while position < giver.len() {
+    let load = load_of(columns.locations, demand, receiver);
+    for position in 0..giver.len() {
         best = offer_visit(
-            setup, flags, service, ready, due, penalty, distances, times, demand, giver, receiver,
-            buffer, figures, places, from, position, to, load, pruning, best,
+            setup, columns, demand, giver, receiver, buffer, figures, places, from, position, to,
+            load, pruning, best,
         );
-        position += 1;
     }
     best
 }

@@ -8,6 +8,7 @@ use native.Mathlib.Numerals.{add-one}
 use native.Mathlib.Omega.{arith}
 use lib.ListN.{length}
 use lib.Ieee.{lt}
+use Rattle.std.specs.Prelude.{Option, Some, None}
 use Rattle.labels.specs.Columns.{Columns}
 use Rattle.edits.specs.Edits.{put_before}
 use Rattle.descent.specs.Order.{range}
@@ -20,15 +21,13 @@ use Rattle.segments.specs.Segments.{last_position, search_of, judge_of, delta_at
 use Rattle.or_opt.specs.OrOpt.{leads}
 use Rattle.segments.specs.declared.Terms.{Terms}
 use Rattle.segments.specs.declared.Change.{Change}
-use Rattle.segments.specs.declared.Best.{Best}
-use Rattle.segments.specs.declared.Best.TheVariants.{Nothing, Move}
 use Rattle.segments.proofs.Moved.{is_put, asked_moved}
 use Rattle.descent.proofs.Going.{Going, going_moves}
 use Rattle.segment_moves.proofs.Rows.{reach}
 
 module _ (c : Columns) (t : Terms) (xs : List ℕ) where
   -- what is taken is of this length, and can be moved
-  pub fits_taken : (size : ℕ) (m : Change) → piece_of (Move m) ≡ taken (search_of c t) (judge_of c t) xs size → (m.size ≡ size) × Fits (length xs) (placed m)
+  pub fits_taken : (size : ℕ) (m : Change) → piece_of (Some m) ≡ taken (search_of c t) (judge_of c t) xs size → (m.size ≡ size) × Fits (length xs) (placed m)
   unfolding taken piece_of
   fits_taken size m e =
       let there = first_least-some (ok (search_of c t) (judge_of c t) xs) (λ p best. lt (delta_at c t xs p) (delta_at c t xs best))
@@ -47,8 +46,8 @@ module _ (c : Columns) (t : Terms) (xs : List ℕ) where
           record { inside = omega arith; there = omega arith; apart = inr (omega arith) }
 
   -- at a length that has a move; at one that has none; behind the last
-  pub size-moves : (size : ℕ) (m : Change) → size < 4 → piece_of (Move m) ≡ taken (search_of c t) (judge_of c t) xs size
-      → leads xs (Move m) ≡ first_move (search_of c t) (judge_of c t) xs (range size 4)
+  pub size-moves : (size : ℕ) (m : Change) → size < 4 → piece_of (Some m) ≡ taken (search_of c t) (judge_of c t) xs size
+      → leads xs (Some m) ≡ first_move (search_of c t) (judge_of c t) xs (range size 4)
   unfolding leads piece_of
   size-moves size m h e =
       let on : ℕ → Sweep (List ℕ) ℕ = λ k. record { now = put_before_lem xs (placed m); ahead = range (suc k) 4 } in
@@ -56,22 +55,22 @@ module _ (c : Columns) (t : Terms) (xs : List ℕ) where
       rw (range_step size 4 h) (sym (place_moved (search_of c t) (judge_of c t) xs size (range (suc size) 4) (placed m) (sym e))) in
       ap (λ (k : ℕ). some (on k)) (fits_taken size m e).0 ∙ here
 
-  pub size_passed : (size : ℕ) → size < 4 → piece_of Nothing ≡ taken (search_of c t) (judge_of c t) xs size
+  pub size_passed : (size : ℕ) → size < 4 → piece_of None ≡ taken (search_of c t) (judge_of c t) xs size
       → first_move (search_of c t) (judge_of c t) xs (range (size + 1) 4) ≡ first_move (search_of c t) (judge_of c t) xs (range size 4)
   unfolding piece_of
   size_passed size h e = rw (add-one size, range_step size 4 h) (sym (place_passed (search_of c t) (judge_of c t) xs size (range (suc size) 4) (sym e)))
 
-  pub sizes_done : (size : ℕ) → 4 ≤ size → leads xs Nothing ≡ first_move (search_of c t) (judge_of c t) xs (range size 4)
+  pub sizes_done : (size : ℕ) → 4 ≤ size → leads xs None ≡ first_move (search_of c t) (judge_of c t) xs (range size 4)
   unfolding leads first_move
   sizes_done size h = rw (range_done size 4 h)
 
   -- the next move is ahead, or in a new sweep
-  pub is-ahead : (size : ℕ) (m : Change) → leads xs (Move m) ≡ first_move (search_of c t) (judge_of c t) xs (range size 4)
-      → leads xs (Move m) ≡ next (search_of c t) (judge_of c t) (record { now = xs; ahead = range size 4 })
+  pub is-ahead : (size : ℕ) (m : Change) → leads xs (Some m) ≡ first_move (search_of c t) (judge_of c t) xs (range size 4)
+      → leads xs (Some m) ≡ next (search_of c t) (judge_of c t) (record { now = xs; ahead = range size 4 })
   unfolding leads
   is-ahead size m e = sym (next-ahead (search_of c t) (judge_of c t) (record { now = xs; ahead = range size 4 }) _ (sym e))
 
-  pub is_anew : (size : ℕ) (r : Best) → leads xs Nothing ≡ first_move (search_of c t) (judge_of c t) xs (range size 4)
+  pub is_anew : (size : ℕ) (r : Option Change) → leads xs None ≡ first_move (search_of c t) (judge_of c t) xs (range size 4)
       → leads xs r ≡ first_move (search_of c t) (judge_of c t) xs (range 1 4)
       → leads xs r ≡ next (search_of c t) (judge_of c t) (record { now = xs; ahead = range size 4 })
   unfolding leads
@@ -80,7 +79,7 @@ module _ (c : Columns) (t : Terms) (xs : List ℕ) where
   -- a run goes on behind the move that was made, with a list of the same visits
   pub moved_on : (limit moves size : ℕ) (start : Sweep (List ℕ) ℕ) (m : Change) (ys : List ℕ) → Asked c t xs → Fits (length xs) (placed m)
       → Going (next (search_of c t) (judge_of c t)) limit start moves (record { now = xs; ahead = range size 4 }) → moves < limit
-      → leads xs (Move m) ≡ next (search_of c t) (judge_of c t) (record { now = xs; ahead = range size 4 })
+      → leads xs (Some m) ≡ next (search_of c t) (judge_of c t) (record { now = xs; ahead = range size 4 })
       → ys ≡ put_before m.from m.size m.to xs
       → Going (next (search_of c t) (judge_of c t)) limit start (moves + 1) (record { now = ys; ahead = range (m.size + 1) 4 }) × Asked c t ys
   unfolding leads

@@ -7,7 +7,8 @@
 
 ghost use Rattle.std.specs.Prelude.{◌≡◌, [], ◌<◌, length};
 ghost use Rattle.numbers.specs.Operations.{zero64};
-ghost use Rattle.labels.specs.Columns.{columns_at, Formed, Visits};
+ghost use Rattle.labels.specs.Columns.{Visits};
+ghost use Rattle.labels.specs.Lent.{lent};
 ghost use Rattle.descent.specs.Order.{range};
 ghost use Rattle.descent.specs.Permitted.{or_opt, n_minus_length};
 ghost use Rattle.descent.specs.Search.{first_move, next};
@@ -22,96 +23,58 @@ use day_scans::matrix::scale;
 use edits::move_piece;
 use engine::Ended;
 use evaluation::route::route_checks_needed;
+use labels::columns::Columns;
 use numbers::gain_floor;
 use segment_moves::best_piece;
-use segments::{Best, Terms};
+use segments::{Change, Terms};
 
 // The move at the first piece length from `first` on that has one.
-fn first_move(
-    flags: &[u8],
-    service: &[f64],
-    ready: &[f64],
-    due: &[f64],
-    penalty: &[f64],
-    distances: &[f64],
-    times: &[f64],
-    terms: Terms,
-    list: &[u16],
-    first: usize,
-) -> Best
-    requires { Asked (columns_at terms.l flags service ready due penalty distances times) terms list.now }
-    ensures { let c = columns_at terms.l flags.entry service.entry ready.entry due.entry penalty.entry distances.entry times.entry in
+fn first_move(columns: &Columns, terms: Terms, list: &[u16], first: usize) -> Option<Change>
+    requires { Asked (lent columns.now) terms list.now }
+    ensures { let c = lent columns.now in
         (leads list.now result ≡ first_move (search_of c terms) (judge_of c terms) list.now (range first 4))
         × Apt (length list.now) result }
 {
-    let mut size = first;
-    while size < 4 {
-        let best = best_piece(
-            flags, service, ready, due, penalty, distances, times, terms, list, size,
-        );
-        if let Best::Move(change) = best {
-            return Best::Move(change);
+    for size in first..4 {
+        let best = best_piece(columns, terms, list, size);
+        if let Some(change) = best {
+            return Some(change);
         }
-        size += 1;
     }
-    Best::Nothing
+    None
 }
 
 // The next move: at the first piece length ahead in this sweep that has one or, in a new sweep, at the first of all.
-fn next_move(
-    flags: &[u8],
-    service: &[f64],
-    ready: &[f64],
-    due: &[f64],
-    penalty: &[f64],
-    distances: &[f64],
-    times: &[f64],
-    terms: Terms,
-    list: &[u16],
-    ahead: usize,
-) -> Best
-    requires { Asked (columns_at terms.l flags service ready due penalty distances times) terms list.now }
-    ensures { let c = columns_at terms.l flags.entry service.entry ready.entry due.entry penalty.entry distances.entry times.entry in
+fn next_move(columns: &Columns, terms: Terms, list: &[u16], ahead: usize) -> Option<Change>
+    requires { Asked (lent columns.now) terms list.now }
+    ensures { let c = lent columns.now in
         (leads list.now result ≡ next (search_of c terms) (judge_of c terms) (record { now = list.now; ahead = range ahead 4 }))
         × Apt (length list.now) result }
 {
-    let best = first_move(
-        flags, service, ready, due, penalty, distances, times, terms, list, ahead,
-    );
-    if let Best::Move(change) = best {
-        return Best::Move(change);
+    let best = first_move(columns, terms, list, ahead);
+    if let Some(change) = best {
+        return Some(change);
     }
-    first_move(
-        flags, service, ready, due, penalty, distances, times, terms, list, 1,
-    )
+    first_move(columns, terms, list, 1)
 }
 
 // Or-opt on one list, in place, until no change gains any more or the limit is used up.
 pub fn or_opt_improve(
-    l: usize,
-    flags: &[u8],
-    service: &[f64],
-    ready: &[f64],
-    due: &[f64],
-    penalty: &[f64],
-    distances: &[f64],
-    times: &[f64],
+    columns: &Columns,
     limits: RouteLimits,
     depot: usize,
     list: &mut [u16],
     limit: u32,
 ) -> Ended
-    requires formed { Formed (columns_at l flags service ready due penalty distances times) }
-    requires depot_lt_l { (depot < l) × Visits l list.old }
-    ensures { let c = columns_at l flags.entry service.entry ready.entry due.entry penalty.entry distances.entry times.entry in
+    requires { (depot < columns.now.locations) × Visits columns.now.locations list.old }
+    ensures { let c = lent columns.now in
         let run = run_of (or_opt n_minus_length) (checks_of [] c limits depot)
-        (float_judge (or_opt n_minus_length) (map_of l distances.now depot zero64)) limit list.old in
+        (float_judge (or_opt n_minus_length) (map_of columns.now.locations columns.now.distances.now depot zero64)) limit list.old in
         (list.new ≡ run.last.now) × (result ≡ ended_as run.word run.moves) }
 {
-    let needed = route_checks_needed(flags, limits);
-    let floor = gain_floor(scale(distances));
+    let needed = route_checks_needed(columns.flags, limits);
+    let floor = gain_floor(scale(columns.distances));
     let terms = Terms {
-        l,
         depot,
         limits,
         needed,
@@ -120,10 +83,8 @@ pub fn or_opt_improve(
     let mut ahead = 4;
     let mut moves = 0;
     loop {
-        let best = next_move(
-            flags, service, ready, due, penalty, distances, times, terms, list, ahead,
-        );
-        let Best::Move(change) = best else {
+        let best = next_move(columns, terms, list, ahead);
+        let Some(change) = best else {
             return Ended::Settled(moves);
         };
         if limit <= moves {

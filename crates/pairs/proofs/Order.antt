@@ -33,17 +33,13 @@ or_none false b e = (refl, e)
 
 -- ---- one number, then the rest
 
-pub in_order-less : (a b : ℕ) (rest : Bool) → a < b → true ≡ in_order a b rest
+in_order-less : (a b : ℕ) (rest : Bool) → a < b → true ≡ in_order a b rest
 unfolding in_order
 in_order-less a b rest h = rw (lt-ltb a b h)
 
-pub in_order_same : (a b : ℕ) (rest : Bool) → b ≤ a → a ≡ b → rest ≡ in_order a b rest
+in_order_same : (a b : ℕ) (rest : Bool) → b ≤ a → a ≡ b → rest ≡ in_order a b rest
 unfolding in_order
 in_order_same a b rest h e = rw (le-ltb a b h, eq-eqb a b e)
-
-pub in_order_more : (a b : ℕ) (rest : Bool) → b ≤ a → a ≢ b → false ≡ in_order a b rest
-unfolding in_order
-in_order_more a b rest h e = rw (le-ltb a b h, ne_eqb a b e)
 
 in_order_view : (a b : ℕ) (rest : Bool) → in_order a b rest ≡ true → (a < b) ⊎ ((a ≡ b) × (rest ≡ true))
 unfolding in_order
@@ -144,14 +140,6 @@ by_from m b p = sym (in_order-less m.from b.from _ p)
 pub less_then-less : (a b : Float) (rest : Bool) → lt a b ≡ true → true ≡ less_then a b rest
 unfolding less_then
 less_then-less a b rest h = rw h
-
-pub less_then_same : (a b : Float) (rest : Bool) → lt a b ≡ false → eq a b ≡ true → rest ≡ less_then a b rest
-unfolding less_then
-less_then_same a b rest h e = rw (h, e)
-
-pub less_then_more : (a b : Float) (rest : Bool) → lt a b ≡ false → eq a b ≡ false → false ≡ less_then a b rest
-unfolding less_then
-less_then_more a b rest h e = rw (h, e)
 
 less_then_view : (a b : Float) (rest : Bool) → less_then a b rest ≡ true → T (lt a b) ⊎ (T (eq a b) × (rest ≡ true))
 unfolding less_then

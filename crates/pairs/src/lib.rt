@@ -6,9 +6,7 @@
 
 ghost use Rattle.std.specs.Prelude.{◌≡◌, ◌≤◌, ◌<◌};
 ghost use Rattle.pairs.specs.Pairs.{in_order, less_then, earlier, as_move, ahead, first_of, first_among};
-ghost use Rattle.pairs.specs.Pairs.{found_if, table, table_at, Sized, entry, narrowed, put, row_from, least_entry};
-
-use edits::wide;
+ghost use Rattle.pairs.specs.Pairs.{table, table_at, Sized, entry, narrowed, put, row_from, least_entry};
 
 // The best move so far with its delta; while none is found, minus the floor. `found` is 1 or 0 in a whole word: a bool would leave padding that every copy
 // in a loop moves.
@@ -28,26 +26,14 @@ pub struct Choice {
 fn in_order(a: usize, b: usize, rest: bool) -> bool
     ensures { result ≡ in_order a b rest }
 {
-    if a < b {
-        return true;
-    }
-    if a == b {
-        return rest;
-    }
-    false
+    a < b || (a == b && rest)
 }
 
 // The delta, then the rest.
 fn less_then(a: f64, b: f64, rest: bool) -> bool
     ensures { result ≡ less_then a b rest }
 {
-    if a < b {
-        return true;
-    }
-    if a == b {
-        return rest;
-    }
-    false
+    a < b || (a == b && rest)
 }
 
 // By from list, position, to list and place.
@@ -66,10 +52,7 @@ fn is_earlier(choice: Choice, best: Choice) -> bool
 fn is_ahead(choice: Choice, best: Choice) -> bool
     ensures { result ≡ ahead choice best }
 {
-    if choice.found == 0 {
-        return false;
-    }
-    less_then(choice.delta, best.delta, is_earlier(choice, best))
+    choice.found != 0 && less_then(choice.delta, best.delta, is_earlier(choice, best))
 }
 
 // The first of the two.
@@ -88,19 +71,7 @@ fn first_of(best: Choice, choice: Choice) -> Choice
 fn narrow(k: usize) -> u16
     ensures { result ≡ narrowed k }
 {
-    if k < 65536 {
-        return k as u16;
-    }
-    0
-}
-
-fn found_if(below: bool) -> usize
-    ensures { result ≡ found_if below }
-{
-    if below {
-        return 1;
-    }
-    0
+    u16::try_from(k).unwrap_or(0)
 }
 
 // What the table says of a pair.
@@ -119,11 +90,11 @@ pub fn entry_at(
     let slot = 16 * from + to;
     let delta = deltas[slot];
     Choice {
-        found: found_if(delta < bound),
+        found: usize::from(delta < bound),
         from,
-        position: wide(positions[slot]),
+        position: usize::from(positions[slot]),
         to,
-        place: wide(places[slot]),
+        place: usize::from(places[slot]),
         delta,
     }
 }
@@ -166,10 +137,8 @@ fn best_of_row(
     ensures { result ≡ first_among (row_from n bound (table_at deltas.entry positions.entry places.entry) from 0) best }
 {
     let mut first = best;
-    let mut to = 0;
-    while to < n {
+    for to in 0..n {
         first = first_of(first, entry_at(bound, deltas, positions, places, from, to));
-        to += 1;
     }
     first
 }
@@ -187,10 +156,8 @@ pub fn best_pair(n: usize, bound: f64, deltas: &[f64], positions: &[u16], places
         place: 0,
         delta: bound,
     };
-    let mut from = 0;
-    while from < n {
+    for from in 0..n {
         best = best_of_row(n, bound, deltas, positions, places, from, best);
-        from += 1;
     }
     best
 }

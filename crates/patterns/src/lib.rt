@@ -8,7 +8,8 @@
 
 ghost use Rattle.std.specs.Prelude.{◌≡◌, ◌<◌, ◌≤◌, length};
 ghost use Rattle.day.specs.Matrix.{leg, Square};
-ghost use Rattle.labels.specs.Columns.{columns_at, Visits};
+ghost use Rattle.labels.specs.Columns.{leg_in, Visits};
+ghost use Rattle.labels.specs.Lent.{lent};
 ghost use Rattle.descent.specs.Search.{taken};
 ghost use Rattle.descent.specs.Within.{reconnect};
 ghost use Rattle.deltas.specs.Changes.{Placed};
@@ -22,14 +23,13 @@ use day::vehicle::RouteLimits;
 use deltas::Cut;
 use deltas_three_opt::{cut_at, pattern_change};
 use engine::passes;
+use labels::columns::Columns;
 use layouts::way_of;
 use reconnections::{Place, reconnected_into};
-use tests::either;
 
 // What is worked out once before the first move.
 #[derive(Clone, Copy)]
 pub struct Setup {
-    pub l: usize,
     pub depot: usize,
     pub limits: RouteLimits,
     // The least gain that counts.
@@ -50,57 +50,29 @@ struct Choice {
 // Whether the list as a pattern has it passes. Where no check is needed it is not built.
 fn candidate_passes(
     setup: Setup,
-    flags: &[u8],
-    service: &[f64],
-    ready: &[f64],
-    due: &[f64],
-    penalty: &[f64],
-    distances: &[f64],
-    times: &[f64],
+    columns: &Columns,
     list: &[u16],
     buffer: &mut [u16],
     place: Place,
     pattern: usize,
 ) -> bool
-    requires prepared { Prepared setup (columns_at setup.l flags service ready due penalty distances times) }
-    requires visits { Visits setup.l list.now × (length list.now ≤ length buffer.old) }
+    requires prepared { Prepared setup (lent columns.now) }
+    requires visits { Visits columns.now.locations list.now × (length list.now ≤ length buffer.old) }
     requires inside { Inside (length list.now) place × (pattern < 8) }
-    ensures { result ≡ passing setup.needed
-        (columns_at setup.l flags.entry service.entry ready.entry due.entry penalty.entry distances.entry times.entry)
-        setup.limits setup.depot
-        (reconnect list.now (reconnection place pattern)) }
+    ensures { result ≡ passing setup.needed (lent columns.now) setup.limits setup.depot (reconnect list.now (reconnection place pattern)) }
 {
     if !setup.needed {
         return true;
     }
     let end = reconnected_into(buffer, list, place, pattern);
     let limits = setup.limits;
-    passes(
-        setup.needed,
-        setup.l,
-        flags,
-        service,
-        ready,
-        due,
-        penalty,
-        distances,
-        times,
-        limits,
-        setup.depot,
-        &buffer[0..end],
-    )
+    passes(setup.needed, columns, limits, setup.depot, &buffer[0..end])
 }
 
 // The better of the best pattern so far and one more.
 fn better_of(
     setup: Setup,
-    flags: &[u8],
-    service: &[f64],
-    ready: &[f64],
-    due: &[f64],
-    penalty: &[f64],
-    distances: &[f64],
-    times: &[f64],
+    columns: &Columns,
     list: &[u16],
     buffer: &mut [u16],
     place: Place,
@@ -108,17 +80,17 @@ fn better_of(
     best: Choice,
     pattern: usize,
 ) -> Choice
-    requires prepared { Prepared setup (columns_at setup.l flags service ready due penalty distances times) }
-    requires visits { Visits setup.l list.now × (length list.now ≤ length buffer.old) }
+    requires prepared { Prepared setup (lent columns.now) }
+    requires visits { Visits columns.now.locations list.now × (length list.now ≤ length buffer.old) }
     requires inside { Inside (length list.now) place × (pattern < 8) }
-    requires cut_value { cut ≡ cut_at (leg setup.l distances.now) setup.depot list.now place.i place.j place.k }
-    ensures { let c = columns_at setup.l flags.entry service.entry ready.entry due.entry penalty.entry distances.entry times.entry
+    requires cut_value { cut ≡ cut_at (leg_in (lent columns.now)) setup.depot list.now place.i place.j place.k }
+    ensures { let c = lent columns.now
         in result ≡ better (search_of c setup.limits setup.depot) (judge_of c setup.depot) list.now place best pattern }
 {
     let way = way_of(pattern);
     let delta = pattern_change(
-        setup.l,
-        distances,
+        columns.locations,
+        columns.distances,
         cut,
         way.exchanged,
         way.b_turned,
@@ -127,9 +99,7 @@ fn better_of(
     if !(delta < best.delta) {
         return best;
     }
-    if !candidate_passes(
-        setup, flags, service, ready, due, penalty, distances, times, list, buffer, place, pattern,
-    ) {
+    if !candidate_passes(setup, columns, list, buffer, place, pattern) {
         return best;
     }
     Choice { pattern, delta }
@@ -147,34 +117,27 @@ fn any_below(l: usize, distances: &[f64], cut: Cut, bar: f64) -> bool
     let five = pattern_change(l, distances, cut, true, true, false) < bar;
     let six = pattern_change(l, distances, cut, true, false, true) < bar;
     let seven = pattern_change(l, distances, cut, true, true, true) < bar;
-    let swapped = either(four, either(five, either(six, seven)));
-    either(one, either(two, either(three, swapped)))
+    one | (two | (three | (four | (five | (six | seven)))))
 }
 
 // The pattern to take at a place.
 pub fn best_pattern(
     setup: Setup,
-    flags: &[u8],
-    service: &[f64],
-    ready: &[f64],
-    due: &[f64],
-    penalty: &[f64],
-    distances: &[f64],
-    times: &[f64],
+    columns: &Columns,
     list: &[u16],
     buffer: &mut [u16],
     place: Place,
 ) -> usize
-    requires prepared { Prepared setup (columns_at setup.l flags service ready due penalty distances times) }
-    requires visits { Visits setup.l list.now × (length list.now ≤ length buffer.old) }
+    requires prepared { Prepared setup (lent columns.now) }
+    requires visits { Visits columns.now.locations list.now × (length list.now ≤ length buffer.old) }
     requires inside { Inside (length list.now) place }
-    ensures result_value { let c = columns_at setup.l flags.entry service.entry ready.entry due.entry penalty.entry distances.entry times.entry
+    ensures result_value { let c = lent columns.now
         in move_of place result ≡ taken (search_of c setup.limits setup.depot) (judge_of c setup.depot) list.now (cut_of place) }
     ensures upper_bound { result < 8 }
 {
     let cut = cut_at(
-        setup.l,
-        distances,
+        columns.locations,
+        columns.distances,
         setup.symmetric,
         setup.depot,
         list,
@@ -183,20 +146,15 @@ pub fn best_pattern(
         place.k,
     );
     let bar = -setup.floor;
-    if !any_below(setup.l, distances, cut, bar) {
+    if !any_below(columns.locations, columns.distances, cut, bar) {
         return 0;
     }
     let mut best = Choice {
         pattern: 0,
         delta: bar,
     };
-    let mut pattern = 1;
-    while pattern < 8 {
-        best = better_of(
-            setup, flags, service, ready, due, penalty, distances, times, list, buffer, place, cut,
-            best, pattern,
-        );
-        pattern += 1;
+    for pattern in 1..8 {
+        best = better_of(setup, columns, list, buffer, place, cut, best, pattern);
     }
     best.pattern
 }

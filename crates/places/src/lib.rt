@@ -4,8 +4,8 @@
 #![tactic(auto)]
 
 ghost use Rattle.std.specs.Prelude.{◌≡◌, suc, ◌+◌, ◌<◌, ◌≤◌, length, take};
-ghost use Rattle.day.specs.Matrix.{leg};
-ghost use Rattle.labels.specs.Columns.{columns_at, Visits};
+ghost use Rattle.labels.specs.Columns.{leg_in, Visits};
+ghost use Rattle.labels.specs.Lent.{lent};
 ghost use Rattle.descent.specs.Order.{range};
 ghost use Rattle.deltas.specs.Deltas.{insertion_delta};
 ghost use Rattle.engine.specs.Engine.{passing};
@@ -16,16 +16,15 @@ ghost use Rattle.places.specs.Places.{Prepared, better, best_among, ruled_out};
 use buffers::{append_one, append_stretch};
 use day::vehicle::RouteLimits;
 use deltas_across::insertion_delta;
-use edits::wide;
 use engine::passes;
 use insertions::{Least, lesser_of};
+use labels::columns::Columns;
 use numbers::{infinite, is_finite};
 use pairs::Choice;
 
 // What is worked out once before the first move.
 #[derive(Clone, Copy)]
 pub struct Setup {
-    pub l: usize,
     pub depot: usize,
     pub limits: RouteLimits,
     // The boxes a van holds.
@@ -69,58 +68,30 @@ fn inserted_into(buffer: &mut [u16], list: &[u16], visit: u16, place: usize) -> 
 // Whether a list with a visit put in at a place passes. Where no check is needed it is not built.
 fn candidate_passes(
     setup: Setup,
-    flags: &[u8],
-    service: &[f64],
-    ready: &[f64],
-    due: &[f64],
-    penalty: &[f64],
-    distances: &[f64],
-    times: &[f64],
+    columns: &Columns,
     list: &[u16],
     buffer: &mut [u16],
     visit: u16,
     place: usize,
 ) -> bool
-    requires prepared { Prepared setup (columns_at setup.l flags service ready due penalty distances times) }
+    requires prepared { Prepared setup (lent columns.now) }
     requires in_bounds { 64 ≤ length buffer.old }
-    requires visits { Visits setup.l list.now × (length list.now < 63) × (visit < setup.l) × (place ≤ length list.now) }
-    ensures { result ≡ passing setup.needed
-        (columns_at setup.l flags.entry service.entry ready.entry due.entry penalty.entry distances.entry times.entry)
-        setup.limits setup.depot
-        (inserted list.now visit place) }
+    requires visits { Visits columns.now.locations list.now × (length list.now < 63) × (visit < columns.now.locations) × (place ≤ length list.now) }
+    ensures { result ≡ passing setup.needed (lent columns.now) setup.limits setup.depot (inserted list.now visit place) }
 {
     if !setup.needed {
         return true;
     }
     let end = inserted_into(buffer, list, visit, place);
     let limits = setup.limits;
-    passes(
-        setup.needed,
-        setup.l,
-        flags,
-        service,
-        ready,
-        due,
-        penalty,
-        distances,
-        times,
-        limits,
-        setup.depot,
-        &buffer[0..end],
-    )
+    passes(setup.needed, columns, limits, setup.depot, &buffer[0..end])
 }
 
 // The better of the best so far and an offer at a place, where it costs `insertion`. A candidate is built and walked only where its delta is below the
 // best so far.
 fn better_of(
     setup: Setup,
-    flags: &[u8],
-    service: &[f64],
-    ready: &[f64],
-    due: &[f64],
-    penalty: &[f64],
-    distances: &[f64],
-    times: &[f64],
+    columns: &Columns,
     list: &[u16],
     buffer: &mut [u16],
     offer: Offer,
@@ -128,31 +99,17 @@ fn better_of(
     place: usize,
     insertion: f64,
 ) -> Choice
-    requires prepared { Prepared setup (columns_at setup.l flags service ready due penalty distances times) }
+    requires prepared { Prepared setup (lent columns.now) }
     requires in_bounds { 64 ≤ length buffer.old }
-    requires visits { Visits setup.l list.now × (length list.now < 63) × (offer.visit < setup.l) × (place ≤ length list.now) }
-    requires insertion_value { insertion ≡ insertion_delta (leg setup.l distances.now) setup.depot setup.fixed list.now offer.visit place }
-    ensures { result ≡ better (columns_at setup.l flags.entry service.entry ready.entry due.entry penalty.entry distances.entry times.entry)
-        setup list.now offer best place }
+    requires visits { Visits columns.now.locations list.now × (length list.now < 63) × (offer.visit < columns.now.locations) × (place ≤ length list.now) }
+    requires insertion_value { insertion ≡ insertion_delta (leg_in (lent columns.now)) setup.depot setup.fixed list.now offer.visit place }
+    ensures { result ≡ better (lent columns.now) setup list.now offer best place }
 {
     let delta = offer.removal + insertion;
     if !(delta < best.delta) {
         return best;
     }
-    if !candidate_passes(
-        setup,
-        flags,
-        service,
-        ready,
-        due,
-        penalty,
-        distances,
-        times,
-        list,
-        buffer,
-        offer.visit,
-        place,
-    ) {
+    if !candidate_passes(setup, columns, list, buffer, offer.visit, place) {
         return best;
     }
     Choice {
@@ -168,29 +125,21 @@ fn better_of(
 // The best after an offer at every place of a list that has room for it, and the least of what the places cost.
 pub fn best_place(
     setup: Setup,
-    flags: &[u8],
-    service: &[f64],
-    ready: &[f64],
-    due: &[f64],
-    penalty: &[f64],
-    distances: &[f64],
-    times: &[f64],
+    columns: &Columns,
     list: &[u16],
     buffer: &mut [u16],
     offer: Offer,
     best: Choice,
 ) -> Tried
-    requires prepared { Prepared setup (columns_at setup.l flags service ready due penalty distances times) }
+    requires prepared { Prepared setup (lent columns.now) }
     requires in_bounds { 64 ≤ length buffer.old }
-    requires visits { Visits setup.l list.now × (length list.now < 63) × (offer.visit < setup.l) }
+    requires visits { Visits columns.now.locations list.now × (length list.now < 63) × (offer.visit < columns.now.locations) }
     ensures best_value { result.best
-        ≡ best_among (columns_at setup.l flags.entry service.entry ready.entry due.entry penalty.entry distances.entry times.entry)
-        setup list.now offer (range 0 (suc (length list.now))) best }
+        ≡ best_among (lent columns.now) setup list.now offer (range 0 (suc (length list.now))) best }
     ensures least_value { result.least
-        ≡ least_below (insertion_delta (leg setup.l distances.now) setup.depot setup.fixed list.now offer.visit)
-        (suc (length list.now)) }
+        ≡ least_below (insertion_delta (leg_in (lent columns.now)) setup.depot setup.fixed list.now offer.visit) (suc (length list.now)) }
 {
-    let visit = wide(offer.visit);
+    let visit = usize::from(offer.visit);
     // What an empty list costs once it is opened.
     let paid = setup.fixed;
     let mut after = best;
@@ -198,16 +147,18 @@ pub fn best_place(
         figure: infinite(),
         place: 0,
     };
-    let mut place: u16 = 0;
-    while wide(place) <= list.len() {
-        let at = wide(place);
-        let insertion = insertion_delta(setup.l, distances, setup.depot, paid, list, visit, at);
-        least = lesser_of(least, insertion, place);
-        after = better_of(
-            setup, flags, service, ready, due, penalty, distances, times, list, buffer, offer,
-            after, at, insertion,
+    for place in 0..list.len() + 1 {
+        let insertion = insertion_delta(
+            columns.locations,
+            columns.distances,
+            setup.depot,
+            paid,
+            list,
+            visit,
+            place,
         );
-        place += 1;
+        least = lesser_of(least, insertion, place as u16);
+        after = better_of(setup, columns, list, buffer, offer, after, place, insertion);
     }
     Tried { best: after, least }
 }

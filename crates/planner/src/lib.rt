@@ -4,7 +4,7 @@
 
 #![tactic(auto)]
 
-pub mod refusal; // the number of the first refusal
+pub mod refusal; // the first refusal
 pub mod list; // the list asked for, as the caller's own part
 pub mod check; // the distance, the check, the evaluation and the schedule of a list
 pub mod improve; // 2-opt, Or-opt and 3-opt of a list

@@ -2,14 +2,17 @@
 // rearrange.rt.
 ghost use Rattle.std.specs.Prelude.{◌≡◌, take};
 ghost use Rattle.day.specs.Day.{day_at};
+ghost use Rattle.day.specs.Number.{number_of};
 ghost use Rattle.edits.specs.Total.{SameVisits};
 ghost use Rattle.lists.specs.Table.{lists};
 ghost use Rattle.fleet.specs.Fleet.{fleet_at};
 ghost use Rattle.cross_moves.specs.CrossDepot.{Carried};
 ghost use Rattle.crossings.specs.CrossDepot.{cross_answer, cross_visits, cross_lengths, cross_ids};
 ghost use Rattle.rearrangements.specs.Rearrange.{remaining_in};
-ghost use Rattle.written.specs.Written.{rearrange_code, over_settled_in, over_moves_in, remaining_written};
+ghost use Rattle.written.specs.Written.{over_settled_in, over_moves_in, remaining_written};
 
+use day::day::Day;
+use fleet::Fleet;
 use written::write_rearranged;
 
 // Relocation, swap and tail exchange between lists, each under the van of its id.
@@ -55,7 +58,7 @@ pub extern "C" fn planner_cross_depot_improve(
         let lengths1 = lengths.new in
         let ids1 = ids.new in
         let a = cross_answer d fleet visits0 lengths0 ids0 prices0 limit in
-        (result ≡ rearrange_code a)
+        (result ≡ number_of a)
         × (settled.new ≡ over_settled_in a settled.old)
         × (moves.new ≡ over_moves_in a moves.old)
         × (remaining.new ≡ remaining_written a remaining.old)
@@ -65,8 +68,8 @@ pub extern "C" fn planner_cross_depot_improve(
         × SameVisits visits0 visits1
         × Carried d.demand fleet (lists visits0 lengths0) ids0 (take (remaining_in a) (lists visits1 lengths1)) (take (remaining_in a) ids1) }
 {
-    let answer = planner::depots::cross_depot_improve(
-        l,
+    let day = Day {
+        locations: l,
         flags,
         demand,
         service,
@@ -75,22 +78,22 @@ pub extern "C" fn planner_cross_depot_improve(
         penalty,
         distances,
         times,
-        van_ids,
+    };
+    let fleet = Fleet {
+        ids: van_ids,
         depots,
         capacities,
         distance_costs,
         fixed_costs,
-        van_flags,
+        flags: van_flags,
         max_distances,
         max_durations,
         earliest,
         latest,
         durations,
-        visits,
-        lengths,
-        ids,
-        prices,
-        limit,
+    };
+    let answer = planner::depots::cross_depot_improve(
+        &day, &fleet, visits, lengths, ids, prices, limit,
     );
     write_rearranged(answer, settled, moves, remaining)
 }

@@ -1,14 +1,16 @@
 // The entries that change one list in place. `settled` is written 1 where no permitted move gains any more, and 0 where the limit was used up.
 ghost use Rattle.std.specs.Prelude.{◌≡◌};
 ghost use Rattle.day.specs.Day.{day_at};
+ghost use Rattle.day.specs.Number.{number_of};
 ghost use Rattle.edits.specs.Total.{SameVisits};
 ghost use Rattle.lists.specs.Table.{list_of};
 ghost use Rattle.descent.specs.Permitted.{two_opt, or_opt, three_opt, n_minus_length};
 ghost use Rattle.neighbours.specs.declared.Neighbourhood.TheVariants.{Reverse, Relocate, Reconnect};
 ghost use Rattle.improvements.specs.Improve.{improve_answer, improve_visits, reported};
 ghost use Rattle.claims.specs.Demand3.{Claimed};
-ghost use Rattle.written.specs.Written.{improve_code, settled_in, moves_in, end_distance_in};
+ghost use Rattle.written.specs.Written.{settled_in, moves_in, end_distance_in};
 
+use day::day::Day;
 use day::vehicle::Van;
 use written::write_improved;
 
@@ -38,7 +40,7 @@ pub extern "C" fn planner_two_opt_improve(
         let after = visits.new in
         let kept = lengths.now in
         let a = improve_answer Reverse d van before kept list limit in
-        (result ≡ improve_code a)
+        (result ≡ number_of a)
         × (settled.new ≡ settled_in a settled.old)
         × (moves.new ≡ moves_in a moves.old)
         × (distance.new ≡ end_distance_in a distance.old)
@@ -46,10 +48,18 @@ pub extern "C" fn planner_two_opt_improve(
         × SameVisits before after
         × Claimed two_opt d van limit (list_of before kept list) (list_of after kept list) (reported a) }
 {
-    let answer = planner::improve::two_opt_improve(
-        l, flags, demand, service, ready, due, penalty, distances, times, van, visits, lengths,
-        list, limit,
-    );
+    let day = Day {
+        locations: l,
+        flags,
+        demand,
+        service,
+        ready,
+        due,
+        penalty,
+        distances,
+        times,
+    };
+    let answer = planner::improve::two_opt_improve(&day, van, visits, lengths, list, limit);
     write_improved(answer, settled, moves, distance)
 }
 
@@ -79,7 +89,7 @@ pub extern "C" fn planner_or_opt_improve(
         let after = visits.new in
         let kept = lengths.now in
         let a = improve_answer Relocate d van before kept list limit in
-        (result ≡ improve_code a)
+        (result ≡ number_of a)
         × (settled.new ≡ settled_in a settled.old)
         × (moves.new ≡ moves_in a moves.old)
         × (distance.new ≡ end_distance_in a distance.old)
@@ -87,10 +97,18 @@ pub extern "C" fn planner_or_opt_improve(
         × SameVisits before after
         × Claimed (or_opt n_minus_length) d van limit (list_of before kept list) (list_of after kept list) (reported a) }
 {
-    let answer = planner::improve::or_opt_improve(
-        l, flags, demand, service, ready, due, penalty, distances, times, van, visits, lengths,
-        list, limit,
-    );
+    let day = Day {
+        locations: l,
+        flags,
+        demand,
+        service,
+        ready,
+        due,
+        penalty,
+        distances,
+        times,
+    };
+    let answer = planner::improve::or_opt_improve(&day, van, visits, lengths, list, limit);
     write_improved(answer, settled, moves, distance)
 }
 
@@ -120,7 +138,7 @@ pub extern "C" fn planner_three_opt_improve(
         let after = visits.new in
         let kept = lengths.now in
         let a = improve_answer Reconnect d van before kept list limit in
-        (result ≡ improve_code a)
+        (result ≡ number_of a)
         × (settled.new ≡ settled_in a settled.old)
         × (moves.new ≡ moves_in a moves.old)
         × (distance.new ≡ end_distance_in a distance.old)
@@ -128,9 +146,17 @@ pub extern "C" fn planner_three_opt_improve(
         × SameVisits before after
         × Claimed three_opt d van limit (list_of before kept list) (list_of after kept list) (reported a) }
 {
-    let answer = planner::improve::three_opt_improve(
-        l, flags, demand, service, ready, due, penalty, distances, times, van, visits, lengths,
-        list, limit,
-    );
+    let day = Day {
+        locations: l,
+        flags,
+        demand,
+        service,
+        ready,
+        due,
+        penalty,
+        distances,
+        times,
+    };
+    let answer = planner::improve::three_opt_improve(&day, van, visits, lengths, list, limit);
     write_improved(answer, settled, moves, distance)
 }

@@ -1,5 +1,6 @@
 // The planner's entries for C and Rust, as a static library (`rt lib` in this folder; include/planner.h declares them). Each is thin: it calls the
 // entry of crate `planner`, answers the refusal's number or 0, and writes the values of the answer's case. Where it refuses, it writes nothing.
+// C passes table after table: each export takes the columns of the day and of the fleet one by one, and makes a `Day` and a `Fleet` of them.
 
 #![tactic(auto)]
 
@@ -9,17 +10,20 @@ pub mod depots; // the engine over all lists and a fleet
 
 ghost use Rattle.std.specs.Prelude.{◌≡◌};
 ghost use Rattle.day.specs.Day.{day_at};
+ghost use Rattle.day.specs.Number.{number_of};
 ghost use Rattle.fleet.specs.Fleet.{fleet_at};
 ghost use Rattle.refusals.specs.Refusal.{refusal, refusal_of_lists, refusal_of_fleet};
 ghost use Rattle.checks.specs.Answer.{table_answer, distance_answer, feasible_answer, eval_answer, schedule_answer};
-ghost use Rattle.written.specs.Written.{distance_code, distance_in, feasible_code, passes_in, eval_code, eval_passes, eval_in};
-ghost use Rattle.written.specs.Written.{schedule_code, found_in, schedule_in, taken_in, position_in, start_in};
-ghost use Rattle.written.specs.Written.{distance_of, duration_of, lateness_of, lateness_cost_of};
-ghost use Rattle.written.specs.Written.{table_code, scale_in, floor_in, symmetric_in, fixed_in, depots_in};
+ghost use Rattle.written.specs.Written.{distance_in, passes_in, eval_passes, eval_in};
+ghost use Rattle.written.specs.Written.{found_in, schedule_in, taken_in, position_in, start_in};
+ghost use Rattle.written.specs.Written.{scale_in, floor_in, symmetric_in, fixed_in, depots_in};
 
+use day::day::Day;
 use day::vehicle::Van;
-use planner::check::{Distance, Feasibility};
-use written::{write_evaluated, write_scheduled, write_table};
+use fleet::Fleet;
+use written::{
+    code_of, write_distance, write_evaluated, write_feasible, write_scheduled, write_table,
+};
 
 // The number of the first refusal of a call that asks for a list, 0 where there is none.
 #[unsafe(no_mangle)]
@@ -42,10 +46,19 @@ pub extern "C" fn planner_refusal(
         (day_at l flags.entry demand.entry service.entry ready.entry due.entry penalty.entry distances.entry times.entry) van
         visits.now lengths.now list }
 {
-    planner::refusal::refusal_of(
-        l, flags, demand, service, ready, due, penalty, distances, times, van, visits, lengths,
-        list,
-    )
+    let day = Day {
+        locations: l,
+        flags,
+        demand,
+        service,
+        ready,
+        due,
+        penalty,
+        distances,
+        times,
+    };
+    let refused = planner::refusal::refusal_of(&day, van, visits, lengths, list);
+    code_of(refused)
 }
 
 // The same of a call that takes all lists and asks for none.
@@ -68,9 +81,19 @@ pub extern "C" fn planner_refusal_of_lists(
         (day_at l flags.entry demand.entry service.entry ready.entry due.entry penalty.entry distances.entry times.entry) van
         visits.now lengths.now }
 {
-    planner::refusal::refusal_of_lists(
-        l, flags, demand, service, ready, due, penalty, distances, times, van, visits, lengths,
-    )
+    let day = Day {
+        locations: l,
+        flags,
+        demand,
+        service,
+        ready,
+        due,
+        penalty,
+        distances,
+        times,
+    };
+    let refused = planner::refusal::refusal_of_lists(&day, van, visits, lengths);
+    code_of(refused)
 }
 
 // The same of a call that takes all lists and a fleet.
@@ -107,8 +130,8 @@ pub extern "C" fn planner_refusal_of_fleet(
         max_distances.entry max_durations.entry earliest.entry latest.entry durations.entry) visits.now
         lengths.now ids.now prices.now }
 {
-    planner::refusal::refusal_of_fleet(
-        l,
+    let day = Day {
+        locations: l,
         flags,
         demand,
         service,
@@ -117,22 +140,22 @@ pub extern "C" fn planner_refusal_of_fleet(
         penalty,
         distances,
         times,
-        van_ids,
+    };
+    let fleet = Fleet {
+        ids: van_ids,
         depots,
         capacities,
         distance_costs,
         fixed_costs,
-        van_flags,
+        flags: van_flags,
         max_distances,
         max_durations,
         earliest,
         latest,
         durations,
-        visits,
-        lengths,
-        ids,
-        prices,
-    )
+    };
+    let refused = planner::refusal::refusal_of_fleet(&day, &fleet, visits, lengths, ids, prices);
+    code_of(refused)
 }
 
 // The distance of the list asked for.
@@ -156,20 +179,22 @@ pub extern "C" fn planner_route_distance(
     ensures { let a = distance_answer
         (day_at l flags.entry demand.entry service.entry ready.entry due.entry penalty.entry distances.entry times.entry) van
         visits.now lengths.now list in
-        (result ≡ distance_code a) ×
+        (result ≡ number_of a) ×
         (distance.new ≡ distance_in a distance.old) }
 {
-    let answer = planner::check::route_distance(
-        l, flags, demand, service, ready, due, penalty, distances, times, van, visits, lengths,
-        list,
-    );
-    match answer {
-        Distance::Refused(n) => n,
-        Distance::Known(x) => {
-            *distance = x;
-            0
-        }
-    }
+    let day = Day {
+        locations: l,
+        flags,
+        demand,
+        service,
+        ready,
+        due,
+        penalty,
+        distances,
+        times,
+    };
+    let answer = planner::check::route_distance(&day, van, visits, lengths, list);
+    write_distance(answer, distance)
 }
 
 // Whether the list asked for passes: 1 or 0.
@@ -193,24 +218,22 @@ pub extern "C" fn planner_route_feasible(
     ensures { let a = feasible_answer
         (day_at l flags.entry demand.entry service.entry ready.entry due.entry penalty.entry distances.entry times.entry) van
         visits.now lengths.now list in
-        (result ≡ feasible_code a) ×
+        (result ≡ number_of a) ×
         (passes.new ≡ passes_in a passes.old) }
 {
-    let answer = planner::check::route_feasible(
-        l, flags, demand, service, ready, due, penalty, distances, times, van, visits, lengths,
-        list,
-    );
-    match answer {
-        Feasibility::Refused(n) => n,
-        Feasibility::Fails => {
-            *passes = 0;
-            0
-        }
-        Feasibility::Passes => {
-            *passes = 1;
-            0
-        }
-    }
+    let day = Day {
+        locations: l,
+        flags,
+        demand,
+        service,
+        ready,
+        due,
+        penalty,
+        distances,
+        times,
+    };
+    let answer = planner::check::route_feasible(&day, van, visits, lengths, list);
+    write_feasible(answer, passes)
 }
 
 // What the list asked for comes to, where it passes.
@@ -238,17 +261,25 @@ pub extern "C" fn planner_route_eval(
     ensures { let a = eval_answer
         (day_at l flags.entry demand.entry service.entry ready.entry due.entry penalty.entry distances.entry times.entry) van
         visits.now lengths.now list in
-        (result ≡ eval_code a) ×
+        (result ≡ number_of a) ×
         (passes.new ≡ eval_passes a passes.old) ×
-        (distance.new ≡ eval_in distance_of a distance.old) ×
-        (duration.new ≡ eval_in duration_of a duration.old) ×
-        (lateness.new ≡ eval_in lateness_of a lateness.old) ×
-        (lateness_cost.new ≡ eval_in lateness_cost_of a lateness_cost.old) }
+        (distance.new ≡ eval_in (λ e. e.distance) a distance.old) ×
+        (duration.new ≡ eval_in (λ e. e.duration) a duration.old) ×
+        (lateness.new ≡ eval_in (λ e. e.lateness) a lateness.old) ×
+        (lateness_cost.new ≡ eval_in (λ e. e.lateness_cost) a lateness_cost.old) }
 {
-    let answer = planner::check::route_eval(
-        l, flags, demand, service, ready, due, penalty, distances, times, van, visits, lengths,
-        list,
-    );
+    let day = Day {
+        locations: l,
+        flags,
+        demand,
+        service,
+        ready,
+        due,
+        penalty,
+        distances,
+        times,
+    };
+    let answer = planner::check::route_eval(&day, van, visits, lengths, list);
     write_evaluated(answer, passes, distance, duration, lateness, lateness_cost)
 }
 
@@ -280,20 +311,28 @@ pub extern "C" fn planner_schedule(
     ensures { let a = schedule_answer
         (day_at l flags.entry demand.entry service.entry ready.entry due.entry penalty.entry distances.entry times.entry) van
         visits.now lengths.now list in
-        (result ≡ schedule_code a) ×
+        (result ≡ number_of a) ×
         (found.new ≡ found_in a found.old) ×
-        (distance.new ≡ schedule_in distance_of a distance.old) ×
-        (duration.new ≡ schedule_in duration_of a duration.old) ×
-        (lateness.new ≡ schedule_in lateness_of a lateness.old) ×
-        (lateness_cost.new ≡ schedule_in lateness_cost_of a lateness_cost.old) ×
+        (distance.new ≡ schedule_in (λ s. s.distance) a distance.old) ×
+        (duration.new ≡ schedule_in (λ s. s.duration) a duration.old) ×
+        (lateness.new ≡ schedule_in (λ s. s.lateness) a lateness.old) ×
+        (lateness_cost.new ≡ schedule_in (λ s. s.lateness_cost) a lateness_cost.old) ×
         (taken.new ≡ taken_in a taken.old) ×
         (position.new ≡ position_in a position.old) ×
         (start.new ≡ start_in a start.old) }
 {
-    let answer = planner::check::schedule(
-        l, flags, demand, service, ready, due, penalty, distances, times, van, visits, lengths,
-        list,
-    );
+    let day = Day {
+        locations: l,
+        flags,
+        demand,
+        service,
+        ready,
+        due,
+        penalty,
+        distances,
+        times,
+    };
+    let answer = planner::check::schedule(&day, van, visits, lengths, list);
     write_scheduled(
         answer,
         found,
@@ -328,15 +367,24 @@ pub extern "C" fn planner_table(
 ) -> u8
     ensures { let a = table_answer
         (day_at l flags.entry demand.entry service.entry ready.entry due.entry penalty.entry distances.entry times.entry) van in
-        (result ≡ table_code a) ×
+        (result ≡ number_of a) ×
         (scale.new ≡ scale_in a scale.old) ×
         (floor.new ≡ floor_in a floor.old) ×
         (symmetric.new ≡ symmetric_in a symmetric.old) ×
         (fixed.new ≡ fixed_in a fixed.old) ×
         (depots.new ≡ depots_in a depots.old) }
 {
-    let answer = planner::table::table_of(
-        l, flags, demand, service, ready, due, penalty, distances, times, van,
-    );
+    let day = Day {
+        locations: l,
+        flags,
+        demand,
+        service,
+        ready,
+        due,
+        penalty,
+        distances,
+        times,
+    };
+    let answer = planner::table::table_of(&day, van);
     write_table(answer, scale, floor, symmetric, fixed, depots)
 }

@@ -2,14 +2,16 @@
 // used up; `remaining` is the number of lists handed back.
 ghost use Rattle.std.specs.Prelude.{◌≡◌, false, take};
 ghost use Rattle.day.specs.Day.{day_at};
+ghost use Rattle.day.specs.Number.{number_of};
 ghost use Rattle.edits.specs.Total.{SameVisits};
 ghost use Rattle.lists.specs.Table.{lists};
 ghost use Rattle.descent.specs.Permitted.{relocate, tail_exchange};
 ghost use Rattle.across.specs.Across.{relocate_ran, exchange_ran};
 ghost use Rattle.rearrangements.specs.Rearrange.{rearrange_answer, rearrange_visits, rearrange_lengths, reported_over, remaining_in};
 ghost use Rattle.claims.specs.Demand3.{Claimed};
-ghost use Rattle.written.specs.Written.{rearrange_code, over_settled_in, over_moves_in, remaining_written};
+ghost use Rattle.written.specs.Written.{over_settled_in, over_moves_in, remaining_written};
 
+use day::day::Day;
 use day::vehicle::Van;
 use written::write_rearranged;
 
@@ -40,7 +42,7 @@ pub extern "C" fn planner_relocate_improve(
         let visits1 = visits.new in
         let lengths1 = lengths.new in
         let a = rearrange_answer relocate_ran d van visits0 lengths0 limit in
-        (result ≡ rearrange_code a)
+        (result ≡ number_of a)
         × (settled.new ≡ over_settled_in a settled.old)
         × (moves.new ≡ over_moves_in a moves.old)
         × (remaining.new ≡ remaining_written a remaining.old)
@@ -49,8 +51,8 @@ pub extern "C" fn planner_relocate_improve(
         × SameVisits visits0 visits1
         × Claimed (relocate false) d van limit (lists visits0 lengths0) (take (remaining_in a) (lists visits1 lengths1)) (reported_over a) }
 {
-    let answer = planner::rearrange::relocate_improve(
-        l,
+    let day = Day {
+        locations: l,
         flags,
         demand,
         service,
@@ -59,12 +61,9 @@ pub extern "C" fn planner_relocate_improve(
         penalty,
         distances,
         times,
-        van,
-        visits,
-        lengths,
-        limit,
-        pruning != 0,
-    );
+    };
+    let prunes = pruning != 0;
+    let answer = planner::rearrange::relocate_improve(&day, van, visits, lengths, limit, prunes);
     write_rearranged(answer, settled, moves, remaining)
 }
 
@@ -94,7 +93,7 @@ pub extern "C" fn planner_exchange_improve(
         let visits1 = visits.new in
         let lengths1 = lengths.new in
         let a = rearrange_answer exchange_ran d van visits0 lengths0 limit in
-        (result ≡ rearrange_code a)
+        (result ≡ number_of a)
         × (settled.new ≡ over_settled_in a settled.old)
         × (moves.new ≡ over_moves_in a moves.old)
         × (remaining.new ≡ remaining_written a remaining.old)
@@ -103,9 +102,17 @@ pub extern "C" fn planner_exchange_improve(
         × SameVisits visits0 visits1
         × Claimed tail_exchange d van limit (lists visits0 lengths0) (take (remaining_in a) (lists visits1 lengths1)) (reported_over a) }
 {
-    let answer = planner::rearrange::exchange_improve(
-        l, flags, demand, service, ready, due, penalty, distances, times, van, visits, lengths,
-        limit,
-    );
+    let day = Day {
+        locations: l,
+        flags,
+        demand,
+        service,
+        ready,
+        due,
+        penalty,
+        distances,
+        times,
+    };
+    let answer = planner::rearrange::exchange_improve(&day, van, visits, lengths, limit);
     write_rearranged(answer, settled, moves, remaining)
 }

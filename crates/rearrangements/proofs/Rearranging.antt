@@ -1,25 +1,28 @@
 -- An entry across lists: a refused call changes nothing; otherwise the tables hold the lists that the run left, and the dropping packs the lengths, which
 -- leaves the visits where they are, since an empty list has none. Assumes nothing.
-use Prim.Native.Nat.{ℕ, zero, suc, ◌+◌, ◌-◌, ◌≤◌, ◌<◌}
+use Prim.Native.Nat.{ℕ, suc, ◌-◌}
 use mathlib.Core.Path.{◌≡◌, refl, sym, ap, subst, ◌∙◌}
 use mathlib.Core.Bool.{true, false}
-use mathlib.Core.Option.{Option, some}
+use mathlib.Core.Option.{Option, none, some}
+use Rattle.std.specs.Prelude.{Result, Ok, Err}
+use Rattle.std.specs.Result.{IsErrAnd}
 use mathlib.Core.List.{List, [], ◌∷◌, ◌++◌}
 use native.Mathlib.Omega.{arith}
 use borrow.Author.Tests.{le-ltb}
-use lib.IntN.{ℤ, pos}
+use lib.IntN.{pos}
 use lib.Signed.{le_z}
 use lib.ListN.{length, take, drop, replicate}
 use lib.Seq.{take-append_seam}
 use Rattle.tests.specs.All.{and_first}
 use Rattle.day.specs.Day.{Day}
+use Rattle.day.specs.Number.{number, number_some}
 use Rattle.day.specs.Refusal.{capacity_ok, van_ok}
+use Rattle.day.specs.declared.refusal.Refusal.{Refusal}
 use Rattle.day.specs.declared.vehicle.Van.{Van}
 use Rattle.lists.specs.Table.{sum, lists, flat, lengths_of}
 use Rattle.list_changes.specs.Edits.{Edited, nonzero, packed}
 use Rattle.lists.proofs.Tables.{flat-lists, lengths_lists, lists-flat, length_lengths}
 use Rattle.list_changes.proofs.Packing.{lists_append}
-use Rattle.labels.specs.Columns.{Formed, columns_of, formed}
 use Rattle.descent.specs.Permitted.{Engine, State, tail_exchange, relocate}
 use Rattle.descent.specs.Search.{Word, settled, stopped}
 use Rattle.descent.specs.Claim.{Claim, filled, dropped}
@@ -34,13 +37,12 @@ use Rattle.exchange_sweeps.proofs.Tables.{lent_of}
 use Rattle.across.specs.Across.{Ran, hard_exchange, exchange_ran, hard_relocate, relocate_ran}
 use Rattle.across.proofs.Hard.{exchange_hard, relocate_hard}
 use Rattle.refusals.specs.Refusal.{refusal_of_lists, FineLists, fine_lists}
-use Rattle.refusals.specs.Answered.{refused_by, answered}
+use Rattle.refusals.specs.Answered.{refused_as, refused_by, handed_on, answered}
 use Rattle.rearrangements.specs.Rearrange.{Over, setting_of, run_over, rearranged_as, rearranged_of, over_answer, padded}
 use Rattle.rearrangements.specs.Rearrange.{rearrange_answer, rearrange_visits, rearrange_lengths, lengths_left, number_left, reported_over, remaining_in}
 use Rattle.claims.specs.Demand3.{WholeDay, map_for, checks_for, Report, Claimed}
 use Rattle.claims.proofs.Whole.{whole_map}
 use Rattle.rearrangements.specs.declared.Rearranged.{Rearranged}
-use Rattle.rearrangements.specs.declared.Rearranged.TheVariants as rearranged
 
 -- ---- the dropping
 
@@ -101,36 +103,44 @@ edited_tables visits lengths visits' lengths' ls e =
 
 module _ (engine : Over) (d : Day) (van : Van) (visits lengths : List ℕ) (limit : ℕ) where
   -- what a refused call answers and leaves
-  pub refused_over : (n : ℕ) → (n ≡ 0 → ⊥) → n ≡ refusal_of_lists d van visits lengths
-      → (rearranged.Refused n ≡ rearrange_answer engine d van visits lengths limit) × (visits ≡ rearrange_visits engine d van visits lengths limit)
+  pub refused_over : (x : Result Rearranged Refusal) (r : Refusal) → IsErrAnd x (λ y. y ≡ r) → number r ≡ refusal_of_lists d van visits lengths
+      → (x ≡ rearrange_answer engine d van visits lengths limit) × (visits ≡ rearrange_visits engine d van visits lengths limit)
       × (lengths ≡ rearrange_lengths engine d van visits lengths limit)
   unfolding rearrange_answer rearrange_visits rearrange_lengths
-  refused_over n found e =
-      (refused_by rearranged.Refused _ n _ found e, refused_by (λ m. visits) _ n _ found e, refused_by (λ m. lengths) _ n _ found e)
+  refused_over x r handed e = (
+    handed_on _ x r _ handed e,
+    refused_by (λ m. visits) _ (number r) _ (number_some r) e,
+    refused_by (λ m. lengths) _ (number r) _ (number_some r) e,
+  )
 
   -- what a call that isn't refused answers and leaves
-  pub rearranged_over : (n : ℕ) → n ≡ 0 → n ≡ refusal_of_lists d van visits lengths → (visits' lengths' last : List ℕ) (end : Ended)
-      (remaining : ℕ) (r : Rearranged)
+  pub rearranged_over : 0 ≡ refusal_of_lists d van visits lengths → (visits' lengths' last : List ℕ) (end : Ended) (remaining : ℕ) (r : Rearranged)
       → (let ran = run_over engine d van visits lengths limit in
       Edited visits lengths visits' lengths' ran.lists → end ≡ ended_as ran.word ran.moves → remaining ≡ number_left lengths'
       → last ≡ lengths_left lengths' → r ≡ rearranged_of end remaining
-      → (r ≡ rearrange_answer engine d van visits lengths limit) × (visits' ≡ rearrange_visits engine d van visits lengths limit)
+      → (Ok r ≡ rearrange_answer engine d van visits lengths limit) × (visits' ≡ rearrange_visits engine d van visits lengths limit)
       × (last ≡ rearrange_lengths engine d van visits lengths limit))
   unfolding rearrange_answer rearrange_visits rearrange_lengths over_answer
-  rearranged_over n none e visits' lengths' last end remaining r edited ends number left answer =
+  rearranged_over e visits' lengths' last end remaining r edited ends number left answer =
       let ran = run_over engine d van visits lengths limit in
       let is = edited_tables visits lengths visits' lengths' ran.lists edited in
       let left_over : remaining ≡ length (dropped ran.lists) = number ∙ ap number_left is.1 ∙ number_left_lem ran.lists in (
-        answered rearranged.Refused _ n _ _ none e (answer ∙ ap (λ x. rearranged_of x remaining) ends
-            ∙ rearranged_as_lem ran.word ran.moves remaining ∙ ap (rearranged_as ran.word ran.moves) left_over),
-        answered (λ m. visits) _ n _ _ none e (is.0 ∙ sym (flat-dropped ran.lists)),
-        answered (λ m. lengths) _ n _ _ none e (left ∙ ap lengths_left is.1 ∙ lengths_left_lem ran.lists
+        answered refused_as _ 0 _ _ refl e (ap Ok (answer ∙ ap (λ x. rearranged_of x remaining) ends
+            ∙ rearranged_as_lem ran.word ran.moves remaining ∙ ap (rearranged_as ran.word ran.moves) left_over)),
+        answered (λ m. visits) _ 0 _ _ refl e (is.0 ∙ sym (flat-dropped ran.lists)),
+        answered (λ m. lengths) _ 0 _ _ refl e (left ∙ ap lengths_left is.1 ∙ lengths_left_lem ran.lists
             ∙ ap (λ count. padded count (dropped ran.lists)) is.2),
       )
 
+-- a refused call reports nothing
+pub no_report : (x : Result Rearranged Refusal) (r : Refusal) → IsErrAnd x (λ y. y ≡ r) → (remaining_in x ≡ 0) × (reported_over x ≡ none)
+no_report (Ok y) r handed = absurd handed
+no_report (Err y) r handed = (refl, refl)
+
 -- what an answer reports, and the lists that it hands back
 pub reports_over : (w : Word) (moves remaining : ℕ)
-    → (reported_over (rearranged_as w moves remaining) ≡ some (record { word = w; moves = moves })) × (remaining_in (rearranged_as w moves remaining) ≡ remaining)
+    → (reported_over (Ok (rearranged_as w moves remaining)) ≡ some (record { word = w; moves = moves }))
+    × (remaining_in (Ok (rearranged_as w moves remaining)) ≡ remaining)
 unfolding rearranged_as
 reports_over settled moves remaining = (refl, refl)
 reports_over stopped moves remaining = (refl, refl)
@@ -187,23 +197,23 @@ module _ (d : Day) (van : Van) (visits lengths : List ℕ) (limit : ℕ) (f : Fi
       (float_demand_3 (map_for d van) (whole_map d van f.day.shaped.tables.of_distances f.depot whole) (relocate false) (checks_for d van) limit
       (lists visits lengths) tt there)
 
-module _ (engine : Over) (d : Day) (van : Van) (visits lengths : List ℕ) (limit : ℕ) (none : refusal_of_lists d van visits lengths ≡ 0) where
+module _ (engine : Over) (d : Day) (van : Van) (visits lengths : List ℕ) (limit : ℕ) (none : 0 ≡ refusal_of_lists d van visits lengths) where
   -- where nothing is refused, the definitions are the run's
   is_answered : let ran = run_over engine d van visits lengths limit in
-      (rearrange_answer engine d van visits lengths limit ≡ over_answer ran)
+      (rearrange_answer engine d van visits lengths limit ≡ Ok (over_answer ran))
       × (rearrange_visits engine d van visits lengths limit ≡ flat (dropped ran.lists))
       × (rearrange_lengths engine d van visits lengths limit ≡ padded (length lengths) (dropped ran.lists))
   unfolding rearrange_answer rearrange_visits rearrange_lengths
   is_answered = (
-    sym (answered rearranged.Refused _ 0 _ _ refl (sym none) refl),
-    sym (answered (λ m. visits) _ 0 _ _ refl (sym none) refl),
-    sym (answered (λ m. lengths) _ 0 _ _ refl (sym none) refl),
+    sym (answered refused_as _ 0 _ _ refl none refl),
+    sym (answered (λ m. visits) _ 0 _ _ refl none refl),
+    sym (answered (λ m. lengths) _ 0 _ _ refl none refl),
   )
 
   -- whatever holds of the lists that the run handed back and its report holds of those read off the tables and the answer
   read_off : (C : List (List ℕ) → Option Report → Type 0)
       → (let ran = run_over engine d van visits lengths limit in C (dropped ran.lists) (some (record { word = ran.word; moves = ran.moves })))
-      → (visits' lengths' : List ℕ) (r : Rearranged) → r ≡ rearrange_answer engine d van visits lengths limit
+      → (visits' lengths' : List ℕ) (r : Result Rearranged Refusal) → r ≡ rearrange_answer engine d van visits lengths limit
       → visits' ≡ rearrange_visits engine d van visits lengths limit → lengths' ≡ rearrange_lengths engine d van visits lengths limit
       → C (take (remaining_in r) (lists visits' lengths')) (reported_over r)
   unfolding over_answer
@@ -213,12 +223,12 @@ module _ (engine : Over) (d : Day) (van : Van) (visits lengths : List ℕ) (limi
       let told = reports_over ran.word ran.moves (length (dropped ran.lists)) in
       rw (answer ∙ is.0, table ∙ is.1, sizes ∙ is.2, told.0, told.1, lists_back (length lengths) (dropped ran.lists)) holds
 
-module _ (d : Day) (van : Van) (visits lengths : List ℕ) (limit : ℕ) (none : refusal_of_lists d van visits lengths ≡ 0) where
+module _ (d : Day) (van : Van) (visits lengths : List ℕ) (limit : ℕ) (none : 0 ≡ refusal_of_lists d van visits lengths) where
   f : FineLists d van visits lengths
-  f = fine_lists d van visits lengths none
+  f = fine_lists d van visits lengths (sym none)
 
   -- DEMAND 3 of `exchange_improve`
-  pub exchange_claimed : (visits' lengths' : List ℕ) (r : Rearranged) → r ≡ rearrange_answer exchange_ran d van visits lengths limit
+  pub exchange_claimed : (visits' lengths' : List ℕ) (r : Result Rearranged Refusal) → r ≡ rearrange_answer exchange_ran d van visits lengths limit
       → visits' ≡ rearrange_visits exchange_ran d van visits lengths limit → lengths' ≡ rearrange_lengths exchange_ran d van visits lengths limit
       → Claimed tail_exchange d van limit (lists visits lengths) (take (remaining_in r) (lists visits' lengths')) (reported_over r)
   exchange_claimed =
@@ -226,7 +236,7 @@ module _ (d : Day) (van : Van) (visits lengths : List ℕ) (limit : ℕ) (none :
       (λ whole. ((run_over exchange_ran d van visits lengths limit).lists, exchange_claim d van visits lengths limit f whole))
 
   -- DEMAND 3 of `relocate_improve`
-  pub relocate_claimed : (visits' lengths' : List ℕ) (r : Rearranged) → r ≡ rearrange_answer relocate_ran d van visits lengths limit
+  pub relocate_claimed : (visits' lengths' : List ℕ) (r : Result Rearranged Refusal) → r ≡ rearrange_answer relocate_ran d van visits lengths limit
       → visits' ≡ rearrange_visits relocate_ran d van visits lengths limit → lengths' ≡ rearrange_lengths relocate_ran d van visits lengths limit
       → Claimed (relocate false) d van limit (lists visits lengths) (take (remaining_in r) (lists visits' lengths')) (reported_over r)
   relocate_claimed =

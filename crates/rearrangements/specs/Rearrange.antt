@@ -1,8 +1,9 @@
 -- What the entries across lists answer and leave: `relocate_improve`, `exchange_improve`. Assumes nothing.
-use Rattle.std.specs.Prelude.{ℕ, ◌-◌, cond, List, ◌++◌, ltb, length, replicate}
+use Rattle.std.specs.Prelude.{ℕ, ◌-◌, cond, List, ◌++◌, ltb, length, replicate, Result, Ok, Err}
 use Rattle.std.proofs.Math.Option.{Option, none, some}
 use Rattle.day.specs.Day.{Day}
 use Rattle.day.specs.Vehicle.{limits_of, fixed_cost_in_distance}
+use Rattle.day.specs.declared.refusal.Refusal.{Refusal}
 use Rattle.day.specs.declared.vehicle.Van.{Van}
 use Rattle.lists.specs.Table.{lists, flat, lengths_of}
 use Rattle.list_changes.specs.Edits.{nonzero, packed}
@@ -14,7 +15,7 @@ use Rattle.engine.specs.declared.Ended.TheVariants as ended
 use Rattle.across.specs.Across.{Ran, Setting, setting_at}
 use Rattle.claims.specs.Demand3.{Report}
 use Rattle.refusals.specs.Refusal.{refusal_of_lists}
-use Rattle.refusals.specs.Answered.{unless_refused}
+use Rattle.refusals.specs.Answered.{unless_refused, refused_as}
 use Rattle.rearrangements.specs.declared.Rearranged.{Rearranged}
 use Rattle.rearrangements.specs.declared.Rearranged.TheVariants as rearranged
 
@@ -49,9 +50,9 @@ unfoldable pub padded : ℕ → List (List ℕ) → List ℕ
 padded n ls = lengths_of ls ++ replicate (n - length ls) 0
 
 -- what an entry answers
-unfoldable pub rearrange_answer : Over → Day → Van → List ℕ → List ℕ → ℕ → Rearranged
+unfoldable pub rearrange_answer : Over → Day → Van → List ℕ → List ℕ → ℕ → Result Rearranged Refusal
 rearrange_answer engine d van visits lengths limit =
-    unless_refused (refusal_of_lists d van visits lengths) rearranged.Refused (over_answer (run_over engine d van visits lengths limit))
+    unless_refused (refusal_of_lists d van visits lengths) refused_as (Ok (over_answer (run_over engine d van visits lengths limit)))
 
 -- and what the tables hold then: the lists handed back, one after another; a refused call changes nothing
 unfoldable pub rearrange_visits : Over → Day → Van → List ℕ → List ℕ → ℕ → List ℕ
@@ -77,13 +78,13 @@ number_left lengths = cond (ltb (length lengths) 2) (length lengths) (length (no
 -- ---- what an answer tells
 
 -- the report in an answer, for demand 3's claim
-abbrev pub reported_over : Rearranged → Option Report
-reported_over (rearranged.Refused n) = none
-reported_over (rearranged.Settled moves remaining) = some (record { word = settled; moves = moves })
-reported_over (rearranged.Stopped moves remaining) = some (record { word = stopped; moves = moves })
+abbrev pub reported_over : Result Rearranged Refusal → Option Report
+reported_over (Err r) = none
+reported_over (Ok (rearranged.Settled moves remaining)) = some (record { word = settled; moves = moves })
+reported_over (Ok (rearranged.Stopped moves remaining)) = some (record { word = stopped; moves = moves })
 
 -- how many lists it says remain
-abbrev pub remaining_in : Rearranged → ℕ
-remaining_in (rearranged.Refused n) = 0
-remaining_in (rearranged.Settled moves remaining) = remaining
-remaining_in (rearranged.Stopped moves remaining) = remaining
+abbrev pub remaining_in : Result Rearranged Refusal → ℕ
+remaining_in (Err r) = 0
+remaining_in (Ok (rearranged.Settled moves remaining)) = remaining
+remaining_in (Ok (rearranged.Stopped moves remaining)) = remaining

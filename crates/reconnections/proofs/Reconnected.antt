@@ -1,22 +1,22 @@
 -- A reconnected list has the visits of the list, each as often: the pieces are arranged anew. So its length and its locations are kept.
 -- Assumes nothing.
-use mathlib.Core.Path.{◌≡◌, ap}
-use mathlib.Core.List.{List, ◌++◌}
-use Prim.Native.Nat.{ℕ, suc, ◌+◌}
+use mathlib.Core.Path.{◌≡◌, sym, ap, ◌∙◌}
+use mathlib.Core.List.{List}
+use Prim.Native.Nat.{ℕ, suc, ◌+◌, ◌-◌}
+use native.Mathlib.Nat.{sub-zero}
 use native.Mathlib.Omega.{arith}
-use native.Mathlib.Numerals.{add-one}
 use borrow.Author.Tests.{lt-ltb, ltb-true}
 use lib.Dec.{ltb}
-use lib.ListN.{length, get_or}
-use lib.Seq.{slice}
+use lib.ListN.{length, get_or, take, drop}
 use Rattle.edits.specs.Total.{total, sums, SameVisits}
-use Rattle.edits.proofs.Cuts.{cut4, to_end}
+use Rattle.edits.proofs.Cuts.{cut4}
 use Rattle.edits.proofs.Kept.{same_each, same_length}
 use Rattle.labels.specs.Columns.{Visits}
-use Rattle.descent.specs.Permitted.{Arrangement, arranged}
 use Rattle.descent.specs.Within.{reconnect}
 use Rattle.descent.proofs.Kept.{total-arranged}
-use Rattle.layouts.specs.Layout.{way_of}
+use Rattle.layouts.specs.Layout.{way_of, layout, laid, CutIn}
+use Rattle.layouts.specs.declared.Layout.{Layout}
+use Rattle.layouts.proofs.Layouts.{reconnection_cut, reconnection_is}
 use Rattle.reconnections.specs.Reconnections.{Inside, reconnection}
 use Rattle.reconnections.specs.declared.Place.{Place}
 
@@ -36,11 +36,16 @@ module _ (xs : List ℕ) (place : Place) (p : ℕ) (inside : Inside (length xs) 
         (same_each (λ v. ltb v l) xs (reconnect xs (reconnection place p)) same_reconnected (λ i t. lt-ltb (get_or xs i 0) l (v.below i t)) k h);
   }
 
--- the pieces one after another are the list as a pattern has it
-pub built : (xs : List ℕ) (place : Place) (p : ℕ) (way : Arrangement) {head pieces all : List ℕ} → way ≡ way_of p
-    → head ≡ slice 0 (place.i + 1) xs
-    → pieces ≡ head ++ arranged way (slice (place.i + 1) (place.j + 1) xs) (slice (place.j + 1) (place.k + 1) xs)
-    → all ≡ pieces ++ slice (place.k + 1) (length xs) xs
-    → all ≡ reconnect xs (reconnection place p)
-built xs place p way ew e f g =
-    rw (g, f, e, ew, add-one place.i, add-one place.j, add-one place.k, to_end (suc place.k) xs)
+-- a layout with the cuts of a place, arranged as a pattern has it
+module _ (place : Place) (p : ℕ) {l : Layout} (e : l ≡ layout (place.i + 1) (place.j + 1) (place.k + 1) (way_of p)) where
+  -- its cuts stand in order
+  pub cut_in : {n : ℕ} → Inside n place → CutIn n l
+  cut_in {n} inside = rw e (reconnection_cut n place.i place.j place.k (way_of p) inside.i_first inside.j_next inside.k_there)
+
+  -- the list laid out so is the list as the pattern has it
+  pub laid_out : (xs : List ℕ) → laid xs l ≡ reconnect xs (reconnection place p)
+  laid_out xs = ap (laid xs) e ∙ reconnection_is xs place.i place.j place.k (way_of p)
+
+  -- and so are the buffer's first visits
+  pub built : (xs buffer : List ℕ) → take (length xs - 0) buffer ≡ drop 0 (laid xs l) → take (length xs) buffer ≡ reconnect xs (reconnection place p)
+  built xs buffer made = ap (λ (k : ℕ). take k buffer) (sym (sub-zero (length xs))) ∙ made ∙ laid_out xs

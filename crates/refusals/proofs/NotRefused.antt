@@ -1,6 +1,7 @@
 -- An input of an entry that asks for a list, where it is not refused: what it tells, and what the entry may call. It is what each part of the refusal tells.
 use Rattle.std.specs.Prelude.{ℕ, ◌<◌, ◌≡◌, List, length}
 use Rattle.day.specs.Day.{Day}
+use Rattle.day.specs.Fine.{Shaped}
 use Rattle.day.specs.Matrix.{Square}
 use Rattle.day.specs.declared.vehicle.Van.{Van}
 use Rattle.lists.specs.Table.{Laid, list_of}
@@ -21,6 +22,10 @@ module _ (d : Day) (van : Van) (visits lengths : List ℕ) (list : ℕ) (none : 
   -- `lists::list_of`
   pub listed : Laid visits lengths × (list < length lengths)
   listed = let f = fine d van visits lengths list none in (f.lists.table.laid, f.lists.there)
+
+  -- `Columns::of`
+  pub shaped_day : Shaped d
+  shaped_day = (fine d van visits lengths list none).day.shaped
 
   -- `evaluation::distance::route_distance`, of the part that is the list asked for
   pub drivable : (part : List ℕ) → part ≡ list_of visits lengths list → Square d.l d.distances × (van.depot < d.l) × Visits d.l part

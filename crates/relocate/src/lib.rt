@@ -12,7 +12,6 @@ ghost use Rattle.std.specs.Prelude.{◌≡◌, true, false, [], ◌∷◌, ◌<�
 ghost use Rattle.day.specs.Refusal.{capacity_ok};
 ghost use Rattle.lists.specs.Table.{lists};
 ghost use Rattle.list_changes.specs.Edits.{Edited};
-ghost use Rattle.labels.specs.Columns.{columns_at, Formed};
 ghost use Rattle.descent.specs.Permitted.{relocate};
 ghost use Rattle.descent.specs.Engines.{run_of};
 ghost use Rattle.deltas.specs.Judged.{float_judge};
@@ -21,11 +20,13 @@ ghost use Rattle.pairs.specs.Pairs.{Sized, table};
 ghost use Rattle.loads.specs.Loads.{boxes, measure_of, Loaded, Held};
 ghost use Rattle.places.specs.Places.{Prepared};
 ghost use Rattle.offers.specs.Offers.{Cached};
+ghost use Rattle.labels.specs.Lent.{lent};
 
 use day::vehicle::RouteLimits;
 use day_scans::matrix::scale;
 use engine::Ended;
 use evaluation::route::route_checks_needed;
+use labels::columns::Columns;
 use numbers::{gain_floor, unknown};
 use places::Setup;
 use relocation_runs::make_moves;
@@ -34,13 +35,7 @@ use relocations::search_all;
 // Searches every pair, and makes move after move.
 fn descend(
     setup: Setup,
-    flags: &[u8],
-    service: &[f64],
-    ready: &[f64],
-    due: &[f64],
-    penalty: &[f64],
-    distances: &[f64],
-    times: &[f64],
+    columns: &Columns,
     demand: &[i32],
     visits: &mut [u16],
     lengths: &mut [u16],
@@ -53,40 +48,32 @@ fn descend(
     pruning: bool,
     limit: u32,
 ) -> Ended
-    requires prepared { Prepared setup (columns_at setup.l flags service ready due penalty distances times) }
-    requires loaded { Loaded setup.l demand.now × Held setup.l visits.old lengths.old × (64 ≤ length buffer.old) }
-    requires cached { Cached (columns_at setup.l flags service ready due penalty distances times) setup (lists visits.old lengths.old)
-        figures.old places.old }
+    requires prepared { Prepared setup (lent columns.now) }
+    requires loaded { Loaded columns.now.locations demand.now × Held columns.now.locations visits.old lengths.old × (64 ≤ length buffer.old) }
+    requires cached { Cached (lent columns.now) setup (lists visits.old lengths.old) figures.old places.old }
     requires sized { Sized (table deltas.old positions.old to_places.old) }
-    ensures { let c = columns_at setup.l flags.entry service.entry ready.entry due.entry penalty.entry distances.entry times.entry in
+    ensures { let c = lent columns.now in
         let run = run_of (relocate false) (checks_of (measure_of demand.now setup.capacity ∷ []) c setup.limits setup.depot)
-        (float_judge (relocate false) (map_of setup.l distances.now setup.depot setup.fixed)) limit
+        (float_judge (relocate false) (map_of columns.now.locations columns.now.distances.now setup.depot setup.fixed)) limit
         (lists visits.old lengths.old)
         in Edited visits.old lengths.old visits.new lengths.new run.last.now
         × (result ≡ ended_as run.word run.moves) }
 {
     search_all(
-        setup, flags, service, ready, due, penalty, distances, times, demand, visits, lengths,
-        buffer, figures, places, deltas, positions, to_places, pruning,
+        setup, columns, demand, visits, lengths, buffer, figures, places, deltas, positions,
+        to_places, pruning,
     );
     make_moves(
-        setup, flags, service, ready, due, penalty, distances, times, demand, visits, lengths,
-        buffer, figures, places, deltas, positions, to_places, pruning, limit,
+        setup, columns, demand, visits, lengths, buffer, figures, places, deltas, positions,
+        to_places, pruning, limit,
     )
 }
 
 // Relocate of all lists, changed in place under their numbers, with at most `limit` moves. `fixed` is the van's fixed cost as a distance. Without `pruning`
 // every visit is offered at every place, and the moves are the same.
 pub fn relocate_improve(
-    l: usize,
-    flags: &[u8],
+    columns: &Columns,
     demand: &[i32],
-    service: &[f64],
-    ready: &[f64],
-    due: &[f64],
-    penalty: &[f64],
-    distances: &[f64],
-    times: &[f64],
     limits: RouteLimits,
     capacity: i32,
     fixed: f64,
@@ -96,19 +83,17 @@ pub fn relocate_improve(
     limit: u32,
     pruning: bool,
 ) -> Ended
-    requires formed { Formed (columns_at l flags service ready due penalty distances times) }
-    requires loaded { Loaded l demand.now × (capacity_ok capacity ≡ true) }
-    requires depot_lt_l { (depot < l) × Held l visits.old lengths.old }
-    ensures { let c = columns_at l flags.entry service.entry ready.entry due.entry penalty.entry distances.entry times.entry in
+    requires loaded { Loaded columns.now.locations demand.now × (capacity_ok capacity ≡ true) }
+    requires depot_lt_l { (depot < columns.now.locations) × Held columns.now.locations visits.old lengths.old }
+    ensures { let c = lent columns.now in
         let run = run_of (relocate false) (checks_of (boxes demand.now capacity ∷ []) c limits depot)
-        (float_judge (relocate false) (map_of l distances.now depot fixed)) limit (lists visits.old lengths.old)
+        (float_judge (relocate false) (map_of columns.now.locations columns.now.distances.now depot fixed)) limit (lists visits.old lengths.old)
         in Edited visits.old lengths.old visits.new lengths.new run.last.now
         × (result ≡ ended_as run.word run.moves) }
 {
-    let floor = gain_floor(scale(distances));
-    let needed = route_checks_needed(flags, limits);
+    let floor = gain_floor(scale(columns.distances));
+    let needed = route_checks_needed(columns.flags, limits);
     let setup = Setup {
-        l,
         depot,
         limits,
         capacity: capacity as usize,
@@ -124,13 +109,7 @@ pub fn relocate_improve(
     let mut to_places = [0u16; 256];
     descend(
         setup,
-        flags,
-        service,
-        ready,
-        due,
-        penalty,
-        distances,
-        times,
+        columns,
         demand,
         visits,
         lengths,

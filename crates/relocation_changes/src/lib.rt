@@ -4,10 +4,9 @@
 #![tactic(auto)]
 
 ghost use Rattle.std.specs.Prelude.{◌≡◌, ◌<◌, ◌≤◌, length, get_or};
-ghost use Rattle.day.specs.Matrix.{leg, Square};
+ghost use Rattle.labels.specs.Columns.{leg_in};
 ghost use Rattle.lists.specs.Table.{Laid, lists, list_of};
 ghost use Rattle.list_changes.specs.Edits.{Edited, Relocates, relocated};
-ghost use Rattle.labels.specs.Columns.{columns_at};
 ghost use Rattle.deltas.specs.Deltas.{insertion_delta};
 ghost use Rattle.pairs.specs.Pairs.{table};
 ghost use Rattle.insertions.specs.Cache.{Known};
@@ -15,9 +14,10 @@ ghost use Rattle.loads.specs.Loads.{Loaded, Held};
 ghost use Rattle.places.specs.Places.{Prepared};
 ghost use Rattle.offers.specs.Offers.{Cached};
 ghost use Rattle.relocations.specs.Relocations.{PairsRight, Every};
+ghost use Rattle.labels.specs.Lent.{lent};
 
-use edits::wide;
 use insertions::{after_insertion, after_removal, forget_at};
+use labels::columns::Columns;
 use list_changes::move_visit;
 use lists::list_of;
 use pairs::Choice;
@@ -32,7 +32,7 @@ fn visit_of(visits: &[u16], lengths: &[u16], r: usize, position: usize) -> usize
     ensures { result ≡ get_or (list_of visits.now lengths.now r) position 0 }
 {
     let list = list_of(visits, lengths, r);
-    wide(list[position])
+    usize::from(list[position])
 }
 
 // A position as the cache has it.
@@ -47,7 +47,7 @@ fn narrow(position: usize) -> u16
 // only lists that changed.
 fn make_move(
     setup: Setup,
-    distances: &[f64],
+    columns: &Columns,
     visits: &mut [u16],
     lengths: &mut [u16],
     figures: &mut [f64],
@@ -57,13 +57,13 @@ fn make_move(
     to: usize,
     place: usize,
 )
-    requires square { Square setup.l distances.now × (setup.depot < setup.l) × Held setup.l visits.old lengths.old }
+    requires held { (setup.depot < columns.now.locations) × Held columns.now.locations visits.old lengths.old }
     requires relocates { Relocates visits.old lengths.old from position to place }
-    requires known { Known (insertion_delta (leg setup.l distances.now) setup.depot setup.fixed) setup.l (lists visits.old lengths.old)
+    requires known { Known (insertion_delta (leg_in (lent columns.now)) setup.depot setup.fixed) columns.now.locations (lists visits.old lengths.old)
         figures.old places.old }
     ensures edited { Edited visits.old lengths.old visits.new lengths.new
         (relocated (lists visits.old lengths.old) from position to place) }
-    ensures known_2 { Known (insertion_delta (leg setup.l distances.now) setup.depot setup.fixed) setup.l
+    ensures known_2 { Known (insertion_delta (leg_in (lent columns.now)) setup.depot setup.fixed) columns.now.locations
         (lists visits.new lengths.new) figures.new places.new }
 {
     let visit = visit_of(visits, lengths, from, position);
@@ -73,8 +73,8 @@ fn make_move(
     let left = narrow(position);
     let giver = list_of(visits, lengths, from);
     after_removal(
-        setup.l,
-        distances,
+        columns.locations,
+        columns.distances,
         setup.depot,
         setup.fixed,
         giver,
@@ -86,8 +86,8 @@ fn make_move(
     let came = narrow(place);
     let receiver = list_of(visits, lengths, to);
     after_insertion(
-        setup.l,
-        distances,
+        columns.locations,
+        columns.distances,
         setup.depot,
         setup.fixed,
         receiver,
@@ -103,13 +103,7 @@ fn make_move(
 // Makes a move, and searches the pairs of its two lists again.
 pub fn move_and_search(
     setup: Setup,
-    flags: &[u8],
-    service: &[f64],
-    ready: &[f64],
-    due: &[f64],
-    penalty: &[f64],
-    distances: &[f64],
-    times: &[f64],
+    columns: &Columns,
     demand: &[i32],
     visits: &mut [u16],
     lengths: &mut [u16],
@@ -122,16 +116,15 @@ pub fn move_and_search(
     pruning: bool,
     best: Choice,
 )
-    requires prepared { Prepared setup (columns_at setup.l flags service ready due penalty distances times) }
-    requires loaded { Loaded setup.l demand.now × Held setup.l visits.old lengths.old × (64 ≤ length buffer.old) }
-    requires cached { Cached (columns_at setup.l flags service ready due penalty distances times) setup (lists visits.old lengths.old)
-        figures.old places.old }
-    requires pairs_right { PairsRight (columns_at setup.l flags service ready due penalty distances times) demand.now setup
+    requires prepared { Prepared setup (lent columns.now) }
+    requires loaded { Loaded columns.now.locations demand.now × Held columns.now.locations visits.old lengths.old × (64 ≤ length buffer.old) }
+    requires cached { Cached (lent columns.now) setup (lists visits.old lengths.old) figures.old places.old }
+    requires pairs_right { PairsRight (lent columns.now) demand.now setup
         (lists visits.old lengths.old) (length lengths.old) (Every) (table deltas.old positions.old to_places.old) }
     requires relocates { Relocates visits.old lengths.old best.from best.position best.to best.place }
     ensures edited { Edited visits.old lengths.old visits.new lengths.new
         (relocated (lists visits.old lengths.old) best.from best.position best.to best.place) }
-    ensures fact { let c = columns_at setup.l flags.entry service.entry ready.entry due.entry penalty.entry distances.entry times.entry in
+    ensures fact { let c = lent columns.now in
         let ls = lists visits.new lengths.new
         in PairsRight c demand.now setup ls (length lengths.new) (Every)
         (table deltas.new positions.new to_places.new)
@@ -139,7 +132,7 @@ pub fn move_and_search(
 {
     make_move(
         setup,
-        distances,
+        columns,
         visits,
         lengths,
         figures,
@@ -150,7 +143,7 @@ pub fn move_and_search(
         best.place,
     );
     search_changed(
-        setup, flags, service, ready, due, penalty, distances, times, demand, visits, lengths,
-        buffer, figures, places, deltas, positions, to_places, pruning, best.from, best.to,
+        setup, columns, demand, visits, lengths, buffer, figures, places, deltas, positions,
+        to_places, pruning, best.from, best.to,
     );
 }

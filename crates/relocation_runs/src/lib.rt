@@ -6,7 +6,6 @@
 ghost use Rattle.std.specs.Prelude.{◌≡◌, false, [], ◌∷◌, ◌≤◌, length};
 ghost use Rattle.lists.specs.Table.{lists};
 ghost use Rattle.list_changes.specs.Edits.{Edited};
-ghost use Rattle.labels.specs.Columns.{columns_at};
 ghost use Rattle.descent.specs.Permitted.{relocate};
 ghost use Rattle.descent.specs.Engines.{run_of};
 ghost use Rattle.deltas.specs.Judged.{float_judge};
@@ -16,8 +15,10 @@ ghost use Rattle.loads.specs.Loads.{measure_of, Loaded, Held};
 ghost use Rattle.places.specs.Places.{Prepared};
 ghost use Rattle.offers.specs.Offers.{Cached};
 ghost use Rattle.relocations.specs.Relocations.{PairsRight, Every};
+ghost use Rattle.labels.specs.Lent.{lent};
 
 use engine::Ended;
+use labels::columns::Columns;
 use pairs::best_pair;
 use places::Setup;
 use relocation_changes::move_and_search;
@@ -25,13 +26,7 @@ use relocation_changes::move_and_search;
 // Makes move after move until none is left or the limit is used up.
 pub fn make_moves(
     setup: Setup,
-    flags: &[u8],
-    service: &[f64],
-    ready: &[f64],
-    due: &[f64],
-    penalty: &[f64],
-    distances: &[f64],
-    times: &[f64],
+    columns: &Columns,
     demand: &[i32],
     visits: &mut [u16],
     lengths: &mut [u16],
@@ -44,15 +39,14 @@ pub fn make_moves(
     pruning: bool,
     limit: u32,
 ) -> Ended
-    requires prepared { Prepared setup (columns_at setup.l flags service ready due penalty distances times) }
-    requires loaded { Loaded setup.l demand.now × Held setup.l visits.old lengths.old × (64 ≤ length buffer.old) }
-    requires cached { Cached (columns_at setup.l flags service ready due penalty distances times) setup (lists visits.old lengths.old)
-        figures.old places.old }
-    requires pairs_right { PairsRight (columns_at setup.l flags service ready due penalty distances times) demand.now setup
+    requires prepared { Prepared setup (lent columns.now) }
+    requires loaded { Loaded columns.now.locations demand.now × Held columns.now.locations visits.old lengths.old × (64 ≤ length buffer.old) }
+    requires cached { Cached (lent columns.now) setup (lists visits.old lengths.old) figures.old places.old }
+    requires pairs_right { PairsRight (lent columns.now) demand.now setup
         (lists visits.old lengths.old) (length lengths.old) (Every) (table deltas.old positions.old to_places.old) }
-    ensures { let c = columns_at setup.l flags.entry service.entry ready.entry due.entry penalty.entry distances.entry times.entry in
+    ensures { let c = lent columns.now in
         let run = run_of (relocate false) (checks_of (measure_of demand.now setup.capacity ∷ []) c setup.limits setup.depot)
-        (float_judge (relocate false) (map_of setup.l distances.now setup.depot setup.fixed)) limit
+        (float_judge (relocate false) (map_of columns.now.locations columns.now.distances.now setup.depot setup.fixed)) limit
         (lists visits.old lengths.old)
         in Edited visits.old lengths.old visits.new lengths.new run.last.now
         × (result ≡ ended_as run.word run.moves) }
@@ -67,8 +61,8 @@ pub fn make_moves(
             return Ended::Stopped(moves);
         }
         move_and_search(
-            setup, flags, service, ready, due, penalty, distances, times, demand, visits, lengths,
-            buffer, figures, places, deltas, positions, to_places, pruning, best,
+            setup, columns, demand, visits, lengths, buffer, figures, places, deltas, positions,
+            to_places, pruning, best,
         );
         moves += 1;
     }

@@ -6,13 +6,14 @@
 
 ghost use Rattle.std.specs.Prelude.{◌+◌, ◌<◌, ◌≤◌, length};
 ghost use Rattle.lists.specs.Table.{lists};
-ghost use Rattle.labels.specs.Columns.{columns_at};
 ghost use Rattle.loads.specs.Loads.{Loaded, Held};
 ghost use Rattle.pairs.specs.Pairs.{Sized, Before, Renewed, table};
 ghost use Rattle.places.specs.Places.{Prepared};
 ghost use Rattle.offers.specs.Offers.{Cached};
 ghost use Rattle.relocations.specs.Relocations.{Searched, SearchedBoth, PairsRight, Every};
+ghost use Rattle.labels.specs.Lent.{lent};
 
+use labels::columns::Columns;
 use offers::best_between;
 use pairs::put_pair;
 use places::Setup;
@@ -22,13 +23,7 @@ use places::Setup;
 // Searches a pair of lists, and puts its best into the table.
 fn search_pair(
     setup: Setup,
-    flags: &[u8],
-    service: &[f64],
-    ready: &[f64],
-    due: &[f64],
-    penalty: &[f64],
-    distances: &[f64],
-    times: &[f64],
+    columns: &Columns,
     demand: &[i32],
     visits: &[u16],
     lengths: &[u16],
@@ -42,20 +37,18 @@ fn search_pair(
     from: usize,
     to: usize,
 )
-    requires prepared { Prepared setup (columns_at setup.l flags service ready due penalty distances times) }
-    requires loaded { Loaded setup.l demand.now × Held setup.l visits.now lengths.now × (64 ≤ length buffer.old) }
-    requires cached { Cached (columns_at setup.l flags service ready due penalty distances times) setup (lists visits.now lengths.now)
-        figures.old places.old }
+    requires prepared { Prepared setup (lent columns.now) }
+    requires loaded { Loaded columns.now.locations demand.now × Held columns.now.locations visits.now lengths.now × (64 ≤ length buffer.old) }
+    requires cached { Cached (lent columns.now) setup (lists visits.now lengths.now) figures.old places.old }
     requires sized { Sized (table deltas.old positions.old to_places.old) × (from < length lengths.now) × (to < length lengths.now) }
-    ensures { let c = columns_at setup.l flags.entry service.entry ready.entry due.entry penalty.entry distances.entry times.entry in
+    ensures { let c = lent columns.now in
         let ls = lists visits.now lengths.now
         in Searched c demand.now setup ls from to (table deltas.old positions.old to_places.old)
         (table deltas.new positions.new to_places.new)
         × Cached c setup ls figures.new places.new }
 {
     let best = best_between(
-        setup, flags, service, ready, due, penalty, distances, times, demand, visits, lengths,
-        buffer, figures, places, pruning, from, to,
+        setup, columns, demand, visits, lengths, buffer, figures, places, pruning, from, to,
     );
     put_pair(deltas, positions, to_places, from, to, best);
 }
@@ -65,13 +58,7 @@ fn search_pair(
 // Searches every pair with list `from` as the giver.
 fn search_row(
     setup: Setup,
-    flags: &[u8],
-    service: &[f64],
-    ready: &[f64],
-    due: &[f64],
-    penalty: &[f64],
-    distances: &[f64],
-    times: &[f64],
+    columns: &Columns,
     demand: &[i32],
     visits: &[u16],
     lengths: &[u16],
@@ -84,39 +71,29 @@ fn search_row(
     pruning: bool,
     from: usize,
 )
-    requires prepared { Prepared setup (columns_at setup.l flags service ready due penalty distances times) }
-    requires loaded { Loaded setup.l demand.now × Held setup.l visits.now lengths.now × (64 ≤ length buffer.old) }
-    requires cached { Cached (columns_at setup.l flags service ready due penalty distances times) setup (lists visits.now lengths.now)
-        figures.old places.old }
-    requires pairs_right { PairsRight (columns_at setup.l flags service ready due penalty distances times) demand.now setup
+    requires prepared { Prepared setup (lent columns.now) }
+    requires loaded { Loaded columns.now.locations demand.now × Held columns.now.locations visits.now lengths.now × (64 ≤ length buffer.old) }
+    requires cached { Cached (lent columns.now) setup (lists visits.now lengths.now) figures.old places.old }
+    requires pairs_right { PairsRight (lent columns.now) demand.now setup
         (lists visits.now lengths.now) (length lengths.now) (Before from 0) (table deltas.old positions.old to_places.old) }
     requires from_in_bounds { from < length lengths.now }
-    ensures { let c = columns_at setup.l flags.entry service.entry ready.entry due.entry penalty.entry distances.entry times.entry in
+    ensures { let c = lent columns.now in
         let ls = lists visits.now lengths.now
-        in PairsRight c demand.now setup ls (length lengths.now) (Before (from + 1) 0)
-        (table deltas.new positions.new to_places.new)
+        in PairsRight c demand.now setup ls (length lengths.now) (Before (from + 1) 0) (table deltas.new positions.new to_places.new)
         × Cached c setup ls figures.new places.new }
 {
-    let mut to = 0;
-    while to < lengths.len() {
+    for to in 0..lengths.len() {
         search_pair(
-            setup, flags, service, ready, due, penalty, distances, times, demand, visits, lengths,
-            buffer, figures, places, deltas, positions, to_places, pruning, from, to,
+            setup, columns, demand, visits, lengths, buffer, figures, places, deltas, positions,
+            to_places, pruning, from, to,
         );
-        to += 1;
     }
 }
 
 // Searches every pair.
 pub fn search_all(
     setup: Setup,
-    flags: &[u8],
-    service: &[f64],
-    ready: &[f64],
-    due: &[f64],
-    penalty: &[f64],
-    distances: &[f64],
-    times: &[f64],
+    columns: &Columns,
     demand: &[i32],
     visits: &[u16],
     lengths: &[u16],
@@ -128,24 +105,21 @@ pub fn search_all(
     to_places: &mut [u16],
     pruning: bool,
 )
-    requires prepared { Prepared setup (columns_at setup.l flags service ready due penalty distances times) }
-    requires loaded { Loaded setup.l demand.now × Held setup.l visits.now lengths.now × (64 ≤ length buffer.old) }
-    requires cached { Cached (columns_at setup.l flags service ready due penalty distances times) setup (lists visits.now lengths.now)
-        figures.old places.old }
+    requires prepared { Prepared setup (lent columns.now) }
+    requires loaded { Loaded columns.now.locations demand.now × Held columns.now.locations visits.now lengths.now × (64 ≤ length buffer.old) }
+    requires cached { Cached (lent columns.now) setup (lists visits.now lengths.now) figures.old places.old }
     requires sized { Sized (table deltas.old positions.old to_places.old) }
-    ensures { let c = columns_at setup.l flags.entry service.entry ready.entry due.entry penalty.entry distances.entry times.entry in
+    ensures { let c = lent columns.now in
         let ls = lists visits.now lengths.now
         in PairsRight c demand.now setup ls (length lengths.now) (Every)
         (table deltas.new positions.new to_places.new)
         × Cached c setup ls figures.new places.new }
 {
-    let mut from = 0;
-    while from < lengths.len() {
+    for from in 0..lengths.len() {
         search_row(
-            setup, flags, service, ready, due, penalty, distances, times, demand, visits, lengths,
-            buffer, figures, places, deltas, positions, to_places, pruning, from,
+            setup, columns, demand, visits, lengths, buffer, figures, places, deltas, positions,
+            to_places, pruning, from,
         );
-        from += 1;
     }
 }
 
@@ -154,13 +128,7 @@ pub fn search_all(
 // Searches the pairs of two lists, out of the first and into it.
 fn search_both(
     setup: Setup,
-    flags: &[u8],
-    service: &[f64],
-    ready: &[f64],
-    due: &[f64],
-    penalty: &[f64],
-    distances: &[f64],
-    times: &[f64],
+    columns: &Columns,
     demand: &[i32],
     visits: &[u16],
     lengths: &[u16],
@@ -174,37 +142,30 @@ fn search_both(
     r: usize,
     other: usize,
 )
-    requires prepared { Prepared setup (columns_at setup.l flags service ready due penalty distances times) }
-    requires loaded { Loaded setup.l demand.now × Held setup.l visits.now lengths.now × (64 ≤ length buffer.old) }
-    requires cached { Cached (columns_at setup.l flags service ready due penalty distances times) setup (lists visits.now lengths.now)
-        figures.old places.old }
+    requires prepared { Prepared setup (lent columns.now) }
+    requires loaded { Loaded columns.now.locations demand.now × Held columns.now.locations visits.now lengths.now × (64 ≤ length buffer.old) }
+    requires cached { Cached (lent columns.now) setup (lists visits.now lengths.now) figures.old places.old }
     requires sized { Sized (table deltas.old positions.old to_places.old) × (r < length lengths.now) × (other < length lengths.now) }
-    ensures { let c = columns_at setup.l flags.entry service.entry ready.entry due.entry penalty.entry distances.entry times.entry in
+    ensures { let c = lent columns.now in
         let ls = lists visits.now lengths.now
         in SearchedBoth c demand.now setup ls r other (table deltas.old positions.old to_places.old)
         (table deltas.new positions.new to_places.new)
         × Cached c setup ls figures.new places.new }
 {
     search_pair(
-        setup, flags, service, ready, due, penalty, distances, times, demand, visits, lengths,
-        buffer, figures, places, deltas, positions, to_places, pruning, r, other,
+        setup, columns, demand, visits, lengths, buffer, figures, places, deltas, positions,
+        to_places, pruning, r, other,
     );
     search_pair(
-        setup, flags, service, ready, due, penalty, distances, times, demand, visits, lengths,
-        buffer, figures, places, deltas, positions, to_places, pruning, other, r,
+        setup, columns, demand, visits, lengths, buffer, figures, places, deltas, positions,
+        to_places, pruning, other, r,
     );
 }
 
 // Searches every pair with list a or b in it again, after both changed.
 pub fn search_changed(
     setup: Setup,
-    flags: &[u8],
-    service: &[f64],
-    ready: &[f64],
-    due: &[f64],
-    penalty: &[f64],
-    distances: &[f64],
-    times: &[f64],
+    columns: &Columns,
     demand: &[i32],
     visits: &[u16],
     lengths: &[u16],
@@ -218,29 +179,26 @@ pub fn search_changed(
     a: usize,
     b: usize,
 )
-    requires prepared { Prepared setup (columns_at setup.l flags service ready due penalty distances times) }
-    requires loaded { Loaded setup.l demand.now × Held setup.l visits.now lengths.now × (64 ≤ length buffer.old) }
-    requires cached { Cached (columns_at setup.l flags service ready due penalty distances times) setup (lists visits.now lengths.now)
-        figures.old places.old }
-    requires pairs_right { PairsRight (columns_at setup.l flags service ready due penalty distances times) demand.now setup
+    requires prepared { Prepared setup (lent columns.now) }
+    requires loaded { Loaded columns.now.locations demand.now × Held columns.now.locations visits.now lengths.now × (64 ≤ length buffer.old) }
+    requires cached { Cached (lent columns.now) setup (lists visits.now lengths.now) figures.old places.old }
+    requires pairs_right { PairsRight (lent columns.now) demand.now setup
         (lists visits.now lengths.now) (length lengths.now) (Renewed a b 0) (table deltas.old positions.old to_places.old) }
     requires a_in_bounds { (a < length lengths.now) × (b < length lengths.now) }
-    ensures { let c = columns_at setup.l flags.entry service.entry ready.entry due.entry penalty.entry distances.entry times.entry in
+    ensures { let c = lent columns.now in
         let ls = lists visits.now lengths.now
         in PairsRight c demand.now setup ls (length lengths.now) (Every)
         (table deltas.new positions.new to_places.new)
         × Cached c setup ls figures.new places.new }
 {
-    let mut other = 0;
-    while other < lengths.len() {
+    for other in 0..lengths.len() {
         search_both(
-            setup, flags, service, ready, due, penalty, distances, times, demand, visits, lengths,
-            buffer, figures, places, deltas, positions, to_places, pruning, a, other,
+            setup, columns, demand, visits, lengths, buffer, figures, places, deltas, positions,
+            to_places, pruning, a, other,
         );
         search_both(
-            setup, flags, service, ready, due, penalty, distances, times, demand, visits, lengths,
-            buffer, figures, places, deltas, positions, to_places, pruning, b, other,
+            setup, columns, demand, visits, lengths, buffer, figures, places, deltas, positions,
+            to_places, pruning, b, other,
         );
-        other += 1;
     }
 }

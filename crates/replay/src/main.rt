@@ -4,20 +4,24 @@
 
 #![tactic(auto)]
 
+mod sample_day; // a day as its runs are replayed on it
 mod improve; // the kinds of run that change one list
 mod rearrange; // the kinds of run that change all lists
 mod cross; // the kind of run that has a fleet
-mod runs; // one function for each kind of run
+mod runs; // the kinds of run that change nothing
 mod score; // how many runs of a kind agree
 
 ghost use Rattle.std.specs.Prelude.{◌≡◌, ◌≤◌, IfOk, length};
 
 use sample::whole::file_is_whole;
+use sample_day::Agrees;
 use std::io;
 use std::io::Read;
 
-fn line(rt: &impl Print, kind: &[u8], data: &[u8], tag: u8) -> io::Result<()> {
-    let score = score::of_file(data, tag);
+fn line(rt: &impl Print, kind: &[u8], data: &[u8], tag: u8, agrees: Agrees) -> io::Result<()>
+    requires { IsAlwaysCallable agrees }
+{
+    let score = score::of_file(data, tag, agrees);
     rt.write_all(kind)?;
     rt.print(score.agree)?;
     rt.write_all(b" agree, ")?;
@@ -26,28 +30,47 @@ fn line(rt: &impl Print, kind: &[u8], data: &[u8], tag: u8) -> io::Result<()> {
 }
 
 fn checks(rt: &impl Print, data: &[u8]) -> io::Result<()> {
-    line(rt, b"feasible ", data, runs::FEASIBLE)?;
-    line(rt, b"eval ", data, runs::EVAL)?;
-    line(rt, b"schedule ", data, runs::SCHEDULE)?;
-    line(rt, b"distance ", data, runs::DISTANCE)
+    line(rt, b"feasible ", data, runs::FEASIBLE, runs::feasible)?;
+    line(rt, b"eval ", data, runs::EVAL, runs::eval)?;
+    line(rt, b"schedule ", data, runs::SCHEDULE, runs::schedule)?;
+    line(rt, b"distance ", data, runs::DISTANCE, runs::distance)
 }
 
 fn engines_of_a_list(rt: &impl Print, data: &[u8]) -> io::Result<()> {
-    line(rt, b"two_opt ", data, improve::TWO_OPT)?;
-    line(rt, b"or_opt ", data, improve::OR_OPT)?;
-    line(rt, b"three_opt ", data, improve::THREE_OPT)
+    line(rt, b"two_opt ", data, improve::TWO_OPT, improve::two_opt)?;
+    line(rt, b"or_opt ", data, improve::OR_OPT, improve::or_opt)?;
+    line(
+        rt,
+        b"three_opt ",
+        data,
+        improve::THREE_OPT,
+        improve::three_opt,
+    )
 }
 
 fn engines_of_all_lists(rt: &impl Print, data: &[u8]) -> io::Result<()> {
-    line(rt, b"relocate ", data, rearrange::RELOCATE)?;
+    line(
+        rt,
+        b"relocate ",
+        data,
+        rearrange::RELOCATE,
+        rearrange::relocate,
+    )?;
     line(
         rt,
         b"relocate_np ",
         data,
         rearrange::RELOCATE_WITHOUT_PRUNING,
+        rearrange::relocate_without_pruning,
     )?;
-    line(rt, b"exchange ", data, rearrange::EXCHANGE)?;
-    line(rt, b"cross ", data, cross::CROSS)
+    line(
+        rt,
+        b"exchange ",
+        data,
+        rearrange::EXCHANGE,
+        rearrange::exchange,
+    )?;
+    line(rt, b"cross ", data, cross::CROSS, cross::agrees)
 }
 
 fn replay(rt: &impl Print, data: &[u8]) -> io::Result<()> {

@@ -1,11 +1,14 @@
 // The kinds of run that change all lists: relocate, with pruning and without, and tail exchange. Each is made on copies of the day's visits and lengths, and
 // agrees if the end word, the moves, the lists that remain and every entry of both tables are the stored ones.
+use crate::sample_day::SampleDay;
+use day::day::Day;
+use day::refusal::Refusal;
 use day::vehicle::Van;
-use planner::rearrange::Rearranged;
-use sample::columns::room_for;
-use sample::stored::is_count;
-use sample::{columns, stored};
-use sample_bytes::{byte_at, count_at, is_known, part, value};
+use planner::rearrange::{Rearranged, exchange_improve, relocate_improve};
+use sample::columns::{copied, room_for};
+use sample::stored;
+use sample::stored::{is_end, limit_at};
+use sample_bytes::{count_at, part};
 
 pub const RELOCATE: u8 = 19;
 
@@ -16,174 +19,70 @@ pub const EXCHANGE: u8 = 21;
 // The bytes before the lengths handed back: limit, end word, moves, lists that remain.
 pub const BEFORE: usize = 4;
 
-// The limit that stands at a position of a run.
-pub fn limit_at(run: &[u8], at: usize, table: &[u8]) -> u32 {
-    columns::short(value(table, byte_at(run, at)))
-}
-
-// Whether the limit at a position of a run is in the table.
-pub fn has_limit(run: &[u8], at: usize, table: &[u8]) -> bool {
-    is_known(table, byte_at(run, at))
-}
-
-fn is_end(run: &[u8], table: &[u8], word: u8, moves: u32, remaining: usize) -> bool {
-    if byte_at(run, 1) != word || !is_count(run, table, 2, moves) {
-        return false;
-    }
-    count_at(run, 3) == remaining
-}
-
 // Whether the run ended as stored.
-pub fn ends_as_stored(run: &[u8], table: &[u8], answer: Rearranged) -> bool {
-    match answer {
-        Rearranged::Refused(_) => false,
-        Rearranged::Settled {
-            moves: a,
-            remaining: b,
-        } => is_end(run, table, stored::SETTLED, a, b),
-        Rearranged::Stopped {
-            moves: a,
-            remaining: b,
-        } => is_end(run, table, stored::STOPPED, a, b),
-    }
+pub fn ends_as_stored(run: &[u8], table: &[u8], answer: Result<Rearranged, Refusal>) -> bool {
+    let (word, moves, remaining) = match answer {
+        Err(_) => return false,
+        Ok(Rearranged::Settled { moves, remaining }) => (stored::SETTLED, moves, remaining),
+        Ok(Rearranged::Stopped { moves, remaining }) => (stored::STOPPED, moves, remaining),
+    };
+    is_end(run, table, 1, word, moves) && count_at(run, 3) == remaining
 }
 
 // Whether the entries of a table are the stored ones.
 fn are_stored(handed: &[u8], own: &[u16]) -> bool {
-    let mut i = 0;
-    while i < own.len() {
-        if columns::visit_at(own, i) != columns::place(byte_at(handed, i)) {
-            return false;
-        }
-        i += 1;
-    }
-    true
+    handed
+        .iter()
+        .zip(own)
+        .all(|(&byte, &entry)| u16::from(byte) == entry)
 }
 
 // Whether both tables are the stored ones, the lengths before the visits.
 pub fn are_handed_back(run: &[u8], visits: &[u16], lengths: &[u16]) -> bool {
     let m = lengths.len();
     let n = visits.len();
-    if m > 64 {
+    if m > 64 || n > 64 {
         return false;
     }
-    if n > 64 {
-        return false;
-    }
-    if run.len() != BEFORE + m + n {
-        return false;
-    }
-    are_stored(part(run, BEFORE, m), lengths) && are_stored(part(run, BEFORE + m, n), visits)
+    run.len() == BEFORE + m + n
+        && are_stored(part(run, BEFORE, m), lengths)
+        && are_stored(part(run, BEFORE + m, n), visits)
 }
 
-// The engine's run on the two tables; of an unknown tag, a refusal.
-fn rearrange(
-    tag: u8,
-    l: usize,
-    flags: &[u8],
-    demand: &[i32],
-    service: &[f64],
-    ready: &[f64],
-    due: &[f64],
-    penalty: &[f64],
-    distances: &[f64],
-    times: &[f64],
-    van: Van,
-    visits: &mut [u16],
-    lengths: &mut [u16],
-    limit: u32,
-) -> Rearranged {
-    match tag {
-        RELOCATE | RELOCATE_WITHOUT_PRUNING => planner::rearrange::relocate_improve(
-            l,
-            flags,
-            demand,
-            service,
-            ready,
-            due,
-            penalty,
-            distances,
-            times,
-            van,
-            visits,
-            lengths,
-            limit,
-            tag == RELOCATE,
-        ),
-        EXCHANGE => planner::rearrange::exchange_improve(
-            l, flags, demand, service, ready, due, penalty, distances, times, van, visits, lengths,
-            limit,
-        ),
-        _ => Rearranged::Refused(0),
-    }
-}
-
-// Whether the run on these copies of the two tables agrees.
-fn agrees_on(
-    visits: &mut [u16],
-    lengths: &mut [u16],
-    tag: u8,
+// Whether the engine's answer to a run is the stored one.
+fn agrees<F: Fn(&Day, Van, &mut [u16], &mut [u16], u32) -> Result<Rearranged, Refusal>>(
     run: &[u8],
-    table: &[u8],
-    l: usize,
-    flags: &[u8],
-    demand: &[i32],
-    service: &[f64],
-    ready: &[f64],
-    due: &[f64],
-    penalty: &[f64],
-    distances: &[f64],
-    times: &[f64],
-    van: Van,
-) -> bool {
-    let limit = limit_at(run, 0, table);
-    let answer = rearrange(
-        tag, l, flags, demand, service, ready, due, penalty, distances, times, van, visits,
-        lengths, limit,
-    );
+    sample: &SampleDay,
+    engine: F,
+) -> bool
+    requires { F.IsAlwaysCallable engine }
+{
+    let table = sample.table;
+    let Some(limit) = limit_at(run, 0, table) else {
+        return false;
+    };
+    let n = room_for(sample.visits.len());
+    let m = room_for(sample.lengths.len());
+    let mut own_visits = copied(sample.visits);
+    let mut own_lengths = copied(sample.lengths);
+    let visits = &mut own_visits[..n];
+    let lengths = &mut own_lengths[..m];
+    let answer = engine(&sample.day, sample.van, visits, lengths, limit);
     ends_as_stored(run, table, answer) && are_handed_back(run, visits, lengths)
 }
 
-// Whether the planner's answer to a run of these kinds is the stored one. Of another kind it isn't.
-pub fn agrees(
-    tag: u8,
-    run: &[u8],
-    table: &[u8],
-    l: usize,
-    flags: &[u8],
-    demand: &[i32],
-    service: &[f64],
-    ready: &[f64],
-    due: &[f64],
-    penalty: &[f64],
-    distances: &[f64],
-    times: &[f64],
-    van: Van,
-    visits: &[u16],
-    lengths: &[u16],
-) -> bool {
-    let n = room_for(visits.len());
-    let m = room_for(lengths.len());
-    if !has_limit(run, 0, table) {
-        return false;
-    }
-    let mut own_visits = columns::copied(visits);
-    let mut own_lengths = columns::copied(lengths);
-    agrees_on(
-        &mut own_visits[0..n],
-        &mut own_lengths[0..m],
-        tag,
-        run,
-        table,
-        l,
-        flags,
-        demand,
-        service,
-        ready,
-        due,
-        penalty,
-        distances,
-        times,
-        van,
-    )
+pub fn relocate(run: &[u8], sample: &SampleDay) -> bool {
+    agrees(run, sample, |day, van, visits, lengths, limit| {
+        relocate_improve(day, van, visits, lengths, limit, true)
+    })
+}
+
+pub fn relocate_without_pruning(run: &[u8], sample: &SampleDay) -> bool {
+    agrees(run, sample, |day, van, visits, lengths, limit| {
+        relocate_improve(day, van, visits, lengths, limit, false)
+    })
+}
+
+pub fn exchange(run: &[u8], sample: &SampleDay) -> bool {
+    agrees(run, sample, exchange_improve)
 }

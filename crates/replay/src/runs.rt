@@ -1,9 +1,8 @@
-// The kinds of run that change nothing, and with them all kinds: each asks the planner's entry for the stored list, and says whether the answer is the
-// stored one to the last bit. A refused run differs, and so does one that hasn't the form of its kind. A new kind is a tag, a function and an arm.
-use crate::{cross, improve, rearrange};
-use day::vehicle::Van;
+// The kinds of run that change nothing: each asks the planner's entry for the stored list, and says whether the answer is the stored one to the last bit.
+// A refused run differs, and so does one that hasn't the form of its kind. A new kind is a tag, a function and a line of `replay`.
+use crate::sample_day::SampleDay;
 use labels::label::Taken;
-use planner::check::{Distance, Evaluated, Feasibility, Timetable};
+use planner::check;
 use sample::stored::is_number;
 use sample_bytes::{byte_at, count_at};
 
@@ -24,10 +23,10 @@ fn are_stored(
     lateness: f64,
     cost: f64,
 ) -> bool {
-    if !is_number(run, table, 2, distance) || !is_number(run, table, 3, duration) {
-        return false;
-    }
-    is_number(run, table, 4, lateness) && is_number(run, table, 5, cost)
+    is_number(run, table, 2, distance)
+        && is_number(run, table, 3, duration)
+        && is_number(run, table, 4, lateness)
+        && is_number(run, table, 5, cost)
 }
 
 // Whether the run has this size and this case, which stands behind the list.
@@ -36,213 +35,68 @@ fn is_case(run: &[u8], size: usize, case: u8) -> bool {
 }
 
 // Whether the break is the one stored behind the four numbers.
-fn is_rest(run: &[u8], table: &[u8], rest: Taken) -> bool {
+fn is_rest(run: &[u8], table: &[u8], rest: Option<Taken>) -> bool {
     match rest {
-        Taken::Untaken => is_case(run, 7, 1) && byte_at(run, 6) == 0,
-        Taken::At(position, start) => {
-            if !is_case(run, 9, 1) || byte_at(run, 6) != 1 {
-                return false;
-            }
-            count_at(run, 7) == position && is_number(run, table, 8, start)
+        None => is_case(run, 7, 1) && byte_at(run, 6) == 0,
+        Some(taken) => {
+            is_case(run, 9, 1)
+                && byte_at(run, 6) == 1
+                && count_at(run, 7) == taken.position
+                && is_number(run, table, 8, taken.start)
         }
     }
 }
 
-fn feasible(
-    run: &[u8],
-    l: usize,
-    flags: &[u8],
-    demand: &[i32],
-    service: &[f64],
-    ready: &[f64],
-    due: &[f64],
-    penalty: &[f64],
-    distances: &[f64],
-    times: &[f64],
-    van: Van,
-    visits: &[u16],
-    lengths: &[u16],
-) -> bool {
+pub fn feasible(run: &[u8], sample: &SampleDay) -> bool {
     let list = count_at(run, 0);
-    let answer = planner::check::route_feasible(
-        l, flags, demand, service, ready, due, penalty, distances, times, van, visits, lengths,
-        list,
-    );
-    match answer {
-        Feasibility::Refused(_) => false,
-        Feasibility::Fails => is_case(run, 2, 0),
-        Feasibility::Passes => is_case(run, 2, 1),
+    match check::route_feasible(&sample.day, sample.van, sample.visits, sample.lengths, list) {
+        Err(_) => false,
+        Ok(passes) => is_case(run, 2, u8::from(passes)),
     }
 }
 
-fn eval(
-    run: &[u8],
-    table: &[u8],
-    l: usize,
-    flags: &[u8],
-    demand: &[i32],
-    service: &[f64],
-    ready: &[f64],
-    due: &[f64],
-    penalty: &[f64],
-    distances: &[f64],
-    times: &[f64],
-    van: Van,
-    visits: &[u16],
-    lengths: &[u16],
-) -> bool {
+pub fn eval(run: &[u8], sample: &SampleDay) -> bool {
     let list = count_at(run, 0);
-    let answer = planner::check::route_eval(
-        l, flags, demand, service, ready, due, penalty, distances, times, van, visits, lengths,
-        list,
-    );
-    match answer {
-        Evaluated::Refused(_) => false,
-        Evaluated::Fails => is_case(run, 2, 0),
-        Evaluated::Passes {
-            distance: a,
-            duration: b,
-            lateness: c,
-            lateness_cost: d,
-        } => is_case(run, 6, 1) && are_stored(run, table, a, b, c, d),
+    match check::route_eval(&sample.day, sample.van, sample.visits, sample.lengths, list) {
+        Err(_) => false,
+        Ok(None) => is_case(run, 2, 0),
+        Ok(Some(e)) => {
+            is_case(run, 6, 1)
+                && are_stored(
+                    run,
+                    sample.table,
+                    e.distance,
+                    e.duration,
+                    e.lateness,
+                    e.lateness_cost,
+                )
+        }
     }
 }
 
-fn schedule(
-    run: &[u8],
-    table: &[u8],
-    l: usize,
-    flags: &[u8],
-    demand: &[i32],
-    service: &[f64],
-    ready: &[f64],
-    due: &[f64],
-    penalty: &[f64],
-    distances: &[f64],
-    times: &[f64],
-    van: Van,
-    visits: &[u16],
-    lengths: &[u16],
-) -> bool {
+pub fn schedule(run: &[u8], sample: &SampleDay) -> bool {
     let list = count_at(run, 0);
-    let answer = planner::check::schedule(
-        l, flags, demand, service, ready, due, penalty, distances, times, van, visits, lengths,
-        list,
-    );
-    match answer {
-        Timetable::Refused(_) => false,
-        Timetable::Impossible => is_case(run, 2, 0),
-        Timetable::Possible {
-            distance: a,
-            duration: b,
-            lateness: c,
-            lateness_cost: d,
-            rest: rest,
-        } => is_rest(run, table, rest) && are_stored(run, table, a, b, c, d),
+    match check::schedule(&sample.day, sample.van, sample.visits, sample.lengths, list) {
+        Err(_) => false,
+        Ok(None) => is_case(run, 2, 0),
+        Ok(Some(s)) => {
+            is_rest(run, sample.table, s.rest)
+                && are_stored(
+                    run,
+                    sample.table,
+                    s.distance,
+                    s.duration,
+                    s.lateness,
+                    s.lateness_cost,
+                )
+        }
     }
 }
 
-fn distance(
-    run: &[u8],
-    table: &[u8],
-    l: usize,
-    flags: &[u8],
-    demand: &[i32],
-    service: &[f64],
-    ready: &[f64],
-    due: &[f64],
-    penalty: &[f64],
-    distances: &[f64],
-    times: &[f64],
-    van: Van,
-    visits: &[u16],
-    lengths: &[u16],
-) -> bool {
+pub fn distance(run: &[u8], sample: &SampleDay) -> bool {
     let list = count_at(run, 0);
-    let answer = planner::check::route_distance(
-        l, flags, demand, service, ready, due, penalty, distances, times, van, visits, lengths,
-        list,
-    );
-    match answer {
-        Distance::Refused(_) => false,
-        Distance::Known(x) => run.len() == 2 && is_number(run, table, 1, x),
-    }
-}
-
-// Whether the planner's answer to a run that changes lists is the stored one.
-fn engine_agrees(
-    tag: u8,
-    run: &[u8],
-    table: &[u8],
-    l: usize,
-    flags: &[u8],
-    demand: &[i32],
-    service: &[f64],
-    ready: &[f64],
-    due: &[f64],
-    penalty: &[f64],
-    distances: &[f64],
-    times: &[f64],
-    van: Van,
-    visits: &[u16],
-    lengths: &[u16],
-) -> bool {
-    if tag < rearrange::RELOCATE {
-        return improve::agrees(
-            tag, run, table, l, flags, demand, service, ready, due, penalty, distances, times, van,
-            visits, lengths,
-        );
-    }
-    if tag == cross::CROSS {
-        return cross::agrees(
-            run, table, l, flags, demand, service, ready, due, penalty, distances, times, visits,
-            lengths,
-        );
-    }
-    rearrange::agrees(
-        tag, run, table, l, flags, demand, service, ready, due, penalty, distances, times, van,
-        visits, lengths,
-    )
-}
-
-// Whether the planner's answer to a run is the stored one.
-pub fn agrees(
-    tag: u8,
-    run: &[u8],
-    table: &[u8],
-    l: usize,
-    flags: &[u8],
-    demand: &[i32],
-    service: &[f64],
-    ready: &[f64],
-    due: &[f64],
-    penalty: &[f64],
-    distances: &[f64],
-    times: &[f64],
-    van: Van,
-    visits: &[u16],
-    lengths: &[u16],
-) -> bool {
-    match tag {
-        FEASIBLE => feasible(
-            run, l, flags, demand, service, ready, due, penalty, distances, times, van, visits,
-            lengths,
-        ),
-        EVAL => eval(
-            run, table, l, flags, demand, service, ready, due, penalty, distances, times, van,
-            visits, lengths,
-        ),
-        SCHEDULE => schedule(
-            run, table, l, flags, demand, service, ready, due, penalty, distances, times, van,
-            visits, lengths,
-        ),
-        DISTANCE => distance(
-            run, table, l, flags, demand, service, ready, due, penalty, distances, times, van,
-            visits, lengths,
-        ),
-        _ => engine_agrees(
-            tag, run, table, l, flags, demand, service, ready, due, penalty, distances, times, van,
-            visits, lengths,
-        ),
+    match check::route_distance(&sample.day, sample.van, sample.visits, sample.lengths, list) {
+        Err(_) => false,
+        Ok(x) => run.len() == 2 && is_number(run, sample.table, 1, x),
     }
 }

@@ -1,35 +1,22 @@
 // How many runs of one kind agree with the stored answers.
-use crate::runs::agrees;
-use day::vehicle::Van;
+use crate::sample_day::{Agrees, SampleDay};
+use day::day::Day;
 use sample::columns;
+use sample::columns::first;
 use sample::layout::{Head, Tail, head_of, tail_of};
 use sample_bytes::{behind, byte_at, count_at, pair, part};
 
-#[derive(Clone, Copy)]
+#[derive(Clone, Copy, Default)]
 pub struct Score {
     pub agree: u64,
     pub differ: u64,
 }
 
-// One more, up to a number that no file reaches.
-fn more(n: u64) -> u64 {
-    if n < 4294967296 {
-        return n + 1;
-    }
-    n
-}
-
-// The score with one run more.
-fn counted(score: Score, agreed: bool) -> Score {
-    if agreed {
-        return Score {
-            agree: more(score.agree),
-            differ: score.differ,
-        };
-    }
+// The runs of both.
+fn sum(a: Score, b: Score) -> Score {
     Score {
-        agree: score.agree,
-        differ: more(score.differ),
+        agree: a.agree.saturating_add(b.agree),
+        differ: a.differ.saturating_add(b.differ),
     }
 }
 
@@ -38,117 +25,85 @@ fn run_at(day: &[u8], at: usize) -> &[u8] {
     part(day, behind(day, at, 2), count_at(day, behind(day, at, 1)))
 }
 
-// The score behind the run at a position, which counts if it is of the kind asked for.
-fn of_run(
-    day: &[u8],
-    at: usize,
-    score: Score,
-    tag: u8,
-    table: &[u8],
-    l: usize,
-    flags: &[u8],
-    demand: &[i32],
-    service: &[f64],
-    ready: &[f64],
-    due: &[f64],
-    penalty: &[f64],
-    distances: &[f64],
-    times: &[f64],
-    van: Van,
-    visits: &[u16],
-    lengths: &[u16],
-) -> Score {
+// The score of the run at a position, which counts if it is of the kind asked for.
+fn of_run(day: &[u8], at: usize, tag: u8, agrees: Agrees, sample: &SampleDay) -> Score
+    requires { IsAlwaysCallable agrees }
+{
     if byte_at(day, at) != tag {
-        return score;
+        return Score::default();
     }
-    let run = run_at(day, at);
-    counted(
-        score,
-        agrees(
-            tag, run, table, l, flags, demand, service, ready, due, penalty, distances, times, van,
-            visits, lengths,
-        ),
-    )
+    let agreed = agrees(run_at(day, at), sample);
+    Score {
+        agree: u64::from(agreed),
+        differ: u64::from(!agreed),
+    }
 }
 
-// The score behind the runs that begin at a position.
+// The score of the runs that begin at a position.
 fn of_runs(
     day: &[u8],
     runs: usize,
     count: usize,
-    before: Score,
     tag: u8,
-    table: &[u8],
-    l: usize,
-    flags: &[u8],
-    demand: &[i32],
-    service: &[f64],
-    ready: &[f64],
-    due: &[f64],
-    penalty: &[f64],
-    distances: &[f64],
-    times: &[f64],
-    van: Van,
-    visits: &[u16],
-    lengths: &[u16],
-) -> Score {
-    let mut score = before;
+    agrees: Agrees,
+    sample: &SampleDay,
+) -> Score
+    requires { IsAlwaysCallable agrees }
+{
+    let mut score = Score::default();
     let mut at = runs;
-    let mut i = 0;
-    while i < count {
-        score = of_run(
-            day, at, score, tag, table, l, flags, demand, service, ready, due, penalty, distances,
-            times, van, visits, lengths,
-        );
+    for _ in 0..count {
+        score = sum(score, of_run(day, at, tag, agrees, sample));
         at = behind(day, at, count_at(day, behind(day, at, 1)) + 2);
-        i += 1;
     }
     score
 }
 
-// The score behind a day with these lists.
-fn of_lists(
-    day: &[u8],
+// The score of a day with these lists.
+fn of_lists<'a>(
+    day: &'a [u8],
     head: Head,
     tail: Tail,
-    before: Score,
     tag: u8,
-    visits: &[u16],
-    lengths: &[u16],
-) -> Score {
+    agrees: Agrees,
+    visits: &'a [u16],
+    lengths: &'a [u16],
+) -> Score
+    requires { IsAlwaysCallable agrees }
+{
     let l = head.l;
     let table = part(day, 2, head.table_size);
     let demand = columns::demands(table, day, head.demand, l);
-    let service = columns::numbers(table, day, head.service, l);
-    let ready = columns::numbers(table, day, head.ready, l);
-    let due = columns::numbers(table, day, head.due, l);
-    let penalty = columns::numbers(table, day, head.penalty, l);
-    let distances = columns::rows(table, day, head.distances, head.distances_size);
-    let times = columns::rows(table, day, tail.times, tail.times_size);
-    of_runs(
-        day,
-        tail.runs,
-        tail.run_count,
-        before,
-        tag,
+    let service: [f64; 64] = columns::numbers(table, day, head.service, l);
+    let ready: [f64; 64] = columns::numbers(table, day, head.ready, l);
+    let due: [f64; 64] = columns::numbers(table, day, head.due, l);
+    let penalty: [f64; 64] = columns::numbers(table, day, head.penalty, l);
+    let distances: [f64; 4096] = columns::numbers(table, day, head.distances, head.distances_size);
+    let times: [f64; 4096] = columns::numbers(table, day, tail.times, tail.times_size);
+    let sample = SampleDay {
         table,
-        l,
-        part(day, head.flags, l),
-        columns::first_demands(&demand, l),
-        columns::first_numbers(&service, l),
-        columns::first_numbers(&ready, l),
-        columns::first_numbers(&due, l),
-        columns::first_numbers(&penalty, l),
-        columns::first_numbers(&distances, head.distances_size),
-        columns::first_numbers(&times, tail.times_size),
-        columns::van(table, day, tail.van),
+        day: Day {
+            locations: l,
+            flags: part(day, head.flags, l),
+            demand: first(&demand, l),
+            service: first(&service, l),
+            ready: first(&ready, l),
+            due: first(&due, l),
+            penalty: first(&penalty, l),
+            distances: first(&distances, head.distances_size),
+            times: first(&times, tail.times_size),
+        },
+        van: columns::van(table, day, tail.van),
         visits,
         lengths,
-    )
+    };
+    of_runs(day, tail.runs, tail.run_count, tag, agrees, &sample)
 }
 
-// The score behind a day.
-fn of_day(day: &[u8], before: Score, tag: u8) -> Score {
+// The score of a day.
+fn of_day(day: &[u8], tag: u8, agrees: Agrees) -> Score
+    requires { IsAlwaysCallable agrees }
+{
     let head = head_of(day);
     let tail = tail_of(day, head);
     let visits = columns::places(day, tail.visits, tail.visits_size);
@@ -157,27 +112,25 @@ fn of_day(day: &[u8], before: Score, tag: u8) -> Score {
         day,
         head,
         tail,
-        before,
         tag,
-        columns::first_places(&visits, tail.visits_size),
-        columns::first_places(&lengths, tail.lists),
+        agrees,
+        first(&visits, tail.visits_size),
+        first(&lengths, tail.lists),
     )
 }
 
-// The score of a file.
-pub fn of_file(data: &[u8], tag: u8) -> Score {
+// The score of a file's runs of a kind.
+pub fn of_file(data: &[u8], tag: u8, agrees: Agrees) -> Score
+    requires { IsAlwaysCallable agrees }
+{
     let days = pair(data, 0);
-    let mut score = Score {
-        agree: 0,
-        differ: 0,
-    };
+    let mut score = Score::default();
     let mut at = 2;
-    let mut i = 0;
-    while i < days {
+    for _ in 0..days {
         let size = pair(data, at);
-        score = of_day(part(data, behind(data, at, 2), size), score, tag);
+        let day = part(data, behind(data, at, 2), size);
+        score = sum(score, of_day(day, tag, agrees));
         at = behind(data, behind(data, at, 2), size);
-        i += 1;
     }
     score
 }

@@ -9,13 +9,13 @@ use lib.ListN.{length}
 use lib.Dec.{ltb}
 use lib.Ieee.{Float}
 use borrow.Author.Tests.{lt-ltb, ltb-true}
+use Rattle.std.specs.Prelude.{Some}
 use Rattle.numbers.specs.Floor.{counts}
 use Rattle.tests.specs.All.{stop, go}
 use Rattle.day.specs.Matrix.{leg, Square}
 use Rattle.day.specs.Customer.{has_time_windows}
-use Rattle.day.specs.Vehicle.{is_unlimited, no_rest}
+use Rattle.day.specs.Vehicle.{is_unlimited}
 use Rattle.day.specs.declared.vehicle.VehicleBreak.{VehicleBreak}
-use Rattle.day.specs.declared.vehicle.Rest.TheVariants.{Break}
 use Rattle.edits.specs.Edits.{reversed}
 use Rattle.edits.proofs.Kept.{same_reversed, same_each, length-reversed}
 use Rattle.edits.proofs.Turns.{reversed_twice}
@@ -59,8 +59,8 @@ or_so : (a : Bool) → a || true ≡ true
 or_so true = refl
 or_so false = refl
 
-pub break_checked : (c : Columns) (t : Terms) (pause : VehicleBreak) → Worked c t → t.limits.rest ≡ Break pause → t.needed ≡ true
-unfolding checks_needed is_unlimited no_rest
+pub break_checked : (c : Columns) (t : Terms) (pause : VehicleBreak) → Worked c t → t.limits.rest ≡ Some pause → t.needed ≡ true
+unfolding checks_needed is_unlimited
 break_checked c t pause w e = w.needed ∙ rw (e, none_set) (or_so (has_time_windows c.flags))
 
 -- what the delta asks

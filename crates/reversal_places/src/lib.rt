@@ -3,24 +3,24 @@
 
 #![tactic(auto)]
 
-ghost use Rattle.std.specs.Prelude.{◌≡◌, true, cond, ◌<◌, length};
-ghost use Rattle.day.specs.declared.vehicle.Rest.TheVariants.{NoBreak};
-ghost use Rattle.labels.specs.Columns.{columns_at, Visits};
+ghost use Rattle.std.specs.Prelude.{◌≡◌, true, cond, ◌<◌, length, None};
+ghost use Rattle.labels.specs.Columns.{Visits};
+ghost use Rattle.labels.specs.Lent.{lent};
 ghost use Rattle.reversal_places.specs.Places.{Worked, Shared, place_after, turned_passes, gains, turned_at};
 
-use day::vehicle::{Rest, RouteLimits};
+use day::vehicle::RouteLimits;
 use deltas_within::two_opt_delta;
 use edits::reverse;
 use evaluation::clocked::is_allowed;
 use evaluation::route::outcome_of;
 use heads::Head;
+use labels::columns::Columns;
 use layouts::{laid_passes, reversal};
 use numbers::counts_as_gain;
 
 // The constants of a run: worked out once, before the first move.
 #[derive(Clone, Copy)]
 pub struct Terms {
-    pub l: usize,
     pub depot: usize,
     pub limits: RouteLimits,
     pub floor: f64,
@@ -56,37 +56,25 @@ pub fn place_after(n: usize, place: Place) -> Place
 // driven from there on before it is made.
 fn turn_unbroken(
     terms: Terms,
-    flags: &[u8],
-    service: &[f64],
-    ready: &[f64],
-    due: &[f64],
-    penalty: &[f64],
-    distances: &[f64],
-    times: &[f64],
+    columns: &Columns,
     list: &mut [u16],
     head: Head,
     place: Place,
 ) -> bool
-    requires worked { Worked (columns_at terms.l flags service ready due penalty distances times) terms × Visits terms.l list.old }
+    requires worked { Worked (lent columns.now) terms × Visits columns.now.locations list.old }
     requires first_lt_last { (place.first < place.last) × (place.last < length list.old) }
-    requires shared { Shared (columns_at terms.l flags service ready due penalty distances times) terms list.old head place.first }
-    requires rest_value { terms.limits.rest ≡ NoBreak }
-    ensures value { result ≡ turned_passes
-        (columns_at terms.l flags.entry service.entry ready.entry due.entry penalty.entry distances.entry times.entry) terms
-        list.old place }
+    requires shared { Shared (lent columns.now) terms list.old head place.first }
+    requires rest_value { terms.limits.rest ≡ None }
+    ensures value { result ≡ turned_passes (lent columns.now) terms list.old place }
     ensures list_after { list.new ≡ cond result (turned_at list.old place) list.old }
 {
-    let l = terms.l;
     let depot = terms.depot;
     let limits = terms.limits;
     let first = place.first;
     let end = place.last + 1;
     let needed = terms.needed;
     let turned = reversal(first, end);
-    let laid = laid_passes(
-        needed, l, flags, service, ready, due, penalty, distances, times, limits, depot, list,
-        head, turned,
-    );
+    let laid = laid_passes(needed, columns, limits, depot, list, head, turned);
     if laid {
         reverse(list, first, end);
     }
@@ -94,36 +82,20 @@ fn turn_unbroken(
 }
 
 // The same with a break to take, which leaves no head to share: the visits are reversed, and turned back where the result doesn't pass.
-fn turn_broken(
-    terms: Terms,
-    flags: &[u8],
-    service: &[f64],
-    ready: &[f64],
-    due: &[f64],
-    penalty: &[f64],
-    distances: &[f64],
-    times: &[f64],
-    list: &mut [u16],
-    place: Place,
-) -> bool
-    requires worked { Worked (columns_at terms.l flags service ready due penalty distances times) terms × Visits terms.l list.old }
+fn turn_broken(terms: Terms, columns: &Columns, list: &mut [u16], place: Place) -> bool
+    requires worked { Worked (lent columns.now) terms × Visits columns.now.locations list.old }
     requires first_lt_last { (place.first < place.last) × (place.last < length list.old) }
     requires needed_value { terms.needed ≡ true }
-    ensures value { result ≡ turned_passes
-        (columns_at terms.l flags.entry service.entry ready.entry due.entry penalty.entry distances.entry times.entry) terms
-        list.old place }
+    ensures value { result ≡ turned_passes (lent columns.now) terms list.old place }
     ensures list_after { list.new ≡ cond result (turned_at list.old place) list.old }
 {
-    let l = terms.l;
     let depot = terms.depot;
     let limits = terms.limits;
     let first = place.first;
     let end = place.last + 1;
     reverse(list, first, end);
     let rest = limits.rest;
-    let outcome = outcome_of(
-        l, flags, service, ready, due, penalty, distances, times, rest, depot, list,
-    );
+    let outcome = outcome_of(columns, rest, depot, list);
     let passed = is_allowed(limits, outcome);
     if !passed {
         reverse(list, first, end);
@@ -134,30 +106,29 @@ fn turn_broken(
 // Reverses the visits of a place where that gains and the result passes, and says whether it did.
 pub fn try_reversal(
     terms: Terms,
-    flags: &[u8],
-    service: &[f64],
-    ready: &[f64],
-    due: &[f64],
-    penalty: &[f64],
-    distances: &[f64],
-    times: &[f64],
+    columns: &Columns,
     list: &mut [u16],
     head: Head,
     place: Place,
 ) -> bool
-    requires worked { Worked (columns_at terms.l flags service ready due penalty distances times) terms × Visits terms.l list.old }
+    requires worked { Worked (lent columns.now) terms × Visits columns.now.locations list.old }
     requires first_lt_last { (place.first < place.last) × (place.last < length list.old) }
-    requires shared { Shared (columns_at terms.l flags service ready due penalty distances times) terms list.old head place.first }
-    ensures value { result ≡ gains
-        (columns_at terms.l flags.entry service.entry ready.entry due.entry penalty.entry distances.entry times.entry) terms
-        list.old place }
+    requires shared { Shared (lent columns.now) terms list.old head place.first }
+    ensures value { result ≡ gains (lent columns.now) terms list.old place }
     ensures list_after { list.new ≡ cond result (turned_at list.old place) list.old }
 {
-    let l = terms.l;
     let depot = terms.depot;
     let first = place.first;
     let last = place.last;
-    let delta = two_opt_delta(l, distances, terms.symmetric, depot, list, first, last);
+    let delta = two_opt_delta(
+        columns.locations,
+        columns.distances,
+        terms.symmetric,
+        depot,
+        list,
+        first,
+        last,
+    );
     let gains = counts_as_gain(delta, terms.floor);
     if !gains {
         return false;
@@ -165,11 +136,7 @@ pub fn try_reversal(
     let limits = terms.limits; // copied for the few that gain, not at each place
     let rest = limits.rest;
     match rest {
-        Rest::NoBreak => turn_unbroken(
-            terms, flags, service, ready, due, penalty, distances, times, list, head, place,
-        ),
-        Rest::Break(_) => turn_broken(
-            terms, flags, service, ready, due, penalty, distances, times, list, place,
-        ),
+        None => turn_unbroken(terms, columns, list, head, place),
+        Some(_) => turn_broken(terms, columns, list, place),
     }
 }

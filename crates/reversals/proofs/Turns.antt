@@ -2,10 +2,11 @@
 -- Assumes nothing.
 use mathlib.Core.Path.{◌≡◌, refl, sym, ap, ◌∙◌}
 use mathlib.Core.Bool.{Bool, true, false, cond}
-use mathlib.Core.Option.{Option}
+use mathlib.Core.Option as maybe
 use mathlib.Core.List.{List}
 use Prim.Native.Nat.{ℕ, ◌<◌, ◌≤◌}
 use lib.ListN.{length}
+use Rattle.std.specs.Prelude.{Option, Some, None}
 use Rattle.labels.specs.Columns.{Columns}
 use Rattle.descent.specs.Search.{Sweep, first_move}
 use Rattle.descent.specs.Within.{Reversal}
@@ -14,8 +15,6 @@ use Rattle.reversal_places.specs.declared.Terms.{Terms}
 use Rattle.reversal_places.specs.declared.Place.{Place}
 use Rattle.reversal_places.specs.Places.{searching, judging, reversal_at, place_after, gains, turned_at}
 use Rattle.reversal_places.proofs.Tried.{turned_is, turned-length}
-use Rattle.reversals.specs.declared.Found.{Found}
-use Rattle.reversals.specs.declared.Found.TheVariants.{At, Nothing}
 use Rattle.reversals.specs.Reversals.{InSweep, from, first_turn, next_turn, led, leaves, Inside, Searched}
 use Rattle.reversals.proofs.Places.{from_turn, from_end, from_start}
 
@@ -32,7 +31,7 @@ module _ (c : Columns) (t : Terms) (xs : List ℕ) (p : Place) (order : p.first 
       (one_left (searching c t) (judging c t) xs (reversal_at p) (reversal_at p) refl e))
 
   -- a place where one is: the move, and the places behind it
-  pub move_made : gains c t xs p ≡ true → led xs (At p) ≡ first_turn c t xs (from n p)
+  pub move_made : gains c t xs p ≡ true → led xs (Some p) ≡ first_turn c t xs (from n p)
   unfolding first_turn gains led
   move_made e =
       rw (from_turn n p order there, ← (turned_is xs p))
@@ -43,7 +42,7 @@ module _ (c : Columns) (t : Terms) (xs : List ℕ) (p : Place) (order : p.first 
 module _ (c : Columns) (t : Terms) (xs list : List ℕ) (p start : Place) (same : list ≡ xs) (order : p.first < p.last) (there : p.last < length xs)
     (so_far : first_turn c t xs (from (length xs) p) ≡ first_turn c t xs (from (length xs) start)) (answer : Bool) (is : answer ≡ gains c t list p)
     {after : List ℕ} (becomes : after ≡ cond answer (turned_at list p) list) where
-  pub found_here : answer ≡ true → Searched (first_turn c t xs (from (length xs) start)) xs after (At p)
+  pub found_here : answer ≡ true → Searched (first_turn c t xs (from (length xs) start)) xs after (Some p)
   unfolding leaves Inside
   found_here e =
       let yes-here : gains c t xs p ≡ true = rw (← same) (sym is ∙ e) in
@@ -58,12 +57,12 @@ module _ (c : Columns) (t : Terms) (xs list : List ℕ) (p start : Place) (same 
 
 -- at the end of the sweep there is none
 pub none_left : (c : Columns) (t : Terms) (xs : List ℕ) (p : Place) → InSweep (length xs) p → length xs ≤ p.last
-    → led xs Nothing ≡ first_turn c t xs (from (length xs) p)
+    → led xs None ≡ first_turn c t xs (from (length xs) p)
 unfolding first_turn first_move led
 none_left c t xs p in-sweep past = rw (from_end (length xs) p in-sweep past)
 
 -- what a search that found nothing, or a place, leaves
-pub left_as_it_was : {m : Option (Sweep (List ℕ) Reversal)} {xs ys : List ℕ} {r : Found} → Searched m xs ys r → r ≡ Nothing → ys ≡ xs
+pub left_as_it_was : {m : maybe.Option (Sweep (List ℕ) Reversal)} {xs ys : List ℕ} {r : Option Place} → Searched m xs ys r → r ≡ None → ys ≡ xs
 unfolding leaves
 left_as_it_was s e = rw e at s.left
 
@@ -73,7 +72,7 @@ pub record Turned (xs ys : List ℕ) (p : Place) : Type 0 where
   pub there : p.last < length xs
   pub same_length : length ys ≡ length xs
 
-pub left-turned : {m : Option (Sweep (List ℕ) Reversal)} {xs ys : List ℕ} {r : Found} (p : Place) → Searched m xs ys r → r ≡ At p → Turned xs ys p
+pub left-turned : {m : maybe.Option (Sweep (List ℕ) Reversal)} {xs ys : List ℕ} {r : Option Place} (p : Place) → Searched m xs ys r → r ≡ Some p → Turned xs ys p
 unfolding leaves Inside
 left-turned {xs = xs} p s e =
     let turned-here = rw e at s.left in
@@ -81,8 +80,8 @@ left-turned {xs = xs} p s e =
     record { becomes = turned-here; ordered = inside.0; there = inside.1; same_length = ap length turned-here ∙ turned-length xs p inside.0 }
 
 -- the next move is ahead; or the first of a new sweep
-pub found_ahead : (c : Columns) (t : Terms) (xs ys : List ℕ) (ps : List Reversal) (r : Found) (p : Place) → r ≡ At p
-    → Searched (first_turn c t xs ps) xs ys r → Searched (next_turn c t (record { now = xs; ahead = ps })) xs ys (At p)
+pub found_ahead : (c : Columns) (t : Terms) (xs ys : List ℕ) (ps : List Reversal) (r : Option Place) (p : Place) → r ≡ Some p
+    → Searched (first_turn c t xs ps) xs ys r → Searched (next_turn c t (record { now = xs; ahead = ps })) xs ys (Some p)
 unfolding first_turn next_turn led
 found_ahead c t xs ys ps r p e s =
     let here = rw e at s in
@@ -92,7 +91,7 @@ found_ahead c t xs ys ps r p e s =
       inside = here.inside;
     }
 
-pub found_anew : (c : Columns) (t : Terms) (xs ys zs : List ℕ) (ps : List Reversal) (r₁ r : Found) → r₁ ≡ Nothing → Searched (first_turn c t xs ps) xs ys r₁
+pub found_anew : (c : Columns) (t : Terms) (xs ys zs : List ℕ) (ps : List Reversal) (r₁ r : Option Place) → r₁ ≡ None → Searched (first_turn c t xs ps) xs ys r₁
     → Searched (first_turn c t ys (from (length ys) (record { first = 0; last = 1 }))) ys zs r
     → Searched (next_turn c t (record { now = xs; ahead = ps })) xs zs r
 unfolding first_turn next_turn led

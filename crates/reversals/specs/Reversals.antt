@@ -1,6 +1,7 @@
 -- 2-opt as the code walks it: the places from one on, and what a search from a place on answers. Assumes nothing.
-use Rattle.std.specs.Prelude.{◌≡◌, List, ℕ, ◌+◌, ◌<◌, ◌≤◌, length}
-use Rattle.std.proofs.Math.Option.{Option, none, some}
+use Rattle.std.specs.Prelude.{◌≡◌, List, ℕ, ◌+◌, ◌<◌, ◌≤◌, length, Option, Some, None}
+use Rattle.std.proofs.Math.Option as maybe
+use Rattle.std.proofs.Math.Option.{none, some}
 use Rattle.labels.specs.Columns.{Columns}
 use Rattle.descent.specs.Search.{Sweep, first_move, next}
 use Rattle.descent.specs.Within.{Reversal}
@@ -8,8 +9,6 @@ use Rattle.descent.proofs.Loops.{reversals_from}
 use Rattle.reversal_places.specs.declared.Terms.{Terms}
 use Rattle.reversal_places.specs.declared.Place.{Place}
 use Rattle.reversal_places.specs.Places.{searching, judging, place_after, turned_at}
-use Rattle.reversals.specs.declared.Found.{Found}
-use Rattle.reversals.specs.declared.Found.TheVariants.{At, Nothing}
 
 -- ---- places
 
@@ -25,30 +24,30 @@ from n p = reversals_from n p.first p.last
 -- ---- moves
 
 -- the first move at some places
-unfoldable pub first_turn : Columns → Terms → List ℕ → List Reversal → Option (Sweep (List ℕ) Reversal)
+unfoldable pub first_turn : Columns → Terms → List ℕ → List Reversal → maybe.Option (Sweep (List ℕ) Reversal)
 first_turn c t = first_move (searching c t) (judging c t)
 
 -- the next move of a run
-unfoldable pub next_turn : Columns → Terms → Sweep (List ℕ) Reversal → Option (Sweep (List ℕ) Reversal)
+unfoldable pub next_turn : Columns → Terms → Sweep (List ℕ) Reversal → maybe.Option (Sweep (List ℕ) Reversal)
 next_turn c t = next (searching c t) (judging c t)
 
 -- what a search that found this leads to. 01: 'it goes on from there'
-unfoldable pub led : List ℕ → Found → Option (Sweep (List ℕ) Reversal)
-led xs Nothing = none
-led xs (At p) = some (record { now = turned_at xs p; ahead = from (length xs) (place_after (length xs) p) })
+unfoldable pub led : List ℕ → Option Place → maybe.Option (Sweep (List ℕ) Reversal)
+led xs None = none
+led xs (Some p) = some (record { now = turned_at xs p; ahead = from (length xs) (place_after (length xs) p) })
 
 -- what it leaves of the list
-unfoldable pub leaves : List ℕ → Found → List ℕ
-leaves xs Nothing = xs
-leaves xs (At p) = turned_at xs p
+unfoldable pub leaves : List ℕ → Option Place → List ℕ
+leaves xs None = xs
+leaves xs (Some p) = turned_at xs p
 
 -- a place that was found has its visits
-unfoldable pub Inside : ℕ → Found → Type 0
-Inside n Nothing = Unit {0}
-Inside n (At p) = (p.first < p.last) × (p.last < n)
+unfoldable pub Inside : ℕ → Option Place → Type 0
+Inside n None = Unit {0}
+Inside n (Some p) = (p.first < p.last) × (p.last < n)
 
 -- a search that should lead to `move` has found this, and made it of the list
-pub record Searched (move : Option (Sweep (List ℕ) Reversal)) (before after : List ℕ) (found : Found) : Type 0 where
+pub record Searched (move : maybe.Option (Sweep (List ℕ) Reversal)) (before after : List ℕ) (found : Option Place) : Type 0 where
   pub leads : led before found ≡ move
   pub left : after ≡ leaves before found
   pub inside : Inside (length before) found

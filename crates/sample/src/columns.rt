@@ -3,82 +3,41 @@ ghost use Rattle.std.specs.Prelude.{◌≤◌, ◌≡◌, length};
 
 use day::vehicle::Van;
 use sample_bytes::{byte_at, number, part, value};
+use std::array::from_fn;
 
-// A column of `n` numbers at a position.
-pub fn numbers(table: &[u8], day: &[u8], at: usize, n: usize) -> [f64; 64]
-    ensures { 64 ≡ length result }
+// An entry for each byte; behind the bytes, what byte 0 stands for.
+fn column<T, const N: usize, F: Fn(u8) -> T>(bytes: &[u8], entry: F) -> [T; N]
+    requires { F.IsAlwaysCallable entry }
+    ensures { N ≡ length result }
 {
-    let bytes = part(day, at, n);
-    let mut column = [0.0f64; 64];
-    let mut i = 0;
-    while i < 64 {
-        column[i] = number(table, byte_at(bytes, i));
-        i += 1;
-    }
-    column
+    from_fn(|k| entry(byte_at(bytes, k)))
 }
 
-// A table of numbers, a row after another.
-pub fn rows(table: &[u8], day: &[u8], at: usize, n: usize) -> [f64; 4096]
-    ensures { 4096 ≡ length result }
+// The first `n` entries, none where there are fewer.
+pub fn first<T>(column: &[T], n: usize) -> &[T] {
+    column.get(..n).unwrap_or(&[])
+}
+
+// Numbers: a column, or a table's rows one after another.
+pub fn numbers<const N: usize>(table: &[u8], day: &[u8], at: usize, n: usize) -> [f64; N]
+    ensures { N ≡ length result }
 {
-    let bytes = part(day, at, n);
-    let mut entries = [0.0f64; 4096];
-    let mut i = 0;
-    while i < 4096 {
-        entries[i] = number(table, byte_at(bytes, i));
-        i += 1;
-    }
-    entries
+    column(part(day, at, n), |byte| number(table, byte))
 }
 
 // A whole number, -1 where it is too large: a demand or capacity that is refused.
 fn signed(value: u64) -> i32 {
-    if value < 2147483648 {
-        return value as i32;
-    }
-    -1
+    i32::try_from(value).unwrap_or(-1)
 }
 
 // A column of whole numbers.
-pub fn demands(table: &[u8], day: &[u8], at: usize, n: usize) -> [i32; 64]
-    ensures { 64 ≡ length result }
-{
-    let bytes = part(day, at, n);
-    let mut column = [0i32; 64];
-    let mut i = 0;
-    while i < 64 {
-        column[i] = signed(value(table, byte_at(bytes, i)));
-        i += 1;
-    }
-    column
-}
-
-// A byte as a visit or a length.
-pub fn place(byte: u8) -> u16 {
-    byte as u16
+pub fn demands(table: &[u8], day: &[u8], at: usize, n: usize) -> [i32; 64] {
+    column(part(day, at, n), |byte| signed(value(table, byte)))
 }
 
 // Visits, or lengths of lists.
-pub fn places(day: &[u8], at: usize, n: usize) -> [u16; 64]
-    ensures { 64 ≡ length result }
-{
-    let bytes = part(day, at, n);
-    let mut column = [0u16; 64];
-    let mut i = 0;
-    while i < 64 {
-        column[i] = place(byte_at(bytes, i));
-        i += 1;
-    }
-    column
-}
-
-// The visit or length at a place of a table, 0 where there is none.
-pub fn visit_at(visits: &[u16], place: usize) -> u16 {
-    if place < visits.len() {
-        return visits[place];
-    }
-    0
+pub fn places(day: &[u8], at: usize, n: usize) -> [u16; 64] {
+    column(part(day, at, n), |byte| u16::from(byte))
 }
 
 // As many visits or lengths as a copy has room for, none where there are more.
@@ -95,89 +54,24 @@ pub fn room_for(n: usize) -> usize
 pub fn copied(visits: &[u16]) -> [u16; 64]
     ensures { 64 ≡ length result }
 {
-    let mut copy = [0u16; 64];
-    let mut i = 0;
-    while i < 64 {
-        copy[i] = visit_at(visits, i);
-        i += 1;
-    }
-    copy
-}
-
-// The first `n` numbers, none where there are fewer.
-pub fn first_numbers(column: &[f64], n: usize) -> &[f64] {
-    if n > column.len() {
-        return &column[0..0];
-    }
-    &column[0..n]
-}
-
-// The same of whole numbers.
-pub fn first_demands(column: &[i32], n: usize) -> &[i32] {
-    if n > column.len() {
-        return &column[0..0];
-    }
-    &column[0..n]
-}
-
-// The same of visits or lengths.
-pub fn first_places(column: &[u16], n: usize) -> &[u16] {
-    if n > column.len() {
-        return &column[0..0];
-    }
-    &column[0..n]
+    from_fn(|k| visits.get(k).copied().unwrap_or(0))
 }
 
 // An id or a limit, 0 where it is too large.
 pub fn short(value: u64) -> u32 {
-    if value < 4294967296 {
-        return value as u32;
-    }
-    0
+    u32::try_from(value).unwrap_or(0)
 }
 
 // Ids, each 0 where it is too large.
 pub fn ids(table: &[u8], day: &[u8], at: usize, n: usize) -> [u32; 64]
     ensures { 64 ≡ length result }
 {
-    let bytes = part(day, at, n);
-    let mut column = [0u32; 64];
-    let mut i = 0;
-    while i < 64 {
-        column[i] = short(value(table, byte_at(bytes, i)));
-        i += 1;
-    }
-    column
+    column(part(day, at, n), |byte| short(value(table, byte)))
 }
 
 // Depots by number.
-pub fn depots(table: &[u8], day: &[u8], at: usize, n: usize) -> [usize; 64]
-    ensures { 64 ≡ length result }
-{
-    let bytes = part(day, at, n);
-    let mut column = [0usize; 64];
-    let mut i = 0;
-    while i < 64 {
-        column[i] = value(table, byte_at(bytes, i)) as usize;
-        i += 1;
-    }
-    column
-}
-
-// The first `n` ids, none where there are fewer.
-pub fn first_ids(column: &[u32], n: usize) -> &[u32] {
-    if n > column.len() {
-        return &column[0..0];
-    }
-    &column[0..n]
-}
-
-// The first `n` depots, none where there are fewer.
-pub fn first_depots(column: &[usize], n: usize) -> &[usize] {
-    if n > column.len() {
-        return &column[0..0];
-    }
-    &column[0..n]
+pub fn depots(table: &[u8], day: &[u8], at: usize, n: usize) -> [usize; 64] {
+    column(part(day, at, n), |byte| value(table, byte) as usize)
 }
 
 // The van at a position.

@@ -54,19 +54,14 @@ fn times_size(said: usize, l: usize) -> usize {
 
 // From one position to another.
 pub fn gap(from: usize, to: usize) -> usize {
-    if to < from {
-        return 0;
-    }
-    to - from
+    to.saturating_sub(from)
 }
 
 // Where the visits end that begin at a position.
 fn visits_end(day: &[u8], lengths: usize, lists: usize, visits: usize) -> usize {
     let mut at = visits;
-    let mut i = 0;
-    while i < lists {
+    for i in 0..lists {
         at = behind(day, at, count_at(day, behind(day, lengths, i)));
-        i += 1;
     }
     at
 }
@@ -84,16 +79,16 @@ pub fn head_of(day: &[u8]) -> Head {
     let distances = behind(day, penalty, l);
     let distances_size = square(l);
     Head {
-        l: l,
-        table_size: table_size,
-        flags: flags,
-        demand: demand,
-        service: service,
-        ready: ready,
-        due: due,
-        penalty: penalty,
-        distances: distances,
-        distances_size: distances_size,
+        l,
+        table_size,
+        flags,
+        demand,
+        service,
+        ready,
+        due,
+        penalty,
+        distances,
+        distances_size,
         times_said: behind(day, distances, distances_size),
     }
 }
@@ -109,14 +104,14 @@ pub fn tail_of(day: &[u8], head: Head) -> Tail {
     let visits = behind(day, lengths, lists);
     let runs_said = visits_end(day, lengths, lists, visits);
     Tail {
-        times: times,
-        times_size: times_size,
-        van: van,
-        lists: lists,
-        lengths: lengths,
-        visits: visits,
+        times,
+        times_size,
+        van,
+        lists,
+        lengths,
+        visits,
         visits_size: gap(visits, runs_said),
-        runs_said: runs_said,
+        runs_said,
         run_count: count_at(day, runs_said),
         runs: behind(day, runs_said, 1),
     }

@@ -1,40 +1,24 @@
 // Whether a file has the stored form: every day and run as long as it says, every byte of a day's tables standing for something, no number a NaN.
 // What lies in a run isn't asked here: a run that doesn't have the form of its kind differs.
 use crate::layout::{Head, Tail, gap, head_of, tail_of};
-use sample_bytes::{behind, byte_at, count_at, is_float, is_known, pair, part, word};
+use sample_bytes::{behind, count_at, is_float, is_known, pair, part, word};
 
 // Whether every byte stands for something.
 pub fn are_known(table: &[u8], bytes: &[u8]) -> bool {
-    let mut i = 0;
-    while i < bytes.len() {
-        if !is_known(table, byte_at(bytes, i)) {
-            return false;
-        }
-        i += 1;
-    }
-    true
+    bytes.iter().all(|&byte| is_known(table, byte))
 }
 
 // Whether no word of a table is a NaN's.
 fn are_floats(table: &[u8]) -> bool {
-    let mut i = 0;
-    while i < 128 {
-        if !is_float(word(table, i)) {
-            return false;
-        }
-        i += 1;
-    }
-    true
+    (0..128).all(|number| is_float(word(table, number)))
 }
 
 // Where the runs end that begin at a position.
 fn runs_end(day: &[u8], runs: usize, count: usize) -> usize {
     let mut at = runs;
-    let mut i = 0;
-    while i < count {
+    for _ in 0..count {
         let size = count_at(day, behind(day, at, 1));
         at = behind(day, at, size + 2);
-        i += 1;
     }
     at
 }
@@ -69,14 +53,12 @@ fn day_is_whole(day: &[u8]) -> bool {
 pub fn file_is_whole(data: &[u8]) -> bool {
     let days = pair(data, 0);
     let mut at = 2;
-    let mut i = 0;
-    while i < days {
+    for _ in 0..days {
         let size = pair(data, at);
         if !day_is_whole(part(data, behind(data, at, 2), size)) {
             return false;
         }
         at = behind(data, behind(data, at, 2), size);
-        i += 1;
     }
     at == data.len()
 }

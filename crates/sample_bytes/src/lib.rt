@@ -10,24 +10,14 @@ const NOWHERE: usize = 0xffff_ffff_ffff_ffff;
 
 // The byte at a position, 0 where there is none.
 pub fn byte_at(bytes: &[u8], at: usize) -> u8 {
-    if at < bytes.len() {
-        return bytes[at];
-    }
-    0
-}
-
-// A byte as a number to count with.
-pub fn wide(byte: u8) -> usize
-    ensures { result ≤ 255 }
-{
-    byte as usize
+    bytes.get(at).copied().unwrap_or(0)
 }
 
 // The byte at a position, to count with.
 pub fn count_at(bytes: &[u8], at: usize) -> usize
     ensures { result ≤ 255 }
 {
-    wide(byte_at(bytes, at))
+    usize::from(byte_at(bytes, at))
 }
 
 // The position `n` bytes behind another.
@@ -60,7 +50,7 @@ pub fn pair(bytes: &[u8], at: usize) -> usize {
 
 // The byte at a position as a digit of a word.
 fn digit(bytes: &[u8], at: usize) -> u64 {
-    count_at(bytes, at) as u64
+    u64::from(byte_at(bytes, at))
 }
 
 // Four bytes as a number, the lowest first.
@@ -81,16 +71,15 @@ pub fn word(table: &[u8], number: usize) -> u64
 
 // Whether a byte stands for something: itself below 128, and else an entry of the day's table.
 pub fn is_known(table: &[u8], byte: u8) -> bool {
-    wide(byte) < 128 + table.len() / 8
+    usize::from(byte) < 128 + table.len() / 8
 }
 
 // What a byte stands for.
 pub fn value(table: &[u8], byte: u8) -> u64 {
-    let b = wide(byte);
-    if b < 128 {
-        return b as u64;
+    if byte < 128 {
+        return u64::from(byte);
     }
-    word(table, b - 128)
+    word(table, usize::from(byte - 128))
 }
 
 // Whether a word is the bits of a float that isn't a NaN: the exponent isn't all ones, or no digit is set.
@@ -113,11 +102,10 @@ fn float(bits: u64) -> f64 {
 
 // What a byte stands for, as a number.
 pub fn number(table: &[u8], byte: u8) -> f64 {
-    let b = wide(byte);
-    if b < 128 {
-        return std::num::nearest_u64_to_f64(b as u64);
+    if byte < 128 {
+        return f64::from(byte);
     }
-    float(word(table, b - 128))
+    float(word(table, usize::from(byte - 128)))
 }
 
 // Whether two numbers have the same bits; of a NaN it isn't said.

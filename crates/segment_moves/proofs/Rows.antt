@@ -6,6 +6,7 @@ use Prim.Native.Nat.{ℕ, suc, ◌+◌, ◌-◌, ◌≤◌}
 use native.Mathlib.Numerals.{add-one}
 use native.Mathlib.Omega.{arith}
 use lib.ListN.{length}
+use Rattle.std.specs.Prelude.{None}
 use Rattle.labels.specs.Columns.{Columns}
 use Rattle.descent.specs.Order.{range}
 use Rattle.descent.specs.Search.{first_least, taken}
@@ -15,7 +16,6 @@ use Rattle.descent.specs.Scan.{chosen}
 use Rattle.segments.specs.Segments.{last_position, search_of, judge_of, choice, to_each, piece_of}
 use Rattle.segment_moves.specs.Row.{row}
 use Rattle.segments.specs.declared.Terms.{Terms}
-use Rattle.segments.specs.declared.Best.TheVariants.{Nothing}
 use Rattle.segments.proofs.Choosing.{then_more}
 
 -- the last position is within the list, whichever it is
@@ -37,10 +37,10 @@ module _ (c : Columns) (t : Terms) (xs : List ℕ) where
       (rw (e, add-one (from + size), add-one (last_position n size)) at q)
 
   -- the choice among all, from nothing on, is what is taken
-  pub all_chosen : (size : ℕ) → choice c t xs (piece_of Nothing) (pieces last_position (length xs) size) ≡ taken (search_of c t) (judge_of c t) xs size
+  pub all_chosen : (size : ℕ) → choice c t xs (piece_of None) (pieces last_position (length xs) size) ≡ taken (search_of c t) (judge_of c t) xs size
   unfolding taken chosen piece_of
   all_chosen size = refl
 
-  pub none_chosen : (size : ℕ) → length xs ≤ size → piece_of Nothing ≡ taken (search_of c t) (judge_of c t) xs size
+  pub none_chosen : (size : ℕ) → length xs ≤ size → piece_of None ≡ taken (search_of c t) (judge_of c t) xs size
   unfolding taken first_least piece_of
   none_chosen size h = rw (too_long last_position reach (length xs) size h)

@@ -4,16 +4,17 @@
 #![tactic(auto)]
 
 ghost use Rattle.std.specs.Prelude.{◌≡◌, ◌⊎◌, suc, ◌+◌, ◌<◌, ◌≤◌, length};
-ghost use Rattle.day.specs.Matrix.{leg};
-ghost use Rattle.labels.specs.Columns.{columns_at};
+ghost use Rattle.labels.specs.Columns.{leg_in};
 ghost use Rattle.descent.specs.Order.{range};
 ghost use Rattle.descent.specs.Search.{taken};
 ghost use Rattle.deltas.specs.Deltas.{removal_gain};
 ghost use Rattle.segments.specs.Segments.{last_position, search_of, judge_of, Asked, choice, to_each, piece_of, Known};
 ghost use Rattle.segment_moves.specs.Row.{row};
+ghost use Rattle.labels.specs.Lent.{lent};
 
 use deltas_within::removal_gain;
-use segments::{Best, Segment, Terms, consider};
+use labels::columns::Columns;
+use segments::{Change, Segment, Terms, consider};
 
 // The last position that a piece may have: n minus its length, so that no piece goes to the list's end.
 fn last_position(n: usize, size: usize) -> usize
@@ -25,104 +26,75 @@ fn last_position(n: usize, size: usize) -> usize
 
 // The best with the positions from `start` up to `end`, all of them before the piece or behind it.
 fn best_between(
-    flags: &[u8],
-    service: &[f64],
-    ready: &[f64],
-    due: &[f64],
-    penalty: &[f64],
-    distances: &[f64],
-    times: &[f64],
+    columns: &Columns,
     terms: Terms,
     list: &[u16],
     piece: Segment,
     start: usize,
     end: usize,
-    best: Best,
-) -> Best
-    requires asked { Asked (columns_at terms.l flags service ready due penalty distances times) terms list.now }
+    best: Option<Change>,
+) -> Option<Change>
+    requires asked { Asked (lent columns.now) terms list.now }
     requires size_in_bounds { (piece.from + piece.size ≤ length list.now) × (end ≤ suc (length list.now)) }
     requires fact { (end ≤ piece.from) ⊎ (piece.from + piece.size ≤ start) }
-    requires gain_value { piece.gain ≡ removal_gain (leg terms.l distances.now) terms.depot list.now piece.size piece.from }
-    requires known { Known (columns_at terms.l flags service ready due penalty distances times) terms list.now best }
-    ensures { let c = columns_at terms.l flags.entry service.entry ready.entry due.entry penalty.entry distances.entry times.entry in
+    requires gain_value { piece.gain ≡ removal_gain (leg_in (lent columns.now)) terms.depot list.now piece.size piece.from }
+    requires known { Known (lent columns.now) terms list.now best }
+    ensures { let c = lent columns.now in
         (piece_of result ≡ choice c terms list.now (piece_of best) (to_each piece.size piece.from (range start end)))
         × Known c terms list.now result }
 {
     let mut found = best;
-    let mut to = start;
-    while to < end {
-        found = consider(
-            flags, service, ready, due, penalty, distances, times, terms, list, piece, to, found,
-        );
-        to += 1;
+    for to in start..end {
+        found = consider(columns, terms, list, piece, to, found);
     }
     found
 }
 
 // The best with the piece at `from`, at every position but those from its start to its end.
 fn best_from(
-    flags: &[u8],
-    service: &[f64],
-    ready: &[f64],
-    due: &[f64],
-    penalty: &[f64],
-    distances: &[f64],
-    times: &[f64],
+    columns: &Columns,
     terms: Terms,
     list: &[u16],
     size: usize,
     from: usize,
-    best: Best,
-) -> Best
-    requires asked { Asked (columns_at terms.l flags service ready due penalty distances times) terms list.now }
+    best: Option<Change>,
+) -> Option<Change>
+    requires asked { Asked (lent columns.now) terms list.now }
     requires size_in_bounds { from + size ≤ length list.now }
-    requires known { Known (columns_at terms.l flags service ready due penalty distances times) terms list.now best }
-    ensures { let c = columns_at terms.l flags.entry service.entry ready.entry due.entry penalty.entry distances.entry times.entry in
+    requires known { Known (lent columns.now) terms list.now best }
+    ensures { let c = lent columns.now in
         (piece_of result ≡ choice c terms list.now (piece_of best) (row (length list.now) size from))
         × Known c terms list.now result }
 {
-    let gain = removal_gain(terms.l, distances, terms.depot, list, size, from);
-    let piece = Segment { size, from, gain };
-    let before = best_between(
-        flags, service, ready, due, penalty, distances, times, terms, list, piece, 0, from, best,
+    let gain = removal_gain(
+        columns.locations,
+        columns.distances,
+        terms.depot,
+        list,
+        size,
+        from,
     );
+    let piece = Segment { size, from, gain };
+    let before = best_between(columns, terms, list, piece, 0, from, best);
     let start = from + size + 1;
     let end = last_position(list.len(), size) + 1;
-    best_between(
-        flags, service, ready, due, penalty, distances, times, terms, list, piece, start, end,
-        before,
-    )
+    best_between(columns, terms, list, piece, start, end, before)
 }
 
 // The first least of all changes with a piece of `size` visits, which is shorter than the list.
-pub fn best_piece(
-    flags: &[u8],
-    service: &[f64],
-    ready: &[f64],
-    due: &[f64],
-    penalty: &[f64],
-    distances: &[f64],
-    times: &[f64],
-    terms: Terms,
-    list: &[u16],
-    size: usize,
-) -> Best
-    requires asked { Asked (columns_at terms.l flags service ready due penalty distances times) terms list.now }
+pub fn best_piece(columns: &Columns, terms: Terms, list: &[u16], size: usize) -> Option<Change>
+    requires asked { Asked (lent columns.now) terms list.now }
     requires size_bound { size < 4 }
-    ensures { let c = columns_at terms.l flags.entry service.entry ready.entry due.entry penalty.entry distances.entry times.entry in
+    ensures { let c = lent columns.now in
         piece_of result ≡ taken (search_of c terms) (judge_of c terms) list.now size }
 {
     let n = list.len();
     if n < size + 1 {
-        return Best::Nothing;
+        return None;
     }
-    let mut best = Best::Nothing;
-    let mut from = 0;
-    while from + size <= n {
-        best = best_from(
-            flags, service, ready, due, penalty, distances, times, terms, list, size, from, best,
-        );
-        from += 1;
+    let mut best = None;
+    for from in 0..n - size + 1 {
+        best = best_from(columns, terms, list, size, from, best);
     }
     best
 }

@@ -2,12 +2,14 @@
 -- code's one test against the best so far is that of descent's scans (proofs/Scanning.antt). Assumes nothing.
 use mathlib.Core.Path.{◌≡◌, sym, ap, ◌∙◌}
 use mathlib.Core.Bool.{Bool, true, false, not, ◌&&◌}
-use mathlib.Core.Option.{Option, some}
+use mathlib.Core.Option as maybe
+use mathlib.Core.Option.{some}
 use mathlib.Core.List.{List, [], ◌∷◌, ◌++◌, map, map-append}
 use Prim.Native.Nat.{ℕ, suc, ◌+◌, ◌≤◌, ◌<◌}
 use native.Mathlib.Numerals.{add-one}
 use borrow.Author.Tests.{not-true, not-false}
 use lib.Ieee.{Float, neg, lt}
+use Rattle.std.specs.Prelude.{Option, Some, None}
 use Rattle.numbers.specs.Operations.{◌⊖◌}
 use Rattle.tests.specs.All.{and_left, and_right}
 use Rattle.labels.specs.Columns.{Columns}
@@ -25,29 +27,27 @@ use Rattle.engine.specs.Engine.{passing}
 use Rattle.segments.specs.Segments.{search_of, road_map, delta_at, Asked, choice, placed, piece_of, bar_of, Known}
 use Rattle.segments.specs.declared.Terms.{Terms}
 use Rattle.segments.specs.declared.Change.{Change}
-use Rattle.segments.specs.declared.Best.{Best}
-use Rattle.segments.specs.declared.Best.TheVariants.{Nothing, Move}
 
 -- ---- part by part
 
 module _ {C : Type 0} (may : C → Bool) (less : C → C → Bool) where
   -- a turn of `for k in a..b` over one candidate, or over several; and the end
-  pub turn_one : (f : ℕ → C) (o newer : Option C) (k e : ℕ) → k < e → newer ≡ chosen may less o (f k ∷ [])
+  pub turn_one : (f : ℕ → C) (o newer : maybe.Option C) (k e : ℕ) → k < e → newer ≡ chosen may less o (f k ∷ [])
       → chosen may less newer (map f (range (k + 1) e)) ≡ chosen may less o (map f (range k e))
   turn_one f o newer k e h q = rw (add-one k, range_step k e h, q) (sym (chosen_append may less o (f k ∷ []) (map f (range (suc k) e))))
 
-  pub end_one : (f : ℕ → C) (o : Option C) (k e : ℕ) → e ≤ k → chosen may less o (map f (range k e)) ≡ o
+  pub end_one : (f : ℕ → C) (o : maybe.Option C) (k e : ℕ) → e ≤ k → chosen may less o (map f (range k e)) ≡ o
   end_one f o k e h = rw (range_done k e h) (chosen_none may less o)
 
-  pub turn_each : (f : ℕ → List C) (o newer : Option C) (k e : ℕ) → k < e → newer ≡ chosen may less o (f k)
+  pub turn_each : (f : ℕ → List C) (o newer : maybe.Option C) (k e : ℕ) → k < e → newer ≡ chosen may less o (f k)
       → chosen may less newer (each (range (k + 1) e) f) ≡ chosen may less o (each (range k e) f)
   turn_each f o newer k e h q = rw (add-one k, range_step k e h, q) (sym (chosen_append may less o (f k) (each (range (suc k) e) f)))
 
-  pub end_each : (f : ℕ → List C) (o : Option C) (k e : ℕ) → e ≤ k → chosen may less o (each (range k e) f) ≡ o
+  pub end_each : (f : ℕ → List C) (o : maybe.Option C) (k e : ℕ) → e ≤ k → chosen may less o (each (range k e) f) ≡ o
   end_each f o k e h = rw (range_done k e h) (chosen_none may less o)
 
   -- one part and then another
-  pub then_more : (f : ℕ → C) (these those : List ℕ) (o first last : Option C) → first ≡ chosen may less o (map f these)
+  pub then_more : (f : ℕ → C) (these those : List ℕ) (o first last : maybe.Option C) → first ≡ chosen may less o (map f these)
       → last ≡ chosen may less first (map f those) → last ≡ chosen may less o (map f (these ++ those))
   then_more f these those o first last p q = rw (map-append f these those, chosen_append may less o (map f these) (map f those), ← p) q
 
@@ -64,17 +64,17 @@ module _ (c : Columns) (t : Terms) (xs : List ℕ) (asked : Asked c t xs) where
   bound = neg (floor_of (road_map c t))
 
   -- the bar is what the scan's next candidate has to be below
-  bar_is : (best : Best) → Known c t xs best → bar_of t.floor best ≡ figure delta_of_segment passes bound (piece_of best)
+  bar_is : (best : Option Change) → Known c t xs best → bar_of t.floor best ≡ figure delta_of_segment passes bound (piece_of best)
   unfolding Known piece_of bar_of figure
-  bar_is Nothing known = ap neg asked.floor
-  bar_is (Move m) known = known.0
+  bar_is None known = ap neg asked.floor
+  bar_is (Some m) known = known.0
 
-  counted_is : (best : Best) → Known c t xs best → Counted delta_of_segment passes bound (piece_of best)
+  counted_is : (best : Option Change) → Known c t xs best → Counted delta_of_segment passes bound (piece_of best)
   unfolding Known piece_of Counted
-  counted_is Nothing known = tt
-  counted_is (Move m) known = rw known.0 at known.1
+  counted_is None known = tt
+  counted_is (Some m) known = rw known.0 at known.1
 
-  stays : (best : Best) (p : Piece) → (lt (delta_of_segment p) (figure delta_of_segment passes bound (piece_of best)) && passes p) ≡ false
+  stays : (best : Option Change) (p : Piece) → (lt (delta_of_segment p) (figure delta_of_segment passes bound (piece_of best)) && passes p) ≡ false
       → piece_of best ≡ choice c t xs (piece_of best) (p ∷ [])
   unfolding onward ok
   stays best p e = sym (onward_stays delta_of_segment passes bound (piece_of best) p [] e ∙ onward_end delta_of_segment passes bound (piece_of best))
@@ -86,21 +86,21 @@ module _ (c : Columns) (t : Terms) (xs : List ℕ) (asked : Asked c t xs) where
   delta_is p cost gain e f = rw (e, f)
 
   -- not below the bar; below it, but the list does not pass; below it, and the list passes
-  pub not_below : (best : Best) (p : Piece) (delta most : Float) → Known c t xs best → delta ≡ delta_at c t xs p → most ≡ bar_of t.floor best
+  pub not_below : (best : Option Change) (p : Piece) (delta most : Float) → Known c t xs best → delta ≡ delta_at c t xs p → most ≡ bar_of t.floor best
       → not (lt delta most) ≡ true → piece_of best ≡ choice c t xs (piece_of best) (p ∷ [])
   not_below best p delta most known e f test =
       stays best p (and_left (lt (delta_of_segment p) (figure delta_of_segment passes bound (piece_of best))) (passes p)
       (rw (e, f, bar_is best known) at (not-true (lt delta most) test)))
 
-  pub not-passing : (best : Best) (p : Piece) (passed : Bool) → passed ≡ passing t.needed c t.limits t.depot (put_before_lem xs p)
+  pub not-passing : (best : Option Change) (p : Piece) (passed : Bool) → passed ≡ passing t.needed c t.limits t.depot (put_before_lem xs p)
       → not passed ≡ true → piece_of best ≡ choice c t xs (piece_of best) (p ∷ [])
   not-passing best p passed f test =
       stays best p (and_right (lt (delta_of_segment p) (figure delta_of_segment passes bound (piece_of best))) (passes p) (rw (f, asked.needed) at (not-true passed test)))
 
-  pub taken_up : (best : Best) (m : Change) (most : Float) (passed : Bool) → Known c t xs best → m.delta ≡ delta_at c t xs (placed m)
+  pub taken_up : (best : Option Change) (m : Change) (most : Float) (passed : Bool) → Known c t xs best → m.delta ≡ delta_at c t xs (placed m)
       → most ≡ bar_of t.floor best → not (lt m.delta most) ≡ false
       → passed ≡ passing t.needed c t.limits t.depot (put_before_lem xs (placed m)) → not passed ≡ false
-      → (piece_of (Move m) ≡ choice c t xs (piece_of best) (placed m ∷ [])) × Known c t xs (Move m)
+      → (piece_of (Some m) ≡ choice c t xs (piece_of best) (placed m ∷ [])) × Known c t xs (Some m)
   unfolding Known piece_of onward Counted ok
   taken_up best m most passed known e f below g fine =
       let tested : (lt (delta_of_segment (placed m)) (figure delta_of_segment passes bound (piece_of best)) && passes (placed m)) ≡ true =

@@ -1,6 +1,7 @@
 -- A piece at a new position of its list, as Or-opt states it: what stays the same over a run, and the choice among candidates. For src/. Assumes nothing.
-use Rattle.std.specs.Prelude.{◌≡◌, ◌⊎◌, true, List, [], map, ℕ, ◌+◌, ◌≤◌, ◌<◌, Float}
-use Rattle.std.proofs.Math.Option.{Option, none, some}
+use Rattle.std.specs.Prelude.{◌≡◌, ◌⊎◌, true, List, [], map, ℕ, ◌+◌, ◌≤◌, ◌<◌, Float, Option, Some, None}
+use Rattle.std.proofs.Math.Option as maybe
+use Rattle.std.proofs.Math.Option.{none, some}
 use Rattle.std.specs.Float.Ieee.{neg, lt}
 use Rattle.numbers.specs.Operations.{zero64}
 use Rattle.numbers.specs.Floor.{counts}
@@ -15,8 +16,6 @@ use Rattle.deltas.specs.Judged.{Map, floor_of, delta_of, float_judge}
 use Rattle.engine.specs.Engine.{checks_of, map_of}
 use Rattle.segments.specs.declared.Terms.{Terms}
 use Rattle.segments.specs.declared.Change.{Change}
-use Rattle.segments.specs.declared.Best.{Best}
-use Rattle.segments.specs.declared.Best.TheVariants.{Nothing, Move}
 
 -- 01, Or-opt: 'position to of the original list, 0 to n minus the piece's length' (02, F-9 changes the last one)
 abbrev pub last_position : ℕ → ℕ → ℕ
@@ -59,7 +58,7 @@ pub record Fits (n : ℕ) (p : Piece) : Type 0 where
 -- ---- the choice of the first least, from the best so far on
 
 -- among Or-opt's candidates
-abbrev pub choice : Columns → Terms → List ℕ → Option Piece → List Piece → Option Piece
+abbrev pub choice : Columns → Terms → List ℕ → maybe.Option Piece → List Piece → maybe.Option Piece
 choice c t xs = chosen (ok (search_of c t) (judge_of c t) xs) (λ m best. lt (delta_at c t xs m) (delta_at c t xs best))
 
 -- the piece at a place goes to each of some positions
@@ -73,16 +72,16 @@ abbrev pub placed : Change → Piece
 placed m = record { size = m.size; from = m.from; to = m.to }
 
 -- the best so far as the definition has it
-unfoldable pub piece_of : Best → Option Piece
-piece_of Nothing = none
-piece_of (Move m) = some (placed m)
+unfoldable pub piece_of : Option Change → maybe.Option Piece
+piece_of None = none
+piece_of (Some m) = some (placed m)
 
 -- what a delta has to be below: minus the floor, and then the best delta
-unfoldable pub bar_of : Float → Best → Float
-bar_of floor Nothing = neg floor
-bar_of floor (Move m) = m.delta
+unfoldable pub bar_of : Float → Option Change → Float
+bar_of floor None = neg floor
+bar_of floor (Some m) = m.delta
 
 -- a best so far has the delta of its piece, and counts
-unfoldable pub Known : Columns → Terms → List ℕ → Best → Type 0
-Known c t xs Nothing = Unit {0}
-Known c t xs (Move m) = (m.delta ≡ delta_at c t xs (placed m)) × (counts m.delta (floor_of (road_map c t)) ≡ true)
+unfoldable pub Known : Columns → Terms → List ℕ → Option Change → Type 0
+Known c t xs None = Unit {0}
+Known c t xs (Some m) = (m.delta ≡ delta_at c t xs (placed m)) × (counts m.delta (floor_of (road_map c t)) ≡ true)

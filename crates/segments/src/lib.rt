@@ -4,24 +4,24 @@
 #![tactic(auto)]
 
 ghost use Rattle.std.specs.Prelude.{◌≡◌, [], ◌∷◌, length};
-ghost use Rattle.day.specs.Matrix.{leg};
-ghost use Rattle.labels.specs.Columns.{columns_at};
+ghost use Rattle.labels.specs.Columns.{leg_in};
 ghost use Rattle.evaluation.specs.Route.{feasible};
 ghost use Rattle.descent.specs.Within.{put_before_lem};
 ghost use Rattle.deltas.specs.Deltas.{removal_gain};
 ghost use Rattle.engine.specs.Engine.{passing};
 ghost use Rattle.segments.specs.Segments.{Asked, Fits, choice, to_each, piece_of, bar_of, Known};
+ghost use Rattle.labels.specs.Lent.{lent};
 
 use buffers::append;
 use day::vehicle::RouteLimits;
 use deltas_within::piece_insertion;
 use edits::move_piece;
 use evaluation::route::route_feasible;
+use labels::columns::Columns;
 
 // What stays the same over a run.
 #[derive(Clone, Copy)]
 pub struct Terms {
-    pub l: usize,
     pub depot: usize,
     pub limits: RouteLimits,
     // Whether a candidate has to be checked.
@@ -47,83 +47,50 @@ pub struct Change {
     pub delta: f64,
 }
 
-// The best change so far.
-#[derive(Clone, Copy)]
-pub enum Best {
-    Nothing,
-    Move(Change),
-}
-
 // What a delta has to be below.
-fn bar(floor: f64, best: Best) -> f64
+fn bar(floor: f64, best: Option<Change>) -> f64
     ensures { result ≡ bar_of floor best }
 {
     match best {
-        Best::Nothing => -floor,
-        Best::Move(change) => change.delta,
+        None => -floor,
+        Some(change) => change.delta,
     }
 }
 
 // Whether the list with the piece moved passes: it is built in a buffer of the list's length.
 fn candidate_passes(
     candidate: &mut [u16],
-    flags: &[u8],
-    service: &[f64],
-    ready: &[f64],
-    due: &[f64],
-    penalty: &[f64],
-    distances: &[f64],
-    times: &[f64],
+    columns: &Columns,
     terms: Terms,
     list: &[u16],
     size: usize,
     from: usize,
     to: usize,
 ) -> bool
-    requires asked { Asked (columns_at terms.l flags service ready due penalty distances times) terms list.now }
+    requires asked { Asked (lent columns.now) terms list.now }
     requires fits { Fits (length list.now) (record { size = size; from = from; to = to }) }
     requires candidate_len { length candidate.old ≡ length list.now }
-    ensures { result ≡ feasible
-        (columns_at terms.l flags.entry service.entry ready.entry due.entry penalty.entry distances.entry times.entry)
+    ensures { result ≡ feasible (lent columns.now)
         terms.limits terms.depot (put_before_lem list.now (record { size = size; from = from; to = to })) }
 {
     append(candidate, 0, list);
     move_piece(candidate, from, size, to);
     let limits = terms.limits;
-    route_feasible(
-        terms.l,
-        flags,
-        service,
-        ready,
-        due,
-        penalty,
-        distances,
-        times,
-        limits,
-        terms.depot,
-        candidate,
-    )
+    route_feasible(columns, limits, terms.depot, candidate)
 }
 
 // Whether the list with the piece moved passes. Where no check is needed it does, and is not built.
 fn moved_passes(
-    flags: &[u8],
-    service: &[f64],
-    ready: &[f64],
-    due: &[f64],
-    penalty: &[f64],
-    distances: &[f64],
-    times: &[f64],
+    columns: &Columns,
     terms: Terms,
     list: &[u16],
     size: usize,
     from: usize,
     to: usize,
 ) -> bool
-    requires asked { Asked (columns_at terms.l flags service ready due penalty distances times) terms list.now }
+    requires asked { Asked (lent columns.now) terms list.now }
     requires fits { Fits (length list.now) (record { size = size; from = from; to = to }) }
-    ensures { result ≡ passing terms.needed
-        (columns_at terms.l flags.entry service.entry ready.entry due.entry penalty.entry distances.entry times.entry)
+    ensures { result ≡ passing terms.needed (lent columns.now)
         terms.limits terms.depot (put_before_lem list.now (record { size = size; from = from; to = to })) }
 {
     if !terms.needed {
@@ -131,60 +98,46 @@ fn moved_passes(
     }
     let mut buffer = [0u16; 64];
     let n = list.len();
-    candidate_passes(
-        &mut buffer[0..n],
-        flags,
-        service,
-        ready,
-        due,
-        penalty,
-        distances,
-        times,
-        terms,
-        list,
-        size,
-        from,
-        to,
-    )
+    candidate_passes(&mut buffer[0..n], columns, terms, list, size, from, to)
 }
 
 // The better of the best so far and one position more: the piece goes there where that is a lesser change and passes.
 pub fn consider(
-    flags: &[u8],
-    service: &[f64],
-    ready: &[f64],
-    due: &[f64],
-    penalty: &[f64],
-    distances: &[f64],
-    times: &[f64],
+    columns: &Columns,
     terms: Terms,
     list: &[u16],
     piece: Segment,
     to: usize,
-    best: Best,
-) -> Best
-    requires asked { Asked (columns_at terms.l flags service ready due penalty distances times) terms list.now }
+    best: Option<Change>,
+) -> Option<Change>
+    requires asked { Asked (lent columns.now) terms list.now }
     requires fits { Fits (length list.now) (record { size = piece.size; from = piece.from; to = to }) }
-    requires gain_value { piece.gain ≡ removal_gain (leg terms.l distances.now) terms.depot list.now piece.size piece.from }
-    requires known { Known (columns_at terms.l flags service ready due penalty distances times) terms list.now best }
-    ensures { let c = columns_at terms.l flags.entry service.entry ready.entry due.entry penalty.entry distances.entry times.entry in
+    requires gain_value { piece.gain ≡ removal_gain (leg_in (lent columns.now)) terms.depot list.now piece.size piece.from }
+    requires known { Known (lent columns.now) terms list.now best }
+    ensures { let c = lent columns.now in
         (piece_of result ≡ choice c terms list.now (piece_of best) (to_each piece.size piece.from (to ∷ [])))
         × Known c terms list.now result }
 {
     let size = piece.size;
     let from = piece.from;
-    let cost = piece_insertion(terms.l, distances, terms.depot, list, size, from, to);
+    let cost = piece_insertion(
+        columns.locations,
+        columns.distances,
+        terms.depot,
+        list,
+        size,
+        from,
+        to,
+    );
     let delta = cost - piece.gain;
     let most = bar(terms.floor, best);
     if !(delta < most) {
         return best;
     }
-    if !moved_passes(
-        flags, service, ready, due, penalty, distances, times, terms, list, size, from, to,
-    ) {
+    if !moved_passes(columns, terms, list, size, from, to) {
         return best;
     }
-    Best::Move(Change {
+    Some(Change {
         size,
         from,
         to,

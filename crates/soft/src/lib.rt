@@ -6,7 +6,8 @@
 ghost use Rattle.std.specs.Prelude.{◌≡◌, ◌<◌, ◌≤◌, length};
 ghost use Rattle.numbers.specs.Floor.{gain_floor};
 ghost use Rattle.day.specs.Matrix.{scale_of};
-ghost use Rattle.labels.specs.Columns.{columns_at, Formed, Visits};
+ghost use Rattle.labels.specs.Columns.{Visits};
+ghost use Rattle.labels.specs.Lent.{lent};
 ghost use Rattle.engine.specs.Engine.{ended_as};
 ghost use Rattle.soft.specs.Soft.{soft_run};
 
@@ -14,21 +15,15 @@ use day::vehicle::RouteLimits;
 use day_scans::matrix::scale;
 use engine::Ended;
 use evaluation::route::effective_cost;
+use labels::columns::Columns;
+use neighbours::Neighbourhood;
 use neighbours::layout::make;
-use neighbours::{Found, Neighbourhood};
 use numbers::gain_floor;
 use soft_neighbours::best_neighbour;
 
 // Passes until none finds a neighbour, or the limit forbids a move. The cost of a list is the price of the neighbour that it was.
 fn descend(
-    l: usize,
-    flags: &[u8],
-    service: &[f64],
-    ready: &[f64],
-    due: &[f64],
-    penalty: &[f64],
-    distances: &[f64],
-    times: &[f64],
+    columns: &Columns,
     limits: RouteLimits,
     depot: usize,
     which: Neighbourhood,
@@ -37,29 +32,17 @@ fn descend(
     floor: f64,
     limit: u32,
 ) -> Ended
-    requires formed { Formed (columns_at l flags service ready due penalty distances times) }
-    requires depot_lt_l { (depot < l) × Visits l list.old }
+    requires depot_lt_l { (depot < columns.now.locations) × Visits columns.now.locations list.old }
     requires list_in_bounds { length list.old ≤ length buffer.old }
-    ensures { let run = soft_run which
-        (columns_at l flags.entry service.entry ready.entry due.entry penalty.entry distances.entry times.entry)
-        limits
-        depot
-        floor
-        limit
-        list.old in
+    ensures { let run = soft_run which (lent columns.now) limits depot floor limit list.old in
         (list.new ≡ run.last.now) × (result ≡ ended_as run.word run.moves) }
 {
     let mut moves = 0;
-    let mut cost = effective_cost(
-        l, flags, service, ready, due, penalty, distances, times, limits, depot, list,
-    );
+    let mut cost = effective_cost(columns, limits, depot, list);
     loop {
-        let best = best_neighbour(
-            l, flags, service, ready, due, penalty, distances, times, limits, depot, which, list,
-            buffer, cost, floor,
-        );
+        let best = best_neighbour(columns, limits, depot, which, list, buffer, cost, floor);
         let found = best.found;
-        let Found::At(place) = found else {
+        let Some(place) = found else {
             return Ended::Settled(moves);
         };
         if moves == limit {
@@ -73,42 +56,21 @@ fn descend(
 
 // Steepest descent over the effective cost, in one neighbourhood. The list is changed in place.
 pub fn improve(
-    l: usize,
-    flags: &[u8],
-    service: &[f64],
-    ready: &[f64],
-    due: &[f64],
-    penalty: &[f64],
-    distances: &[f64],
-    times: &[f64],
+    columns: &Columns,
     limits: RouteLimits,
     depot: usize,
     which: Neighbourhood,
     list: &mut [u16],
     limit: u32,
 ) -> Ended
-    requires formed { Formed (columns_at l flags service ready due penalty distances times) }
-    requires depot_lt_l { (depot < l) × Visits l list.old }
-    ensures { let run = soft_run which
-        (columns_at l flags.entry service.entry ready.entry due.entry penalty.entry distances.entry times.entry)
-        limits
-        depot
-        (gain_floor (scale_of distances.now))
-        limit
-        list.old in
+    requires { (depot < columns.now.locations) × Visits columns.now.locations list.old }
+    ensures { let run = soft_run which (lent columns.now) limits depot (gain_floor (scale_of columns.now.distances.now)) limit list.old in
         (list.new ≡ run.last.now) × (result ≡ ended_as run.word run.moves) }
 {
-    let floor = gain_floor(scale(distances));
+    let floor = gain_floor(scale(columns.distances));
     let mut buffer = [0u16; 64];
     descend(
-        l,
-        flags,
-        service,
-        ready,
-        due,
-        penalty,
-        distances,
-        times,
+        columns,
         limits,
         depot,
         which,

@@ -12,7 +12,6 @@ ghost use Rattle.numbers.specs.Floor.{gain_floor};
 ghost use Rattle.day.specs.Matrix.{scale_of};
 ghost use Rattle.lists.specs.Table.{lists};
 ghost use Rattle.list_changes.specs.Edits.{Edited};
-ghost use Rattle.labels.specs.Columns.{columns_at, Formed};
 ghost use Rattle.descent.specs.Search.{run};
 ghost use Rattle.engine.specs.Engine.{ended_as};
 ghost use Rattle.loads.specs.Loads.{Loaded, Held};
@@ -21,11 +20,13 @@ ghost use Rattle.soft_exchange.specs.SoftExchange.{soft_exchange_run};
 ghost use Rattle.soft_tail_candidates.specs.Candidate.{Asked};
 ghost use Rattle.list_figures.specs.Kept.{KeptFigures};
 ghost use Rattle.soft_tails.specs.Parts.{taken_at, first_at, next_of};
+ghost use Rattle.labels.specs.Lent.{lent};
 
 use day::vehicle::RouteLimits;
 use day_scans::matrix::scale;
 use engine::Ended;
 use exchange_sweeps::{Found, Place, place_after};
+use labels::columns::Columns;
 use list_changes::exchange_tails;
 use list_figures::{figure_lists, figure_two, figures_at};
 use lists::list_of;
@@ -37,14 +38,8 @@ use tail_prices::Terms;
 
 // The exchange to take at a pair of lists.
 fn best_at(
-    flags: &[u8],
+    columns: &Columns,
     demand: &[i32],
-    service: &[f64],
-    ready: &[f64],
-    due: &[f64],
-    penalty: &[f64],
-    distances: &[f64],
-    times: &[f64],
     terms: Terms,
     visits: &[u16],
     lengths: &[u16],
@@ -52,34 +47,24 @@ fn best_at(
     loads: &[usize],
     place: Place,
 ) -> Choice
-    requires asked { Asked (columns_at terms.l flags service ready due penalty distances times) demand.now terms }
-    requires held { Held terms.l visits.now lengths.now × (place.one < place.other) × (place.other < length lengths.now) }
-    requires kept_figures { KeptFigures (columns_at terms.l flags service ready due penalty distances times) demand.now terms
-        (lists visits.now lengths.now) (length lengths.now) costs.now loads.now }
-    ensures { moved_by (pair_at place) result.cut1 result.cut2 ≡ taken_at
-        (columns_at terms.l flags.entry service.entry ready.entry due.entry penalty.entry distances.entry times.entry)
+    requires asked { Asked (lent columns.now) demand.now terms }
+    requires held { Held columns.now.locations visits.now lengths.now × (place.one < place.other) × (place.other < length lengths.now) }
+    requires kept_figures { KeptFigures (lent columns.now) demand.now terms (lists visits.now lengths.now) (length lengths.now) costs.now loads.now }
+    ensures { moved_by (pair_at place) result.cut1 result.cut2 ≡ taken_at (lent columns.now)
         demand.now terms (lists visits.now lengths.now) (pair_at place) }
 {
     let one = list_of(visits, lengths, place.one);
     let other = list_of(visits, lengths, place.other);
     let figures = figures_at(costs, loads, place.one, place.other);
-    best_exchange_of(
-        flags, demand, service, ready, due, penalty, distances, times, terms, one, other, figures,
-    )
+    best_exchange_of(columns, demand, terms, one, other, figures)
 }
 
 // ---- moves
 
 // The first move from a place of the sweep on.
 fn first_move(
-    flags: &[u8],
+    columns: &Columns,
     demand: &[i32],
-    service: &[f64],
-    ready: &[f64],
-    due: &[f64],
-    penalty: &[f64],
-    distances: &[f64],
-    times: &[f64],
     terms: Terms,
     visits: &[u16],
     lengths: &[u16],
@@ -87,23 +72,17 @@ fn first_move(
     loads: &[usize],
     start: Place,
 ) -> Found
-    requires asked { Asked (columns_at terms.l flags service ready due penalty distances times) demand.now terms }
-    requires held { Held terms.l visits.now lengths.now × InSweep (length lengths.now) start }
-    requires kept_figures { KeptFigures (columns_at terms.l flags service ready due penalty distances times) demand.now terms
-        (lists visits.now lengths.now) (length lengths.now) costs.now loads.now }
+    requires asked { Asked (lent columns.now) demand.now terms }
+    requires held { Held columns.now.locations visits.now lengths.now × InSweep (length lengths.now) start }
+    requires kept_figures { KeptFigures (lent columns.now) demand.now terms (lists visits.now lengths.now) (length lengths.now) costs.now loads.now }
     ensures { let ls = lists visits.now lengths.now in
-        (leads ls result ≡ first_at
-        (columns_at terms.l flags.entry service.entry ready.entry due.entry penalty.entry distances.entry times.entry)
-        demand.now terms ls (from (length lengths.now) start))
+        (leads ls result ≡ first_at (lent columns.now) demand.now terms ls (from (length lengths.now) start))
         × Apt visits.now lengths.now result }
 {
     let n = lengths.len();
     let mut place = start;
     while place.other < n {
-        let best = best_at(
-            flags, demand, service, ready, due, penalty, distances, times, terms, visits, lengths,
-            costs, loads, place,
-        );
+        let best = best_at(columns, demand, terms, visits, lengths, costs, loads, place);
         if best.cut1 != 0 {
             return Found {
                 place,
@@ -122,14 +101,8 @@ fn first_move(
 
 // The next move: the first ahead in this sweep or, where there is none, the first of a new sweep.
 fn next_move(
-    flags: &[u8],
+    columns: &Columns,
     demand: &[i32],
-    service: &[f64],
-    ready: &[f64],
-    due: &[f64],
-    penalty: &[f64],
-    distances: &[f64],
-    times: &[f64],
     terms: Terms,
     visits: &[u16],
     lengths: &[u16],
@@ -137,40 +110,26 @@ fn next_move(
     loads: &[usize],
     ahead: Place,
 ) -> Found
-    requires asked { Asked (columns_at terms.l flags service ready due penalty distances times) demand.now terms }
-    requires held { Held terms.l visits.now lengths.now × InSweep (length lengths.now) ahead }
-    requires kept_figures { KeptFigures (columns_at terms.l flags service ready due penalty distances times) demand.now terms
-        (lists visits.now lengths.now) (length lengths.now) costs.now loads.now }
+    requires asked { Asked (lent columns.now) demand.now terms }
+    requires held { Held columns.now.locations visits.now lengths.now × InSweep (length lengths.now) ahead }
+    requires kept_figures { KeptFigures (lent columns.now) demand.now terms (lists visits.now lengths.now) (length lengths.now) costs.now loads.now }
     ensures { let ls = lists visits.now lengths.now in
-        (leads ls result ≡ next_of
-        (columns_at terms.l flags.entry service.entry ready.entry due.entry penalty.entry distances.entry times.entry)
+        (leads ls result ≡ next_of (lent columns.now)
         demand.now terms (record { now = ls; ahead = from (length lengths.now) ahead }))
         × Apt visits.now lengths.now result }
 {
-    let found = first_move(
-        flags, demand, service, ready, due, penalty, distances, times, terms, visits, lengths,
-        costs, loads, ahead,
-    );
+    let found = first_move(columns, demand, terms, visits, lengths, costs, loads, ahead);
     if found.cut1 != 0 {
         return found;
     }
     let start = Place { one: 0, other: 1 };
-    first_move(
-        flags, demand, service, ready, due, penalty, distances, times, terms, visits, lengths,
-        costs, loads, start,
-    )
+    first_move(columns, demand, terms, visits, lengths, costs, loads, start)
 }
 
 // Moves until none is left or the limit is used up. The run starts with nothing ahead, in front of a new sweep.
 fn run_moves(
-    flags: &[u8],
+    columns: &Columns,
     demand: &[i32],
-    service: &[f64],
-    ready: &[f64],
-    due: &[f64],
-    penalty: &[f64],
-    distances: &[f64],
-    times: &[f64],
     terms: Terms,
     visits: &mut [u16],
     lengths: &mut [u16],
@@ -178,21 +137,14 @@ fn run_moves(
     loads: &mut [usize],
     limit: u32,
 ) -> Ended
-    requires asked { Asked (columns_at terms.l flags service ready due penalty distances times) demand.now terms }
-    requires held { Held terms.l visits.old lengths.old }
+    requires asked { Asked (lent columns.now) demand.now terms }
+    requires held { Held columns.now.locations visits.old lengths.old }
     requires costs_len { (length costs.old ≡ 16) × (length loads.old ≡ 16) }
-    ensures { let run = run
-        (next_of
-        (columns_at terms.l flags.entry service.entry ready.entry due.entry penalty.entry distances.entry times.entry)
-        demand.now terms)
-        limit (record { now = lists visits.old lengths.old; ahead = [] })
-        in Edited visits.old lengths.old visits.new lengths.new run.last.now
+    ensures { let run = run (next_of (lent columns.now) demand.now terms)
+        limit (record { now = lists visits.old lengths.old; ahead = [] }) in Edited visits.old lengths.old visits.new lengths.new run.last.now
         × (result ≡ ended_as run.word run.moves) }
 {
-    figure_lists(
-        flags, demand, service, ready, due, penalty, distances, times, terms, visits, lengths,
-        costs, loads,
-    );
+    figure_lists(columns, demand, terms, visits, lengths, costs, loads);
     let n = lengths.len();
     let mut moves = 0;
     let mut ahead = Place {
@@ -200,10 +152,7 @@ fn run_moves(
         other: n + 1,
     };
     loop {
-        let found = next_move(
-            flags, demand, service, ready, due, penalty, distances, times, terms, visits, lengths,
-            costs, loads, ahead,
-        );
+        let found = next_move(columns, demand, terms, visits, lengths, costs, loads, ahead);
         if found.cut1 == 0 {
             return Ended::Settled(moves);
         }
@@ -220,14 +169,8 @@ fn run_moves(
             found.cut2,
         );
         figure_two(
-            flags,
+            columns,
             demand,
-            service,
-            ready,
-            due,
-            penalty,
-            distances,
-            times,
             terms,
             visits,
             lengths,
@@ -243,15 +186,8 @@ fn run_moves(
 
 // Soft tail exchange of the lists of a call, up to a limit of moves. An emptied list is no case: each head keeps a visit.
 pub fn improve(
-    l: usize,
-    flags: &[u8],
+    columns: &Columns,
     demand: &[i32],
-    service: &[f64],
-    ready: &[f64],
-    due: &[f64],
-    penalty: &[f64],
-    distances: &[f64],
-    times: &[f64],
     limits: RouteLimits,
     capacity: i32,
     depot: usize,
@@ -259,18 +195,16 @@ pub fn improve(
     lengths: &mut [u16],
     limit: u32,
 ) -> Ended
-    requires formed { Formed (columns_at l flags service ready due penalty distances times) × Loaded l demand.now }
-    requires capacity_value { (le_z (pos 0) capacity ≡ true) × (depot < l) × Held l visits.old lengths.old }
-    ensures { let run = soft_exchange_run
-        (columns_at l flags.entry service.entry ready.entry due.entry penalty.entry distances.entry times.entry)
-        demand.now limits capacity depot (gain_floor (scale_of distances.now)) limit
+    requires loaded { Loaded columns.now.locations demand.now }
+    requires capacity_value { (le_z (pos 0) capacity ≡ true) × (depot < columns.now.locations) × Held columns.now.locations visits.old lengths.old }
+    ensures { let run = soft_exchange_run (lent columns.now)
+        demand.now limits capacity depot (gain_floor (scale_of columns.now.distances.now)) limit
         (lists visits.old lengths.old)
         in Edited visits.old lengths.old visits.new lengths.new run.last.now
         × (result ≡ ended_as run.word run.moves) }
 {
-    let floor = gain_floor(scale(distances));
+    let floor = gain_floor(scale(columns.distances));
     let terms = Terms {
-        l,
         depot,
         limits,
         capacity: boxes_in(capacity),
@@ -279,7 +213,6 @@ pub fn improve(
     let mut costs = [0.0; 16];
     let mut loads = [0; 16];
     run_moves(
-        flags, demand, service, ready, due, penalty, distances, times, terms, visits, lengths,
-        &mut costs, &mut loads, limit,
+        columns, demand, terms, visits, lengths, &mut costs, &mut loads, limit,
     )
 }

@@ -7,6 +7,7 @@ use mathlib.Core.List.{List, [], ◌∷◌}
 use Prim.Native.Nat.{ℕ}
 use lib.ListN.{length}
 use lib.Ieee.{Float, lt}
+use Rattle.std.specs.Prelude.{Some, None}
 use Rattle.numbers.specs.Operations.{◌⊖◌}
 use Rattle.numbers.proofs.Total.{lt_trans}
 use Rattle.descent.specs.Search.{least, first_least, ok, taken}
@@ -17,7 +18,6 @@ use Rattle.neighbours.specs.Places.{meant, Inside}
 use Rattle.soft_neighbours.specs.Chosen.{chosen, better, Known}
 use Rattle.neighbours.specs.declared.Neighbourhood.{Neighbourhood}
 use Rattle.neighbours.specs.declared.Place.{Place}
-use Rattle.neighbours.specs.declared.Found.TheVariants.{Nothing, At}
 use Rattle.soft_neighbours.specs.declared.Best.{Best}
 
 module _ {C : Type 0} (cost : C → Float) where
@@ -84,13 +84,13 @@ module _ (cost : Neighbour → Float) where
   unfolding better chosen pick
   pick_turn best place price cs e = rw e (go (lt (cost (meant place)) best.bound))
     where
-      go : (b : Bool) → (let r = cond b (record { bound = cost (meant place); found = At place }) best in
+      go : (b : Bool) → (let r = cond b (record { bound = cost (meant place); found = Some place }) best in
           ◌≡◌ {A = Option Neighbour} (pick cost r.bound (chosen r.found) cs)
           (elim b [ true ↦ pick cost (cost (meant place)) (some (meant place)) cs | false ↦ pick cost best.bound (chosen best.found) cs ]))
       go true = refl
       go false = refl
 
-  pub known_none : (n : ℕ) (bound : Float) → Known cost n (record { bound = bound; found = Nothing })
+  pub known_none : (n : ℕ) (bound : Float) → Known cost n (record { bound = bound; found = None })
   unfolding Known
   known_none n bound = tt
 
@@ -99,11 +99,11 @@ module _ (cost : Neighbour → Float) where
   unfolding Known better
   known_turn n best place price e inside known = go (lt price best.bound)
     where
-      go : (b : Bool) → Known cost n (cond b (record { bound = price; found = At place }) best)
+      go : (b : Bool) → Known cost n (cond b (record { bound = price; found = Some place }) best)
       go true = (inside, e)
       go false = known
 
-  pub known_at : (n : ℕ) (best : Best) (place : Place) → Known cost n best → best.found ≡ At place
+  pub known_at : (n : ℕ) (best : Best) (place : Place) → Known cost n best → best.found ≡ Some place
       → Inside n place × (best.bound ≡ cost (meant place))
   unfolding Known
   known_at n best place known e = rw e at known

@@ -6,6 +6,7 @@ use Prim.Native.Nat.{ℕ, suc, ◌<◌}
 use native.Mathlib.Omega.{arith}
 use lib.ListN.{length}
 use lib.Ieee.{Float}
+use Rattle.std.specs.Prelude.{Option, Some, None}
 use Rattle.numbers.specs.Operations.{◌⊖◌}
 use Rattle.descent.specs.Search.{taken}
 use Rattle.neighbours.specs.Neighbours.{Neighbour, neighbours, made}
@@ -15,46 +16,44 @@ use Rattle.soft_neighbours.specs.Chosen.{chosen, better, Known}
 use Rattle.soft_neighbours.proofs.Choice.{pick, pick-taken, pick_turn, known_none, known_turn}
 use Rattle.neighbours.specs.declared.Neighbourhood.{Neighbourhood}
 use Rattle.neighbours.specs.declared.Place.{Place}
-use Rattle.neighbours.specs.declared.Found.{Found}
-use Rattle.neighbours.specs.declared.Found.TheVariants.{Nothing, At}
 use Rattle.soft_neighbours.specs.declared.Best.{Best}
 
 -- what the rest of the scan chooses is what the whole chooses; the best so far is priced, and the scan stands at a place
-pub record Scanning (cost : Neighbour → Float) (n : ℕ) (best₀ : Best) (here₀ : Found) (best : Best) (here : Found) : Type 0 where
+pub record Scanning (cost : Neighbour → Float) (n : ℕ) (best₀ : Best) (here₀ : Option Place) (best : Best) (here : Option Place) : Type 0 where
   pub same : pick cost best.bound (chosen best.found) (rest n here) ≡ pick cost best₀.bound (chosen best₀.found) (rest n here₀)
   pub known : Known cost n best
   pub inside : InsideAny n here
 
-pub scan_starts : (cost : Neighbour → Float) (n : ℕ) (bound : Float) (here : Found) → InsideAny n here
-    → Scanning cost n (record { bound = bound; found = Nothing }) here (record { bound = bound; found = Nothing }) here
+pub scan_starts : (cost : Neighbour → Float) (n : ℕ) (bound : Float) (here : Option Place) → InsideAny n here
+    → Scanning cost n (record { bound = bound; found = None }) here (record { bound = bound; found = None }) here
 scan_starts cost n bound here inside = record { same = refl; known = known_none cost n bound; inside = inside }
 
-pub inside_at : (n : ℕ) (here : Found) (place : Place) → here ≡ At place → InsideAny n here → Inside n place
+pub inside_at : (n : ℕ) (here : Option Place) (place : Place) → here ≡ Some place → InsideAny n here → Inside n place
 unfolding InsideAny
 inside_at n here place e inside = rw e at inside
 
-pub scan_turns : (cost : Neighbour → Float) (n : ℕ) (best₀ : Best) (here₀ : Found) (best : Best) (here : Found) (place : Place) (price : Float)
-    (new : Best) (then : Found) → Scanning cost n best₀ here₀ best here → here ≡ At place → price ≡ cost (meant place)
+pub scan_turns : (cost : Neighbour → Float) (n : ℕ) (best₀ : Best) (here₀ : Option Place) (best : Best) (here : Option Place) (place : Place) (price : Float)
+    (new : Best) (then : Option Place) → Scanning cost n best₀ here₀ best here → here ≡ Some place → price ≡ cost (meant place)
     → new ≡ better best price place → Follows n place then
     → Scanning cost n best₀ here₀ new then
 unfolding rest
 scan_turns cost n best₀ here₀ best here place price new then s at e b f = rw b record {
   same = pick_turn cost best place price (rest n then) e ∙ ap (pick cost best.bound (chosen best.found)) (sym f.same)
-      ∙ ap (λ (h : Found). pick cost best.bound (chosen best.found) (rest n h)) (sym at) ∙ s.same;
+      ∙ ap (λ (h : Option Place). pick cost best.bound (chosen best.found) (rest n h)) (sym at) ∙ s.same;
   known = known_turn cost n best place price e (inside_at n here place at s.inside) s.known;
   inside = f.inside;
 }
 
-pub fewer : (n : ℕ) (here : Found) (place : Place) (then : Found) → here ≡ At place → Follows n place then
+pub fewer : (n : ℕ) (here : Option Place) (place : Place) (then : Option Place) → here ≡ Some place → Follows n place then
     → length (rest n then) < length (rest n here)
 unfolding rest
 fewer n here place then at f =
-    let one : length (rest n here) ≡ suc (length (rest n then)) = ap (λ (h : Found). length (rest n h)) at ∙ ap length f.same in
+    let one : length (rest n here) ≡ suc (length (rest n then)) = ap (λ (h : Option Place). length (rest n h)) at ∙ ap length f.same in
     omega arith
 
-pub scan_ends : (which : Neighbourhood) (price : List ℕ → Float) (cost floor : Float) (xs : List ℕ) (here₀ : Found) (best : Best) (here : Found)
+pub scan_ends : (which : Neighbourhood) (price : List ℕ → Float) (cost floor : Float) (xs : List ℕ) (here₀ : Option Place) (best : Best) (here : Option Place)
     → cost ≡ price xs → rest (length xs) here₀ ≡ neighbours which (length xs)
-    → Scanning (λ m. price (made xs m)) (length xs) (record { bound = cost ⊖ floor; found = Nothing }) here₀ best here → here ≡ Nothing
+    → Scanning (λ m. price (made xs m)) (length xs) (record { bound = cost ⊖ floor; found = None }) here₀ best here → here ≡ None
     → (chosen best.found ≡ taken (soft_search which) (soft_judge price floor) xs tt) × Known (λ m. price (made xs m)) (length xs) best
 unfolding rest pick chosen
 scan_ends which price cost floor xs here₀ best here e all s end =

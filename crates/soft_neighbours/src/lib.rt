@@ -7,7 +7,8 @@
 #![tactic(auto)]
 
 ghost use Rattle.std.specs.Prelude.{◌≡◌, ◌<◌, ◌≤◌, length};
-ghost use Rattle.labels.specs.Columns.{columns_at, Formed, Visits};
+ghost use Rattle.labels.specs.Columns.{Visits};
+ghost use Rattle.labels.specs.Lent.{lent};
 ghost use Rattle.evaluation.specs.Route.{effective_cost};
 ghost use Rattle.heads.specs.Head.{Driven};
 ghost use Rattle.descent.specs.Search.{taken};
@@ -19,15 +20,16 @@ ghost use Rattle.soft_neighbours.specs.Chosen.{chosen, better, Known};
 use day::vehicle::RouteLimits;
 use head_prices::price_from;
 use heads::{Head, at_depot, reach};
+use labels::columns::Columns;
 use layouts::lay_out;
 use neighbours::layout::layout_of;
-use neighbours::{Found, Neighbourhood, Place, after, first_place};
+use neighbours::{Neighbourhood, Place, after, first_place};
 
 // The best neighbour so far, and the cost that a better one must be below.
 #[derive(Clone, Copy)]
 pub struct Best {
     pub bound: f64,
-    pub found: Found,
+    pub found: Option<Place>,
 }
 
 impl Best {
@@ -38,7 +40,7 @@ impl Best {
         if price < self.bound {
             return Best {
                 bound: price,
-                found: Found::At(place),
+                found: Some(place),
             };
         }
         self
@@ -54,14 +56,7 @@ pub struct Priced {
 
 // What the neighbour at a place costs, priced from the end of the head that it shares with the list.
 fn price_of(
-    l: usize,
-    flags: &[u8],
-    service: &[f64],
-    ready: &[f64],
-    due: &[f64],
-    penalty: &[f64],
-    distances: &[f64],
-    times: &[f64],
+    columns: &Columns,
     limits: RouteLimits,
     depot: usize,
     list: &[u16],
@@ -69,37 +64,21 @@ fn price_of(
     last: Head,
     place: Place,
 ) -> Priced
-    requires formed { Formed (columns_at l flags service ready due penalty distances times) }
-    requires depot_lt_l { (depot < l) × Visits l list.now }
+    requires depot_lt_l { (depot < columns.now.locations) × Visits columns.now.locations list.now }
     requires list_in_bounds { (length list.now ≤ length buffer.old) × Inside (length list.now) place }
-    requires driven { Driven (columns_at l flags service ready due penalty distances times) limits.rest depot list.now last }
-    ensures { let c = columns_at l flags.entry service.entry ready.entry due.entry penalty.entry distances.entry times.entry in
+    requires driven { Driven (lent columns.now) limits.rest depot list.now last }
+    ensures { let c = lent columns.now in
         (result.price ≡ effective_cost c limits depot (made list.now (meant place)))
         × Driven c limits.rest depot list.now result.head }
 {
     let n = list.len();
     let p = layout_of(n, place);
     let rest = limits.rest;
-    let head = reach(
-        l, flags, service, ready, due, penalty, distances, times, rest, depot, list, last, p.b,
-    );
+    let head = reach(columns, rest, depot, list, last, p.b);
     let from = head.visits;
     lay_out(buffer, list, p, from);
     let count = n - from;
-    let price = price_from(
-        l,
-        flags,
-        service,
-        ready,
-        due,
-        penalty,
-        distances,
-        times,
-        limits,
-        depot,
-        head,
-        &buffer[0..count],
-    );
+    let price = price_from(columns, limits, depot, head, &buffer[0..count]);
     Priced {
         price: price,
         head: head,
@@ -108,14 +87,7 @@ fn price_of(
 
 // One pass: the first least of the neighbours that beat the list's cost by more than the floor.
 pub fn best_neighbour(
-    l: usize,
-    flags: &[u8],
-    service: &[f64],
-    ready: &[f64],
-    due: &[f64],
-    penalty: &[f64],
-    distances: &[f64],
-    times: &[f64],
+    columns: &Columns,
     limits: RouteLimits,
     depot: usize,
     which: Neighbourhood,
@@ -124,32 +96,25 @@ pub fn best_neighbour(
     cost: f64,
     floor: f64,
 ) -> Best
-    requires formed { Formed (columns_at l flags service ready due penalty distances times) }
-    requires depot_lt_l { (depot < l) × Visits l list.now }
+    requires depot_lt_l { (depot < columns.now.locations) × Visits columns.now.locations list.now }
     requires list_in_bounds { length list.now ≤ length buffer.old }
-    requires cost_value { cost ≡ effective_cost (columns_at l flags service ready due penalty distances times) limits depot list.now }
-    ensures { let price = effective_cost
-        (columns_at l flags.entry service.entry ready.entry due.entry penalty.entry distances.entry times.entry)
-        limits
-        depot in
+    requires cost_value { cost ≡ effective_cost (lent columns.now) limits depot list.now }
+    ensures { let price = effective_cost (lent columns.now) limits depot in
         let xs = list.now in
         (chosen result.found ≡ taken (soft_search which) (soft_judge price floor) xs tt) × Known (λ m. price (made xs m)) (length xs) result }
 {
     let n = list.len();
     let mut best = Best {
         bound: cost - floor,
-        found: Found::Nothing,
+        found: None,
     };
     let mut head = at_depot(depot);
     let mut here = first_place(which, n);
     loop {
-        let Found::At(place) = here else {
+        let Some(place) = here else {
             return best;
         };
-        let priced = price_of(
-            l, flags, service, ready, due, penalty, distances, times, limits, depot, list, buffer,
-            head, place,
-        );
+        let priced = price_of(columns, limits, depot, list, buffer, head, place);
         head = priced.head;
         best = best.or(priced.price, place);
         here = after(n, place);

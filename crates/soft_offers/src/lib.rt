@@ -5,22 +5,22 @@
 #![tactic(auto)]
 
 ghost use Rattle.std.specs.Prelude.{◌≡◌, ◌<◌, ◌≤◌, length};
-ghost use Rattle.labels.specs.Columns.{columns_at};
 ghost use Rattle.descent.specs.Order.{range};
 ghost use Rattle.loads.specs.Loads.{Loaded, Held};
 ghost use Rattle.pairs.specs.Pairs.{nothing};
 ghost use Rattle.soft_places.specs.Places.{Prepared, DrivenBy};
 ghost use Rattle.soft_visit_offers.specs.Offer.{TwoOf, Known};
 ghost use Rattle.soft_offers.specs.Offers.{bound, best_offers, best_priced, BestOf};
+ghost use Rattle.labels.specs.Lent.{lent};
 
 use heads::{Head, at_depot, reach};
+use labels::columns::Columns;
 use lists::{length_of, list_of};
 use loads::load_of;
 use numbers::is_finite;
 use pairs::Choice;
 use soft_places::{Setup, price_of};
 use soft_visit_offers::{Pair, offer_visit};
-use tests::both;
 
 // No move.
 fn nothing_below(bound: f64) -> Choice
@@ -39,53 +39,30 @@ fn nothing_below(bound: f64) -> Choice
 // The best move of a pair of lists that have a price.
 fn best_of_pair(
     setup: Setup,
-    flags: &[u8],
-    service: &[f64],
-    ready: &[f64],
-    due: &[f64],
-    penalty: &[f64],
-    distances: &[f64],
-    times: &[f64],
+    columns: &Columns,
     demand: &[i32],
     giver: &[u16],
     receiver: &[u16],
     buffer: &mut [u16],
     pair: Pair,
 ) -> Choice
-    requires prepared { Prepared setup (columns_at setup.l flags service ready due penalty distances times) }
-    requires loaded { Loaded setup.l demand.now × (64 ≤ length buffer.old) }
-    requires two_of { TwoOf setup.l giver.now receiver.now }
-    requires known { Known (columns_at setup.l flags service ready due penalty distances times) demand.now setup giver.now receiver.now pair
+    requires prepared { Prepared setup (lent columns.now) }
+    requires loaded { Loaded columns.now.locations demand.now × (64 ≤ length buffer.old) }
+    requires two_of { TwoOf columns.now.locations giver.now receiver.now }
+    requires known { Known (lent columns.now) demand.now setup giver.now receiver.now pair
         × (pair.load ≤ 63000000) }
-    ensures { result ≡ best_offers (columns_at setup.l flags.entry service.entry ready.entry due.entry penalty.entry distances.entry times.entry)
+    ensures { result ≡ best_offers (lent columns.now)
         demand.now setup giver.now receiver.now pair (range 0 (length giver.now)) (nothing (bound setup)) }
 {
     let limits = setup.limits;
     let rest = limits.rest;
     let mut best = nothing_below(-setup.floor);
     let mut head = at_depot(setup.depot);
-    let mut position = 0;
-    while position < giver.len() {
-        head = reach(
-            setup.l,
-            flags,
-            service,
-            ready,
-            due,
-            penalty,
-            distances,
-            times,
-            rest,
-            setup.depot,
-            giver,
-            head,
-            position,
-        );
+    for position in 0..giver.len() {
+        head = reach(columns, rest, setup.depot, giver, head, position);
         best = offer_visit(
-            setup, flags, service, ready, due, penalty, distances, times, demand, giver, receiver,
-            buffer, pair, head, position, best,
+            setup, columns, demand, giver, receiver, buffer, pair, head, position, best,
         );
-        position += 1;
     }
     best
 }
@@ -93,13 +70,7 @@ fn best_of_pair(
 // The best move of two lists: none where one of them has no price.
 fn best_priced(
     setup: Setup,
-    flags: &[u8],
-    service: &[f64],
-    ready: &[f64],
-    due: &[f64],
-    penalty: &[f64],
-    distances: &[f64],
-    times: &[f64],
+    columns: &Columns,
     demand: &[i32],
     giver: &[u16],
     receiver: &[u16],
@@ -107,22 +78,17 @@ fn best_priced(
     from: usize,
     to: usize,
 ) -> Choice
-    requires prepared { Prepared setup (columns_at setup.l flags service ready due penalty distances times) }
-    requires loaded { Loaded setup.l demand.now × (64 ≤ length buffer.old) }
-    requires two_of { TwoOf setup.l giver.now receiver.now }
-    ensures { result ≡ best_priced (columns_at setup.l flags.entry service.entry ready.entry due.entry penalty.entry distances.entry times.entry)
-        demand.now setup giver.now receiver.now from to }
+    requires prepared { Prepared setup (lent columns.now) }
+    requires loaded { Loaded columns.now.locations demand.now × (64 ≤ length buffer.old) }
+    requires two_of { TwoOf columns.now.locations giver.now receiver.now }
+    ensures { result ≡ best_priced (lent columns.now) demand.now setup giver.now receiver.now from to }
 {
-    let old_from = price_of(
-        setup, flags, service, ready, due, penalty, distances, times, giver,
-    );
-    let old_to = price_of(
-        setup, flags, service, ready, due, penalty, distances, times, receiver,
-    );
-    if !both(is_finite(old_from), is_finite(old_to)) {
+    let old_from = price_of(setup, columns, giver);
+    let old_to = price_of(setup, columns, receiver);
+    if !is_finite(old_from) || !is_finite(old_to) {
         return nothing_below(-setup.floor);
     }
-    let load = load_of(setup.l, demand, receiver);
+    let load = load_of(columns.locations, demand, receiver);
     let pair = Pair {
         from,
         to,
@@ -130,22 +96,13 @@ fn best_priced(
         old_to,
         load,
     };
-    best_of_pair(
-        setup, flags, service, ready, due, penalty, distances, times, demand, giver, receiver,
-        buffer, pair,
-    )
+    best_of_pair(setup, columns, demand, giver, receiver, buffer, pair)
 }
 
 // The best move out of one list into another: none where they are one, or where the giver is empty.
 pub fn best_between(
     setup: Setup,
-    flags: &[u8],
-    service: &[f64],
-    ready: &[f64],
-    due: &[f64],
-    penalty: &[f64],
-    distances: &[f64],
-    times: &[f64],
+    columns: &Columns,
     demand: &[i32],
     visits: &[u16],
     lengths: &[u16],
@@ -153,12 +110,11 @@ pub fn best_between(
     from: usize,
     to: usize,
 ) -> Choice
-    requires prepared { Prepared setup (columns_at setup.l flags service ready due penalty distances times) }
-    requires loaded { Loaded setup.l demand.now × Held setup.l visits.now lengths.now }
+    requires prepared { Prepared setup (lent columns.now) }
+    requires loaded { Loaded columns.now.locations demand.now × Held columns.now.locations visits.now lengths.now }
     requires in_bounds { 64 ≤ length buffer.old }
     requires from_in_bounds { (from < length lengths.now) × (to < length lengths.now) }
-    ensures { BestOf (columns_at setup.l flags.entry service.entry ready.entry due.entry penalty.entry distances.entry times.entry)
-        demand.now setup visits.now lengths.now from to result }
+    ensures { BestOf (lent columns.now) demand.now setup visits.now lengths.now from to result }
 {
     if from == to {
         return nothing_below(-setup.floor);
@@ -168,8 +124,5 @@ pub fn best_between(
     }
     let giver = list_of(visits, lengths, from);
     let receiver = list_of(visits, lengths, to);
-    best_priced(
-        setup, flags, service, ready, due, penalty, distances, times, demand, giver, receiver,
-        buffer, from, to,
-    )
+    best_priced(setup, columns, demand, giver, receiver, buffer, from, to)
 }

@@ -6,7 +6,8 @@
 
 ghost use Rattle.std.specs.Prelude.{◌≡◌, suc, ◌+◌, ◌-◌, ◌<◌, ◌≤◌, length, take};
 ghost use Rattle.edits.specs.Edits.{swapped, without, inserted};
-ghost use Rattle.labels.specs.Columns.{columns_at, Visits};
+ghost use Rattle.labels.specs.Columns.{Visits};
+ghost use Rattle.labels.specs.Lent.{lent};
 ghost use Rattle.descent.specs.Order.{range};
 ghost use Rattle.soft_places.specs.Prices.{giving_delta};
 ghost use Rattle.soft_places.specs.Places.{Prepared, DrivenBy, price_of, better, best_among};
@@ -17,12 +18,12 @@ use deltas_across::fixed_if;
 use evaluation::route::effective_cost;
 use head_prices::price_from;
 use heads::{Head, at_depot, reach};
+use labels::columns::Columns;
 use pairs::Choice;
 
 // What is worked out once before the first move.
 #[derive(Clone, Copy)]
 pub struct Setup {
-    pub l: usize,
     pub depot: usize,
     pub limits: RouteLimits,
     // The boxes a van holds.
@@ -74,81 +75,40 @@ fn step_on(buffer: &mut [u16], place: usize)
     requires { (place + 1 < length buffer.old) × (place ≤ 63) }
     ensures { buffer.new ≡ swapped place (place + 1) buffer.old }
 {
-    let behind = place + 1;
-    let visit = buffer[place];
-    let other = buffer[behind];
-    buffer[place] = other;
-    buffer[behind] = visit;
+    buffer.swap(place, place + 1);
 }
 
 // ---- prices
 
 // What a list is priced at: its distance plus its lateness cost.
-pub fn price_of(
-    setup: Setup,
-    flags: &[u8],
-    service: &[f64],
-    ready: &[f64],
-    due: &[f64],
-    penalty: &[f64],
-    distances: &[f64],
-    times: &[f64],
-    list: &[u16],
-) -> f64
-    requires prepared { Prepared setup (columns_at setup.l flags service ready due penalty distances times) }
-    requires visits { Visits setup.l list.now }
-    ensures { result ≡ price_of (columns_at setup.l flags.entry service.entry ready.entry due.entry penalty.entry distances.entry times.entry)
-        setup list.now }
+pub fn price_of(setup: Setup, columns: &Columns, list: &[u16]) -> f64
+    requires prepared { Prepared setup (lent columns.now) }
+    requires visits { Visits columns.now.locations list.now }
+    ensures { result ≡ price_of (lent columns.now) setup list.now }
 {
     let limits = setup.limits;
-    effective_cost(
-        setup.l,
-        flags,
-        service,
-        ready,
-        due,
-        penalty,
-        distances,
-        times,
-        limits,
-        setup.depot,
-        list,
-    )
+    effective_cost(columns, limits, setup.depot, list)
 }
 
 // What a list is priced at without the visit at a position: from the end of its head where that ends there, else whole.
 fn price_without(
     setup: Setup,
-    flags: &[u8],
-    service: &[f64],
-    ready: &[f64],
-    due: &[f64],
-    penalty: &[f64],
-    distances: &[f64],
-    times: &[f64],
+    columns: &Columns,
     list: &[u16],
     buffer: &mut [u16],
     head: Head,
     position: usize,
 ) -> f64
-    requires prepared { Prepared setup (columns_at setup.l flags service ready due penalty distances times) }
-    requires in_bounds { (64 ≤ length buffer.old) × Visits setup.l list.now × (position < length list.now) }
-    requires driven_by { DrivenBy (columns_at setup.l flags service ready due penalty distances times) setup list.now head }
-    ensures { result ≡ price_of (columns_at setup.l flags.entry service.entry ready.entry due.entry penalty.entry distances.entry times.entry)
-        setup (without list.now position) }
+    requires prepared { Prepared setup (lent columns.now) }
+    requires in_bounds { (64 ≤ length buffer.old) × Visits columns.now.locations list.now × (position < length list.now) }
+    requires driven_by { DrivenBy (lent columns.now) setup list.now head }
+    ensures { result ≡ price_of (lent columns.now) setup (without list.now position) }
 {
     if head.visits == position {
         let limits = setup.limits;
         let behind = position + 1;
         return price_from(
-            setup.l,
-            flags,
-            service,
-            ready,
-            due,
-            penalty,
-            distances,
-            times,
+            columns,
             limits,
             setup.depot,
             head,
@@ -156,46 +116,26 @@ fn price_without(
         );
     }
     let end = removed_into(buffer, list, position);
-    price_of(
-        setup,
-        flags,
-        service,
-        ready,
-        due,
-        penalty,
-        distances,
-        times,
-        &buffer[0..end],
-    )
+    price_of(setup, columns, &buffer[0..end])
 }
 
 // What taking the visit at a position out of a list changes: its price, and the fixed cost where it was the only one.
 pub fn giving_delta(
     setup: Setup,
-    flags: &[u8],
-    service: &[f64],
-    ready: &[f64],
-    due: &[f64],
-    penalty: &[f64],
-    distances: &[f64],
-    times: &[f64],
+    columns: &Columns,
     list: &[u16],
     buffer: &mut [u16],
     head: Head,
     old: f64,
     position: usize,
 ) -> f64
-    requires prepared { Prepared setup (columns_at setup.l flags service ready due penalty distances times) }
-    requires in_bounds { (64 ≤ length buffer.old) × Visits setup.l list.now × (position < length list.now) }
-    requires driven_by { DrivenBy (columns_at setup.l flags service ready due penalty distances times) setup list.now head }
-    requires value { old ≡ price_of (columns_at setup.l flags service ready due penalty distances times) setup list.now }
-    ensures { result ≡ giving_delta
-        (price_of (columns_at setup.l flags.entry service.entry ready.entry due.entry penalty.entry distances.entry times.entry) setup)
-        setup.fixed list.now position }
+    requires prepared { Prepared setup (lent columns.now) }
+    requires in_bounds { (64 ≤ length buffer.old) × Visits columns.now.locations list.now × (position < length list.now) }
+    requires driven_by { DrivenBy (lent columns.now) setup list.now head }
+    requires value { old ≡ price_of (lent columns.now) setup list.now }
+    ensures { result ≡ giving_delta (price_of (lent columns.now) setup) setup.fixed list.now position }
 {
-    let new = price_without(
-        setup, flags, service, ready, due, penalty, distances, times, list, buffer, head, position,
-    );
+    let new = price_without(setup, columns, list, buffer, head, position);
     // What a list no longer costs once it is emptied.
     let saved = fixed_if(list.len() == 1, setup.fixed);
     new - old - saved
@@ -224,24 +164,16 @@ fn better_of(offer: Offer, new: f64, best: Choice, place: usize) -> Choice
 // The best after an offer at every place of a list: the visit is put in before all others, and goes on place by place; the list's head goes on with it.
 pub fn best_place(
     setup: Setup,
-    flags: &[u8],
-    service: &[f64],
-    ready: &[f64],
-    due: &[f64],
-    penalty: &[f64],
-    distances: &[f64],
-    times: &[f64],
+    columns: &Columns,
     list: &[u16],
     buffer: &mut [u16],
     offer: Offer,
     best: Choice,
 ) -> Choice
-    requires prepared { Prepared setup (columns_at setup.l flags service ready due penalty distances times) }
+    requires prepared { Prepared setup (lent columns.now) }
     requires in_bounds { 64 ≤ length buffer.old }
-    requires visits { Visits setup.l list.now × (length list.now < 63) × (offer.visit < setup.l) }
-    ensures { result ≡ best_among
-        (price_of (columns_at setup.l flags.entry service.entry ready.entry due.entry penalty.entry distances.entry times.entry) setup)
-        list.now offer (range 0 (suc (length list.now))) best }
+    requires visits { Visits columns.now.locations list.now × (length list.now < 63) × (offer.visit < columns.now.locations) }
+    ensures { result ≡ best_among (price_of (lent columns.now) setup) list.now offer (range 0 (suc (length list.now))) best }
 {
     let limits = setup.limits;
     let rest = limits.rest;
@@ -249,37 +181,11 @@ pub fn best_place(
     let mut head = at_depot(setup.depot);
     let mut after = best;
     let mut place = 0;
+    // No counted loop: the visit goes on between two places, so that the turn of the last place ends in its middle.
     loop {
-        head = reach(
-            setup.l,
-            flags,
-            service,
-            ready,
-            due,
-            penalty,
-            distances,
-            times,
-            rest,
-            setup.depot,
-            list,
-            head,
-            place,
-        );
+        head = reach(columns, rest, setup.depot, list, head, place);
         let from = head.visits;
-        let new = price_from(
-            setup.l,
-            flags,
-            service,
-            ready,
-            due,
-            penalty,
-            distances,
-            times,
-            limits,
-            setup.depot,
-            head,
-            &buffer[from..end],
-        );
+        let new = price_from(columns, limits, setup.depot, head, &buffer[from..end]);
         after = better_of(offer, new, after, place);
         if place == list.len() {
             return after;

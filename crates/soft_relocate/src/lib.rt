@@ -12,7 +12,6 @@ ghost use Rattle.day.specs.Matrix.{scale_of};
 ghost use Rattle.day.specs.Refusal.{capacity_ok};
 ghost use Rattle.lists.specs.Table.{lists};
 ghost use Rattle.list_changes.specs.Edits.{Edited};
-ghost use Rattle.labels.specs.Columns.{columns_at, Formed};
 ghost use Rattle.engine.specs.Engine.{ended_as};
 ghost use Rattle.loads.specs.Loads.{Loaded, Held};
 ghost use Rattle.pairs.specs.Pairs.{table, Sized};
@@ -20,10 +19,12 @@ ghost use Rattle.soft_relocate.specs.SoftRelocate.{soft_relocate_run};
 ghost use Rattle.soft_places.specs.Places.{Prepared};
 ghost use Rattle.soft_relocations.specs.Relocations.{AllRight};
 ghost use Rattle.soft_relocate.specs.Running.{run_from};
+ghost use Rattle.labels.specs.Lent.{lent};
 
 use day::vehicle::RouteLimits;
 use day_scans::matrix::scale;
 use engine::Ended;
+use labels::columns::Columns;
 use list_changes::move_visit;
 use numbers::gain_floor;
 use pairs::best_pair;
@@ -33,13 +34,7 @@ use soft_relocations::{search_again, search_all};
 // Makes move after move, the least of the table, until none is left or the limit is used up.
 fn descend(
     setup: Setup,
-    flags: &[u8],
-    service: &[f64],
-    ready: &[f64],
-    due: &[f64],
-    penalty: &[f64],
-    distances: &[f64],
-    times: &[f64],
+    columns: &Columns,
     demand: &[i32],
     visits: &mut [u16],
     lengths: &mut [u16],
@@ -49,17 +44,16 @@ fn descend(
     places: &mut [u16],
     limit: u32,
 ) -> Ended
-    requires prepared { Prepared setup (columns_at setup.l flags service ready due penalty distances times) }
-    requires loaded { Loaded setup.l demand.now × Held setup.l visits.old lengths.old }
+    requires prepared { Prepared setup (lent columns.now) }
+    requires loaded { Loaded columns.now.locations demand.now × Held columns.now.locations visits.old lengths.old }
     requires in_bounds { (64 ≤ length buffer.old) × Sized (table deltas.old positions.old places.old) }
-    ensures { let c = columns_at setup.l flags.entry service.entry ready.entry due.entry penalty.entry distances.entry times.entry in
+    ensures { let c = lent columns.now in
         let run = run_from c demand.now setup limit (lists visits.old lengths.old)
         in Edited visits.old lengths.old visits.new lengths.new run.last.now
         × (result ≡ ended_as run.word run.moves) }
 {
     search_all(
-        setup, flags, service, ready, due, penalty, distances, times, demand, visits, lengths,
-        buffer, deltas, positions, places,
+        setup, columns, demand, visits, lengths, buffer, deltas, positions, places,
     );
     let mut moves = 0;
     loop {
@@ -79,8 +73,8 @@ fn descend(
             best.place,
         );
         search_again(
-            setup, flags, service, ready, due, penalty, distances, times, demand, visits, lengths,
-            buffer, deltas, positions, places, best.from, best.to,
+            setup, columns, demand, visits, lengths, buffer, deltas, positions, places, best.from,
+            best.to,
         );
         moves += 1;
     }
@@ -88,15 +82,8 @@ fn descend(
 
 // Relocate of all lists, priced whole, changed in place under their numbers, with at most `limit` moves. `fixed` is the van's fixed cost as a distance.
 pub fn improve(
-    l: usize,
-    flags: &[u8],
+    columns: &Columns,
     demand: &[i32],
-    service: &[f64],
-    ready: &[f64],
-    due: &[f64],
-    penalty: &[f64],
-    distances: &[f64],
-    times: &[f64],
     limits: RouteLimits,
     capacity: i32,
     fixed: f64,
@@ -105,18 +92,16 @@ pub fn improve(
     lengths: &mut [u16],
     limit: u32,
 ) -> Ended
-    requires formed { Formed (columns_at l flags service ready due penalty distances times) }
-    requires loaded { Loaded l demand.now × (capacity_ok capacity ≡ true) }
-    requires depot_lt_l { (depot < l) × Held l visits.old lengths.old }
-    ensures { let c = columns_at l flags.entry service.entry ready.entry due.entry penalty.entry distances.entry times.entry in
-        let run = soft_relocate_run c demand.now limits capacity fixed depot (gain_floor (scale_of distances.now)) limit
+    requires loaded { Loaded columns.now.locations demand.now × (capacity_ok capacity ≡ true) }
+    requires depot_lt_l { (depot < columns.now.locations) × Held columns.now.locations visits.old lengths.old }
+    ensures { let c = lent columns.now in
+        let run = soft_relocate_run c demand.now limits capacity fixed depot (gain_floor (scale_of columns.now.distances.now)) limit
         (lists visits.old lengths.old)
         in Edited visits.old lengths.old visits.new lengths.new run.last.now
         × (result ≡ ended_as run.word run.moves) }
 {
-    let floor = gain_floor(scale(distances));
+    let floor = gain_floor(scale(columns.distances));
     let setup = Setup {
-        l,
         depot,
         limits,
         capacity: capacity as usize,
@@ -129,13 +114,7 @@ pub fn improve(
     let mut places = [0u16; 256];
     descend(
         setup,
-        flags,
-        service,
-        ready,
-        due,
-        penalty,
-        distances,
-        times,
+        columns,
         demand,
         visits,
         lengths,

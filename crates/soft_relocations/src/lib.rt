@@ -4,12 +4,13 @@
 #![tactic(auto)]
 
 ghost use Rattle.std.specs.Prelude.{◌+◌, ◌<◌, ◌≤◌, length};
-ghost use Rattle.labels.specs.Columns.{columns_at};
 ghost use Rattle.loads.specs.Loads.{Loaded, Held};
 ghost use Rattle.pairs.specs.Pairs.{table, Sized, Before, Renewed};
 ghost use Rattle.soft_places.specs.Places.{Prepared};
 ghost use Rattle.soft_relocations.specs.Relocations.{StoredOf, StoredBothOf, RightOf, AllRight};
+ghost use Rattle.labels.specs.Lent.{lent};
 
+use labels::columns::Columns;
 use pairs::put_pair;
 use soft_offers::best_between;
 use soft_places::Setup;
@@ -17,13 +18,7 @@ use soft_places::Setup;
 // Searches a pair of lists, and puts its best move into the table.
 fn search_pair(
     setup: Setup,
-    flags: &[u8],
-    service: &[f64],
-    ready: &[f64],
-    due: &[f64],
-    penalty: &[f64],
-    distances: &[f64],
-    times: &[f64],
+    columns: &Columns,
     demand: &[i32],
     visits: &[u16],
     lengths: &[u16],
@@ -34,31 +29,22 @@ fn search_pair(
     from: usize,
     to: usize,
 )
-    requires prepared { Prepared setup (columns_at setup.l flags service ready due penalty distances times) }
-    requires loaded { Loaded setup.l demand.now × Held setup.l visits.now lengths.now }
+    requires prepared { Prepared setup (lent columns.now) }
+    requires loaded { Loaded columns.now.locations demand.now × Held columns.now.locations visits.now lengths.now }
     requires in_bounds { 64 ≤ length buffer.old }
     requires sized { Sized (table deltas.old positions.old places.old) × (from < length lengths.now) × (to < length lengths.now) }
-    ensures { StoredOf (columns_at setup.l flags.entry service.entry ready.entry due.entry penalty.entry distances.entry times.entry)
+    ensures { StoredOf (lent columns.now)
         demand.now setup visits.now lengths.now from to
         (table deltas.old positions.old places.old) (table deltas.new positions.new places.new) }
 {
-    let best = best_between(
-        setup, flags, service, ready, due, penalty, distances, times, demand, visits, lengths,
-        buffer, from, to,
-    );
+    let best = best_between(setup, columns, demand, visits, lengths, buffer, from, to);
     put_pair(deltas, positions, places, from, to, best);
 }
 
 // Searches all pairs out of one list.
 fn search_row(
     setup: Setup,
-    flags: &[u8],
-    service: &[f64],
-    ready: &[f64],
-    due: &[f64],
-    penalty: &[f64],
-    distances: &[f64],
-    times: &[f64],
+    columns: &Columns,
     demand: &[i32],
     visits: &[u16],
     lengths: &[u16],
@@ -68,36 +54,26 @@ fn search_row(
     places: &mut [u16],
     from: usize,
 )
-    requires prepared { Prepared setup (columns_at setup.l flags service ready due penalty distances times) }
-    requires loaded { Loaded setup.l demand.now × Held setup.l visits.now lengths.now }
+    requires prepared { Prepared setup (lent columns.now) }
+    requires loaded { Loaded columns.now.locations demand.now × Held columns.now.locations visits.now lengths.now }
     requires in_bounds { 64 ≤ length buffer.old }
-    requires right_of { RightOf (columns_at setup.l flags service ready due penalty distances times) demand.now setup visits.now lengths.now (Before from 0)
+    requires right_of { RightOf (lent columns.now) demand.now setup visits.now lengths.now (Before from 0)
         (table deltas.old positions.old places.old)
         × (from < length lengths.now) }
-    ensures { RightOf (columns_at setup.l flags.entry service.entry ready.entry due.entry penalty.entry distances.entry times.entry)
-        demand.now setup visits.now lengths.now (Before (from + 1) 0)
-        (table deltas.new positions.new places.new) }
+    ensures { RightOf (lent columns.now)
+        demand.now setup visits.now lengths.now (Before (from + 1) 0) (table deltas.new positions.new places.new) }
 {
-    let mut to = 0;
-    while to < lengths.len() {
+    for to in 0..lengths.len() {
         search_pair(
-            setup, flags, service, ready, due, penalty, distances, times, demand, visits, lengths,
-            buffer, deltas, positions, places, from, to,
+            setup, columns, demand, visits, lengths, buffer, deltas, positions, places, from, to,
         );
-        to += 1;
     }
 }
 
 // Searches all pairs.
 pub fn search_all(
     setup: Setup,
-    flags: &[u8],
-    service: &[f64],
-    ready: &[f64],
-    due: &[f64],
-    penalty: &[f64],
-    distances: &[f64],
-    times: &[f64],
+    columns: &Columns,
     demand: &[i32],
     visits: &[u16],
     lengths: &[u16],
@@ -106,33 +82,23 @@ pub fn search_all(
     positions: &mut [u16],
     places: &mut [u16],
 )
-    requires prepared { Prepared setup (columns_at setup.l flags service ready due penalty distances times) }
-    requires loaded { Loaded setup.l demand.now × Held setup.l visits.now lengths.now }
+    requires prepared { Prepared setup (lent columns.now) }
+    requires loaded { Loaded columns.now.locations demand.now × Held columns.now.locations visits.now lengths.now }
     requires in_bounds { 64 ≤ length buffer.old }
     requires sized { Sized (table deltas.old positions.old places.old) }
-    ensures { AllRight (columns_at setup.l flags.entry service.entry ready.entry due.entry penalty.entry distances.entry times.entry)
-        demand.now setup visits.now lengths.now (table deltas.new positions.new places.new) }
+    ensures { AllRight (lent columns.now) demand.now setup visits.now lengths.now (table deltas.new positions.new places.new) }
 {
-    let mut from = 0;
-    while from < lengths.len() {
+    for from in 0..lengths.len() {
         search_row(
-            setup, flags, service, ready, due, penalty, distances, times, demand, visits, lengths,
-            buffer, deltas, positions, places, from,
+            setup, columns, demand, visits, lengths, buffer, deltas, positions, places, from,
         );
-        from += 1;
     }
 }
 
 // Searches the pairs of two lists both ways.
 fn search_both(
     setup: Setup,
-    flags: &[u8],
-    service: &[f64],
-    ready: &[f64],
-    due: &[f64],
-    penalty: &[f64],
-    distances: &[f64],
-    times: &[f64],
+    columns: &Columns,
     demand: &[i32],
     visits: &[u16],
     lengths: &[u16],
@@ -143,34 +109,26 @@ fn search_both(
     r: usize,
     other: usize,
 )
-    requires prepared { Prepared setup (columns_at setup.l flags service ready due penalty distances times) }
-    requires loaded { Loaded setup.l demand.now × Held setup.l visits.now lengths.now }
+    requires prepared { Prepared setup (lent columns.now) }
+    requires loaded { Loaded columns.now.locations demand.now × Held columns.now.locations visits.now lengths.now }
     requires in_bounds { 64 ≤ length buffer.old }
     requires sized { Sized (table deltas.old positions.old places.old) × (r < length lengths.now) × (other < length lengths.now) }
-    ensures { StoredBothOf (columns_at setup.l flags.entry service.entry ready.entry due.entry penalty.entry distances.entry times.entry)
+    ensures { StoredBothOf (lent columns.now)
         demand.now setup visits.now lengths.now r other
         (table deltas.old positions.old places.old) (table deltas.new positions.new places.new) }
 {
     search_pair(
-        setup, flags, service, ready, due, penalty, distances, times, demand, visits, lengths,
-        buffer, deltas, positions, places, r, other,
+        setup, columns, demand, visits, lengths, buffer, deltas, positions, places, r, other,
     );
     search_pair(
-        setup, flags, service, ready, due, penalty, distances, times, demand, visits, lengths,
-        buffer, deltas, positions, places, other, r,
+        setup, columns, demand, visits, lengths, buffer, deltas, positions, places, other, r,
     );
 }
 
 // Searches again every pair with list a or b in it: the lists that a move changed.
 pub fn search_again(
     setup: Setup,
-    flags: &[u8],
-    service: &[f64],
-    ready: &[f64],
-    due: &[f64],
-    penalty: &[f64],
-    distances: &[f64],
-    times: &[f64],
+    columns: &Columns,
     demand: &[i32],
     visits: &[u16],
     lengths: &[u16],
@@ -181,25 +139,20 @@ pub fn search_again(
     a: usize,
     b: usize,
 )
-    requires prepared { Prepared setup (columns_at setup.l flags service ready due penalty distances times) }
-    requires loaded { Loaded setup.l demand.now × Held setup.l visits.now lengths.now }
+    requires prepared { Prepared setup (lent columns.now) }
+    requires loaded { Loaded columns.now.locations demand.now × Held columns.now.locations visits.now lengths.now }
     requires in_bounds { 64 ≤ length buffer.old }
-    requires right_of { RightOf (columns_at setup.l flags service ready due penalty distances times) demand.now setup visits.now lengths.now
+    requires right_of { RightOf (lent columns.now) demand.now setup visits.now lengths.now
         (Renewed a b 0) (table deltas.old positions.old places.old) }
     requires a_in_bounds { (a < length lengths.now) × (b < length lengths.now) }
-    ensures { AllRight (columns_at setup.l flags.entry service.entry ready.entry due.entry penalty.entry distances.entry times.entry)
-        demand.now setup visits.now lengths.now (table deltas.new positions.new places.new) }
+    ensures { AllRight (lent columns.now) demand.now setup visits.now lengths.now (table deltas.new positions.new places.new) }
 {
-    let mut other = 0;
-    while other < lengths.len() {
+    for other in 0..lengths.len() {
         search_both(
-            setup, flags, service, ready, due, penalty, distances, times, demand, visits, lengths,
-            buffer, deltas, positions, places, a, other,
+            setup, columns, demand, visits, lengths, buffer, deltas, positions, places, a, other,
         );
         search_both(
-            setup, flags, service, ready, due, penalty, distances, times, demand, visits, lengths,
-            buffer, deltas, positions, places, b, other,
+            setup, columns, demand, visits, lengths, buffer, deltas, positions, places, b, other,
         );
-        other += 1;
     }
 }

@@ -9,15 +9,16 @@
 
 ghost use Rattle.std.specs.Prelude.{◌≡◌, true, ◌≤◌, length, take};
 ghost use Rattle.edits.specs.Total.{total};
-ghost use Rattle.labels.specs.Columns.{columns_at};
 ghost use Rattle.loads.specs.Loads.{boxes_of, Two};
 ghost use Rattle.tail_prices.specs.Tails.{priced};
 ghost use Rattle.tail_prices.specs.Changes.{cost_in, DrivenBy};
 ghost use Rattle.soft_tail_candidates.specs.Candidate.{Asked, Figured};
 ghost use Rattle.soft_tails.specs.Parts.{best_row, best_of};
+ghost use Rattle.labels.specs.Lent.{lent};
 
 use evaluation::route::effective_cost;
 use heads::{Head, at_depot, reach};
+use labels::columns::Columns;
 use loads::{boxes_at, load_of};
 use numbers::is_finite;
 use soft_tail_candidates::consider;
@@ -26,14 +27,8 @@ use tail_prices::{Figures, Terms};
 
 // The best with one cut of the first list and every cut of the second; `head1` is the load of the first head, and `driven1` the van behind it.
 fn best_row(
-    flags: &[u8],
+    columns: &Columns,
     demand: &[i32],
-    service: &[f64],
-    ready: &[f64],
-    due: &[f64],
-    penalty: &[f64],
-    distances: &[f64],
-    times: &[f64],
     terms: Terms,
     one: &[u16],
     other: &[u16],
@@ -43,73 +38,47 @@ fn best_row(
     driven1: Head,
     best: Choice,
 ) -> Choice
-    requires asked { Asked (columns_at terms.l flags service ready due penalty distances times) demand.now terms }
-    requires two { Two terms.l one.now other.now × (cut1 ≤ length one.now) }
-    requires figured { Figured (columns_at terms.l flags service ready due penalty distances times) demand.now terms one.now other.now figures }
-    requires other_value { priced (cost_in (columns_at terms.l flags service ready due penalty distances times) terms) one.now other.now ≡ true }
+    requires asked { Asked (lent columns.now) demand.now terms }
+    requires two { Two columns.now.locations one.now other.now × (cut1 ≤ length one.now) }
+    requires figured { Figured (lent columns.now) demand.now terms one.now other.now figures }
+    requires other_value { priced (cost_in (lent columns.now) terms) one.now other.now ≡ true }
     requires head1_value { head1 ≡ total (boxes_of demand.now) (take cut1 one.now) }
-    requires driven_by { DrivenBy (columns_at terms.l flags service ready due penalty distances times) terms one.now driven1 }
-    ensures { result ≡ best_row
-        (columns_at terms.l flags.entry service.entry ready.entry due.entry penalty.entry distances.entry times.entry)
-        demand.now terms one.now other.now cut1 best }
+    requires driven_by { DrivenBy (lent columns.now) terms one.now driven1 }
+    ensures { result ≡ best_row (lent columns.now) demand.now terms one.now other.now cut1 best }
 {
     let limits = terms.limits;
     let rest = limits.rest;
     let mut found = best;
     let mut driven2 = at_depot(terms.depot);
     let mut head2 = 0;
-    let mut last = 0;
-    while last < other.len() {
-        head2 += boxes_at(terms.l, demand, other, last);
+    for last in 0..other.len() {
+        head2 += boxes_at(columns.locations, demand, other, last);
         let cut2 = last + 1;
-        driven2 = reach(
-            terms.l,
-            flags,
-            service,
-            ready,
-            due,
-            penalty,
-            distances,
-            times,
-            rest,
-            terms.depot,
-            other,
-            driven2,
-            cut2,
-        );
+        driven2 = reach(columns, rest, terms.depot, other, driven2, cut2);
         let new1 = head1 + (figures.load2 - head2);
         let new2 = head2 + (figures.load1 - head1);
         found = consider(
-            flags, demand, service, ready, due, penalty, distances, times, terms, one, other,
-            figures, cut1, cut2, new1, new2, driven1, driven2, found,
+            columns, demand, terms, one, other, figures, cut1, cut2, new1, new2, driven1, driven2,
+            found,
         );
-        last += 1;
     }
     found
 }
 
 // The first least of all exchanges of two lists that have a price.
 fn best_priced(
-    flags: &[u8],
+    columns: &Columns,
     demand: &[i32],
-    service: &[f64],
-    ready: &[f64],
-    due: &[f64],
-    penalty: &[f64],
-    distances: &[f64],
-    times: &[f64],
     terms: Terms,
     one: &[u16],
     other: &[u16],
     figures: Figures,
 ) -> Choice
-    requires asked { Asked (columns_at terms.l flags service ready due penalty distances times) demand.now terms }
-    requires two { Two terms.l one.now other.now }
-    requires figured { Figured (columns_at terms.l flags service ready due penalty distances times) demand.now terms one.now other.now figures }
-    requires other_value { priced (cost_in (columns_at terms.l flags service ready due penalty distances times) terms) one.now other.now ≡ true }
-    ensures { result ≡ best_of
-        (columns_at terms.l flags.entry service.entry ready.entry due.entry penalty.entry distances.entry times.entry)
-        demand.now terms one.now other.now }
+    requires asked { Asked (lent columns.now) demand.now terms }
+    requires two { Two columns.now.locations one.now other.now }
+    requires figured { Figured (lent columns.now) demand.now terms one.now other.now figures }
+    requires other_value { priced (cost_in (lent columns.now) terms) one.now other.now ≡ true }
+    ensures { result ≡ best_of (lent columns.now) demand.now terms one.now other.now }
 {
     let limits = terms.limits;
     let rest = limits.rest;
@@ -120,33 +89,12 @@ fn best_priced(
     };
     let mut driven1 = at_depot(terms.depot);
     let mut head1 = 0;
-    let mut last = 0;
-    while last < one.len() {
-        head1 += boxes_at(terms.l, demand, one, last);
-        driven1 = reach(
-            terms.l,
-            flags,
-            service,
-            ready,
-            due,
-            penalty,
-            distances,
-            times,
-            rest,
-            terms.depot,
-            one,
-            driven1,
-            last + 1,
-        );
+    for last in 0..one.len() {
+        head1 += boxes_at(columns.locations, demand, one, last);
+        driven1 = reach(columns, rest, terms.depot, one, driven1, last + 1);
         best = best_row(
-            flags,
+            columns,
             demand,
-            service,
-            ready,
-            due,
-            penalty,
-            distances,
-            times,
             terms,
             one,
             other,
@@ -156,59 +104,26 @@ fn best_priced(
             driven1,
             best,
         );
-        last += 1;
     }
     best
 }
 
 // What two lists load and cost.
 fn figures_of(
-    flags: &[u8],
+    columns: &Columns,
     demand: &[i32],
-    service: &[f64],
-    ready: &[f64],
-    due: &[f64],
-    penalty: &[f64],
-    distances: &[f64],
-    times: &[f64],
     terms: Terms,
     one: &[u16],
     other: &[u16],
 ) -> Figures
-    requires asked { Asked (columns_at terms.l flags service ready due penalty distances times) demand.now terms }
-    requires two { Two terms.l one.now other.now }
-    ensures { Figured
-        (columns_at terms.l flags.entry service.entry ready.entry due.entry penalty.entry distances.entry times.entry)
-        demand.now terms one.now other.now result }
+    requires asked { Asked (lent columns.now) demand.now terms }
+    requires two { Two columns.now.locations one.now other.now }
+    ensures { Figured (lent columns.now) demand.now terms one.now other.now result }
 {
-    let cost1 = effective_cost(
-        terms.l,
-        flags,
-        service,
-        ready,
-        due,
-        penalty,
-        distances,
-        times,
-        terms.limits,
-        terms.depot,
-        one,
-    );
-    let cost2 = effective_cost(
-        terms.l,
-        flags,
-        service,
-        ready,
-        due,
-        penalty,
-        distances,
-        times,
-        terms.limits,
-        terms.depot,
-        other,
-    );
-    let load1 = load_of(terms.l, demand, one);
-    let load2 = load_of(terms.l, demand, other);
+    let cost1 = effective_cost(columns, terms.limits, terms.depot, one);
+    let cost2 = effective_cost(columns, terms.limits, terms.depot, other);
+    let load1 = load_of(columns.locations, demand, one);
+    let load2 = load_of(columns.locations, demand, other);
     Figures {
         load1,
         load2,
@@ -219,25 +134,17 @@ fn figures_of(
 
 // The first least of all exchanges of two lists whose loads and prices are known; none where a list has no price.
 pub fn best_exchange_of(
-    flags: &[u8],
+    columns: &Columns,
     demand: &[i32],
-    service: &[f64],
-    ready: &[f64],
-    due: &[f64],
-    penalty: &[f64],
-    distances: &[f64],
-    times: &[f64],
     terms: Terms,
     one: &[u16],
     other: &[u16],
     figures: Figures,
 ) -> Choice
-    requires asked { Asked (columns_at terms.l flags service ready due penalty distances times) demand.now terms }
-    requires two { Two terms.l one.now other.now }
-    requires figured { Figured (columns_at terms.l flags service ready due penalty distances times) demand.now terms one.now other.now figures }
-    ensures { result ≡ best_of
-        (columns_at terms.l flags.entry service.entry ready.entry due.entry penalty.entry distances.entry times.entry)
-        demand.now terms one.now other.now }
+    requires asked { Asked (lent columns.now) demand.now terms }
+    requires two { Two columns.now.locations one.now other.now }
+    requires figured { Figured (lent columns.now) demand.now terms one.now other.now figures }
+    ensures { result ≡ best_of (lent columns.now) demand.now terms one.now other.now }
 {
     let nothing = Choice {
         cut1: 0,
@@ -250,35 +157,21 @@ pub fn best_exchange_of(
     if !is_finite(figures.cost2) {
         return nothing;
     }
-    best_priced(
-        flags, demand, service, ready, due, penalty, distances, times, terms, one, other, figures,
-    )
+    best_priced(columns, demand, terms, one, other, figures)
 }
 
 // The first least of all exchanges of two lists; none where a list has no price.
 pub fn best_exchange(
-    flags: &[u8],
+    columns: &Columns,
     demand: &[i32],
-    service: &[f64],
-    ready: &[f64],
-    due: &[f64],
-    penalty: &[f64],
-    distances: &[f64],
-    times: &[f64],
     terms: Terms,
     one: &[u16],
     other: &[u16],
 ) -> Choice
-    requires asked { Asked (columns_at terms.l flags service ready due penalty distances times) demand.now terms }
-    requires two { Two terms.l one.now other.now }
-    ensures { result ≡ best_of
-        (columns_at terms.l flags.entry service.entry ready.entry due.entry penalty.entry distances.entry times.entry)
-        demand.now terms one.now other.now }
+    requires asked { Asked (lent columns.now) demand.now terms }
+    requires two { Two columns.now.locations one.now other.now }
+    ensures { result ≡ best_of (lent columns.now) demand.now terms one.now other.now }
 {
-    let figures = figures_of(
-        flags, demand, service, ready, due, penalty, distances, times, terms, one, other,
-    );
-    best_exchange_of(
-        flags, demand, service, ready, due, penalty, distances, times, terms, one, other, figures,
-    )
+    let figures = figures_of(columns, demand, terms, one, other);
+    best_exchange_of(columns, demand, terms, one, other, figures)
 }

@@ -4,14 +4,14 @@
 #![tactic(auto)]
 
 ghost use Rattle.std.specs.Prelude.{◌≡◌, ◌<◌, ◌≤◌, length};
-ghost use Rattle.labels.specs.Columns.{columns_at};
 ghost use Rattle.loads.specs.Loads.{Loaded};
 ghost use Rattle.soft_places.specs.Places.{Prepared, DrivenBy};
 ghost use Rattle.soft_visit_offers.specs.Offer.{TwoOf, Known, best_offer};
+ghost use Rattle.labels.specs.Lent.{lent};
 
 use deltas_across::fixed_if;
-use edits::wide;
 use heads::Head;
+use labels::columns::Columns;
 use loads::boxes_of;
 use numbers::is_finite;
 use pairs::Choice;
@@ -30,13 +30,7 @@ pub struct Pair {
 // The best after the visit at `position` was offered by one list of a pair to the other; `head` is driven over the giver's visits in front of it.
 pub fn offer_visit(
     setup: Setup,
-    flags: &[u8],
-    service: &[f64],
-    ready: &[f64],
-    due: &[f64],
-    penalty: &[f64],
-    distances: &[f64],
-    times: &[f64],
+    columns: &Columns,
     demand: &[i32],
     giver: &[u16],
     receiver: &[u16],
@@ -46,35 +40,20 @@ pub fn offer_visit(
     position: usize,
     best: Choice,
 ) -> Choice
-    requires prepared { Prepared setup (columns_at setup.l flags service ready due penalty distances times) }
-    requires loaded { Loaded setup.l demand.now × (64 ≤ length buffer.old) }
-    requires two_of { TwoOf setup.l giver.now receiver.now × (position < length giver.now) }
-    requires known { Known (columns_at setup.l flags service ready due penalty distances times) demand.now setup giver.now receiver.now pair
+    requires prepared { Prepared setup (lent columns.now) }
+    requires loaded { Loaded columns.now.locations demand.now × (64 ≤ length buffer.old) }
+    requires two_of { TwoOf columns.now.locations giver.now receiver.now × (position < length giver.now) }
+    requires known { Known (lent columns.now) demand.now setup giver.now receiver.now pair
         × (pair.load ≤ 63000000) }
-    requires driven_by { DrivenBy (columns_at setup.l flags service ready due penalty distances times) setup giver.now head }
-    ensures { result ≡ best_offer (columns_at setup.l flags.entry service.entry ready.entry due.entry penalty.entry distances.entry times.entry)
-        demand.now setup giver.now receiver.now pair position best }
+    requires driven_by { DrivenBy (lent columns.now) setup giver.now head }
+    ensures { result ≡ best_offer (lent columns.now) demand.now setup giver.now receiver.now pair position best }
 {
     let visit = giver[position];
-    let load = pair.load + boxes_of(demand, wide(visit));
+    let load = pair.load + boxes_of(demand, usize::from(visit));
     if load > setup.capacity {
         return best;
     }
-    let giving = giving_delta(
-        setup,
-        flags,
-        service,
-        ready,
-        due,
-        penalty,
-        distances,
-        times,
-        giver,
-        buffer,
-        head,
-        pair.old_from,
-        position,
-    );
+    let giving = giving_delta(setup, columns, giver, buffer, head, pair.old_from, position);
     if !is_finite(giving) {
         return best;
     }
@@ -89,7 +68,5 @@ pub fn offer_visit(
         old: pair.old_to,
         paid,
     };
-    best_place(
-        setup, flags, service, ready, due, penalty, distances, times, receiver, buffer, offer, best,
-    )
+    best_place(setup, columns, receiver, buffer, offer, best)
 }

@@ -6,20 +6,20 @@
 ghost use Rattle.std.specs.Prelude.{◌≡◌, ◌<◌, ◌≤◌, length};
 ghost use Rattle.edits.specs.Total.{total};
 ghost use Rattle.list_changes.specs.Edits.{joined};
-ghost use Rattle.labels.specs.Columns.{columns_at, Formed};
 ghost use Rattle.engine.specs.Engine.{passing};
 ghost use Rattle.loads.specs.Loads.{boxes_of, Two};
 ghost use Rattle.tail_candidates.specs.Candidate.{Asked, better};
+ghost use Rattle.labels.specs.Lent.{lent};
 
 use buffers::append_stretch;
 use day::vehicle::RouteLimits;
 use deltas_across::exchange_delta;
 use engine::passes;
+use labels::columns::Columns;
 
 // What stays the same over a run: worked out once, before the first move.
 #[derive(Clone, Copy)]
 pub struct Terms {
-    pub l: usize,
     pub depot: usize,
     pub limits: RouteLimits,
     // The boxes that the van holds.
@@ -40,25 +40,17 @@ pub struct Choice {
 
 // Whether the first `cut1` visits of a list with another's tail behind them pass. Where no check is needed they do, and the list is not built.
 fn joined_passes(
-    flags: &[u8],
-    service: &[f64],
-    ready: &[f64],
-    due: &[f64],
-    penalty: &[f64],
-    distances: &[f64],
-    times: &[f64],
+    columns: &Columns,
     terms: Terms,
     one: &[u16],
     cut1: usize,
     other: &[u16],
     cut2: usize,
 ) -> bool
-    requires formed { Formed (columns_at terms.l flags service ready due penalty distances times) × (terms.depot < terms.l) }
-    requires two { Two terms.l one.now other.now }
+    requires depot_lt_l { (terms.depot < columns.now.locations) }
+    requires two { Two columns.now.locations one.now other.now }
     requires cut1_in_bounds { (cut1 ≤ length one.now) × (cut2 ≤ length other.now) }
-    ensures { result ≡ passing terms.needed
-        (columns_at terms.l flags.entry service.entry ready.entry due.entry penalty.entry distances.entry times.entry)
-        terms.limits terms.depot (joined one.now cut1 other.now cut2) }
+    ensures { result ≡ passing terms.needed (lent columns.now) terms.limits terms.depot (joined one.now cut1 other.now cut2) }
 {
     if !terms.needed {
         return true;
@@ -67,32 +59,13 @@ fn joined_passes(
     let head = append_stretch(&mut buffer, 0, one, 0, cut1);
     let end = append_stretch(&mut buffer, head, other, cut2, other.len());
     let limits = terms.limits;
-    passes(
-        true,
-        terms.l,
-        flags,
-        service,
-        ready,
-        due,
-        penalty,
-        distances,
-        times,
-        limits,
-        terms.depot,
-        &buffer[0..end],
-    )
+    passes(true, columns, limits, terms.depot, &buffer[0..end])
 }
 
 // The better of the best so far and one exchange more, of which the new loads are known: loads first, then the delta, then the two lists.
 pub fn consider(
-    flags: &[u8],
+    columns: &Columns,
     demand: &[i32],
-    service: &[f64],
-    ready: &[f64],
-    due: &[f64],
-    penalty: &[f64],
-    distances: &[f64],
-    times: &[f64],
     terms: Terms,
     one: &[u16],
     other: &[u16],
@@ -102,13 +75,11 @@ pub fn consider(
     load2: usize,
     best: Choice,
 ) -> Choice
-    requires asked { Asked (columns_at terms.l flags service ready due penalty distances times) demand.now terms }
-    requires two { Two terms.l one.now other.now × (cut1 ≤ length one.now) × (cut2 ≤ length other.now) }
+    requires asked { Asked (lent columns.now) demand.now terms }
+    requires two { Two columns.now.locations one.now other.now × (cut1 ≤ length one.now) × (cut2 ≤ length other.now) }
     requires load1_value { (load1 ≡ total (boxes_of demand.now) (joined one.now cut1 other.now cut2))
         × (load2 ≡ total (boxes_of demand.now) (joined other.now cut2 one.now cut1)) }
-    ensures { result ≡ better
-        (columns_at terms.l flags.entry service.entry ready.entry due.entry penalty.entry distances.entry times.entry)
-        demand.now terms one.now other.now cut1 cut2 best }
+    ensures { result ≡ better (lent columns.now) demand.now terms one.now other.now cut1 cut2 best }
 {
     if load1 > terms.capacity {
         return best;
@@ -116,17 +87,23 @@ pub fn consider(
     if load2 > terms.capacity {
         return best;
     }
-    let delta = exchange_delta(terms.l, distances, terms.depot, one, other, cut1, cut2);
+    let delta = exchange_delta(
+        columns.locations,
+        columns.distances,
+        terms.depot,
+        one,
+        other,
+        cut1,
+        cut2,
+    );
     if !(delta < best.delta) {
         return best;
     }
-    if !joined_passes(
-        flags, service, ready, due, penalty, distances, times, terms, one, cut1, other, cut2,
-    ) {
+    if !joined_passes(columns, terms, one, cut1, other, cut2) {
         return best;
     }
     if !joined_passes(
-        flags, service, ready, due, penalty, distances, times, terms, other, // the second list: its own head, and the first one's tail
+        columns, terms, other, // the second list: its own head, and the first one's tail
         cut2, one, cut1,
     ) {
         return best;

@@ -5,24 +5,19 @@
 
 ghost use Rattle.std.specs.Prelude.{◌≡◌, ◌≤◌, length, take};
 ghost use Rattle.edits.specs.Total.{total};
-ghost use Rattle.labels.specs.Columns.{columns_at};
 ghost use Rattle.loads.specs.Loads.{boxes_of, Two};
 ghost use Rattle.tail_candidates.specs.Candidate.{Asked};
 ghost use Rattle.tails.specs.Best.{best_row, best_of};
+ghost use Rattle.labels.specs.Lent.{lent};
 
+use labels::columns::Columns;
 use loads::{boxes_at, load_of};
 use tail_candidates::{Choice, Terms, consider};
 
 // The best with one cut of the first list and every cut of the second: `head1` is the load of the first head, `load1` and `load2` those of the lists.
 fn best_row(
-    flags: &[u8],
+    columns: &Columns,
     demand: &[i32],
-    service: &[f64],
-    ready: &[f64],
-    due: &[f64],
-    penalty: &[f64],
-    distances: &[f64],
-    times: &[f64],
     terms: Terms,
     one: &[u16],
     other: &[u16],
@@ -32,71 +27,51 @@ fn best_row(
     load2: usize,
     best: Choice,
 ) -> Choice
-    requires asked { Asked (columns_at terms.l flags service ready due penalty distances times) demand.now terms }
-    requires two { Two terms.l one.now other.now × (cut1 ≤ length one.now) }
+    requires asked { Asked (lent columns.now) demand.now terms }
+    requires two { Two columns.now.locations one.now other.now × (cut1 ≤ length one.now) }
     requires head1_value { (head1 ≡ total (boxes_of demand.now) (take cut1 one.now))
         × (load1 ≡ total (boxes_of demand.now) one.now) × (load2 ≡ total (boxes_of demand.now) other.now) }
-    ensures { result ≡ best_row
-        (columns_at terms.l flags.entry service.entry ready.entry due.entry penalty.entry distances.entry times.entry)
-        demand.now terms one.now other.now cut1 best }
+    ensures { result ≡ best_row (lent columns.now) demand.now terms one.now other.now cut1 best }
 {
     let mut found = best;
     let mut head2 = 0;
-    let mut last = 0;
-    while last < other.len() {
-        head2 += boxes_at(terms.l, demand, other, last);
+    for last in 0..other.len() {
+        head2 += boxes_at(columns.locations, demand, other, last);
         let cut2 = last + 1;
         let new1 = head1 + (load2 - head2);
         let new2 = head2 + (load1 - head1);
         found = consider(
-            flags, demand, service, ready, due, penalty, distances, times, terms, one, other, cut1,
-            cut2, new1, new2, found,
+            columns, demand, terms, one, other, cut1, cut2, new1, new2, found,
         );
-        last += 1;
     }
     found
 }
 
 // The first least of all exchanges of two lists.
 pub fn best_exchange(
-    flags: &[u8],
+    columns: &Columns,
     demand: &[i32],
-    service: &[f64],
-    ready: &[f64],
-    due: &[f64],
-    penalty: &[f64],
-    distances: &[f64],
-    times: &[f64],
     terms: Terms,
     one: &[u16],
     other: &[u16],
 ) -> Choice
-    requires asked { Asked (columns_at terms.l flags service ready due penalty distances times) demand.now terms }
-    requires two { Two terms.l one.now other.now }
-    ensures { result ≡ best_of
-        (columns_at terms.l flags.entry service.entry ready.entry due.entry penalty.entry distances.entry times.entry)
-        demand.now terms one.now other.now }
+    requires asked { Asked (lent columns.now) demand.now terms }
+    requires two { Two columns.now.locations one.now other.now }
+    ensures { result ≡ best_of (lent columns.now) demand.now terms one.now other.now }
 {
-    let load1 = load_of(terms.l, demand, one);
-    let load2 = load_of(terms.l, demand, other);
+    let load1 = load_of(columns.locations, demand, one);
+    let load2 = load_of(columns.locations, demand, other);
     let mut best = Choice {
         cut1: 0,
         cut2: 0,
         delta: -terms.floor,
     };
     let mut head1 = 0;
-    let mut last = 0;
-    while last < one.len() {
-        head1 += boxes_at(terms.l, demand, one, last);
+    for last in 0..one.len() {
+        head1 += boxes_at(columns.locations, demand, one, last);
         best = best_row(
-            flags,
+            columns,
             demand,
-            service,
-            ready,
-            due,
-            penalty,
-            distances,
-            times,
             terms,
             one,
             other,
@@ -106,7 +81,6 @@ pub fn best_exchange(
             load2,
             best,
         );
-        last += 1;
     }
     best
 }

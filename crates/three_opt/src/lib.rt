@@ -7,7 +7,8 @@
 ghost use Rattle.std.specs.Prelude.{◌≡◌, true, [], ◌<◌, ◌≤◌, length};
 ghost use Rattle.numbers.specs.Operations.{zero64};
 ghost use Rattle.day.specs.Refusal.{all_plain};
-ghost use Rattle.labels.specs.Columns.{columns_at, Formed, Visits};
+ghost use Rattle.labels.specs.Columns.{Visits};
+ghost use Rattle.labels.specs.Lent.{lent};
 ghost use Rattle.descent.specs.Permitted.{three_opt};
 ghost use Rattle.descent.specs.Engines.{run_of};
 ghost use Rattle.deltas.specs.Judged.{float_judge};
@@ -20,6 +21,7 @@ use day::vehicle::RouteLimits;
 use day_scans::matrix::{is_symmetric, scale};
 use engine::Ended;
 use evaluation::route::route_checks_needed;
+use labels::columns::Columns;
 use numbers::gain_floor;
 use patterns::{Setup, best_pattern};
 use reconnections::{Place, make_move};
@@ -54,30 +56,22 @@ fn place_after(n: usize, place: Place) -> Place
 // what is left of the limit falls, or else the places ahead do.
 fn descend(
     setup: Setup,
-    flags: &[u8],
-    service: &[f64],
-    ready: &[f64],
-    due: &[f64],
-    penalty: &[f64],
-    distances: &[f64],
-    times: &[f64],
+    columns: &Columns,
     list: &mut [u16],
     buffer: &mut [u16],
     limit: u32,
 ) -> Ended
-    requires prepared { Prepared setup (columns_at setup.l flags service ready due penalty distances times) }
-    requires visits { Visits setup.l list.old × (length list.old ≤ length buffer.old) × (4 ≤ length list.old) }
-    ensures { let c = columns_at setup.l flags.entry service.entry ready.entry due.entry penalty.entry distances.entry times.entry in
+    requires prepared { Prepared setup (lent columns.now) }
+    requires visits { Visits columns.now.locations list.old × (length list.old ≤ length buffer.old) × (4 ≤ length list.old) }
+    ensures { let c = lent columns.now in
         let run = run_of three_opt (checks_of [] c setup.limits setup.depot)
-        (float_judge three_opt (map_of setup.l distances.now setup.depot zero64)) limit list.old
+        (float_judge three_opt (map_of columns.now.locations columns.now.distances.now setup.depot zero64)) limit list.old
         in (list.new ≡ run.last.now) × (result ≡ ended_as run.word run.moves) }
 {
     let mut moves = 0;
     let mut place = Place { i: 0, j: 1, k: 2 };
     while place.k < list.len() {
-        let pattern = best_pattern(
-            setup, flags, service, ready, due, penalty, distances, times, list, buffer, place,
-        );
+        let pattern = best_pattern(setup, columns, list, buffer, place);
         if pattern == 0 {
             place = place_after(list.len(), place);
             continue;
@@ -94,35 +88,26 @@ fn descend(
 
 // 3-opt of one list, changed in place, with at most `limit` moves.
 pub fn three_opt_improve(
-    l: usize,
-    flags: &[u8],
-    service: &[f64],
-    ready: &[f64],
-    due: &[f64],
-    penalty: &[f64],
-    distances: &[f64],
-    times: &[f64],
+    columns: &Columns,
     limits: RouteLimits,
     depot: usize,
     list: &mut [u16],
     limit: u32,
 ) -> Ended
-    requires formed { Formed (columns_at l flags service ready due penalty distances times) }
-    requires depot_lt_l { (depot < l) × Visits l list.old }
-    requires distances_value { all_plain distances.now ≡ true }
-    ensures { let c = columns_at l flags.entry service.entry ready.entry due.entry penalty.entry distances.entry times.entry in
+    requires depot_lt_l { (depot < columns.now.locations) × Visits columns.now.locations list.old }
+    requires distances_value { all_plain columns.now.distances.now ≡ true }
+    ensures { let c = lent columns.now in
         let run = run_of three_opt (checks_of [] c limits depot)
-        (float_judge three_opt (map_of l distances.now depot zero64)) limit list.old
+        (float_judge three_opt (map_of columns.now.locations columns.now.distances.now depot zero64)) limit list.old
         in (list.new ≡ run.last.now) × (result ≡ ended_as run.word run.moves) }
 {
     if list.len() < 4 {
         return Ended::Settled(0);
     }
-    let floor = gain_floor(scale(distances));
-    let symmetric = is_symmetric(l, distances);
-    let needed = route_checks_needed(flags, limits);
+    let floor = gain_floor(scale(columns.distances));
+    let symmetric = is_symmetric(columns.locations, columns.distances);
+    let needed = route_checks_needed(columns.flags, limits);
     let setup = Setup {
-        l,
         depot,
         limits,
         floor,
@@ -130,17 +115,5 @@ pub fn three_opt_improve(
         needed,
     };
     let mut buffer = [0u16; 64];
-    descend(
-        setup,
-        flags,
-        service,
-        ready,
-        due,
-        penalty,
-        distances,
-        times,
-        list,
-        &mut buffer,
-        limit,
-    )
+    descend(setup, columns, list, &mut buffer, limit)
 }

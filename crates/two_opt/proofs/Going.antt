@@ -5,6 +5,7 @@ use mathlib.Core.Option.{some}
 use mathlib.Core.List.{List, []}
 use Prim.Native.Nat.{ℕ, ◌+◌, ◌<◌, ◌≤◌}
 use lib.ListN.{length}
+use Rattle.std.specs.Prelude.{Option, Some, None}
 use Rattle.labels.specs.Columns.{Columns}
 use Rattle.descent.specs.Search.{Sweep, run}
 use Rattle.descent.specs.Within.{Reversal}
@@ -14,8 +15,6 @@ use Rattle.engine.specs.Engine.{ended_as}
 use Rattle.reversal_places.specs.declared.Terms.{Terms}
 use Rattle.reversal_places.specs.declared.Place.{Place}
 use Rattle.reversal_places.specs.Places.{place_after, turned_at}
-use Rattle.reversals.specs.declared.Found.{Found}
-use Rattle.reversals.specs.declared.Found.TheVariants.{At, Nothing}
 use Rattle.reversals.specs.Reversals.{from, next_turn, led, Searched}
 use Rattle.descent.proofs.Going.{Going, going_starts, going_moves}
 use Rattle.engine.proofs.Running.{going_settles, going_stops}
@@ -37,16 +36,16 @@ Answers c t limit start list ended =
 pub turning_starts : (c : Columns) (t : Terms) (limit : ℕ) (start : List ℕ) (p : Place) → from (length start) p ≡ [] → Turning c t limit start 0 start p
 turning_starts c t limit start p e = rw e (going_starts (next_turn c t) limit (record { now = start; ahead = [] }))
 
-module _ (c : Columns) (t : Terms) (limit made : ℕ) (start xs ys : List ℕ) (ahead : Place) (r : Found)
+module _ (c : Columns) (t : Terms) (limit made : ℕ) (start xs ys : List ℕ) (ahead : Place) (r : Option Place)
     (s : Searched (next_turn c t (record { now = xs; ahead = from (length xs) ahead })) xs ys r) (so_far : Turning c t limit start made xs ahead) where
-  pub settles : r ≡ Nothing → Answers c t limit start ys (Settled made)
+  pub settles : r ≡ None → Answers c t limit start ys (Settled made)
   unfolding led
   settles e =
       let none_left = rw e at s.leads in
       let all = going_settles _ _ _ made _ so_far (sym none_left) in
       (left_as_it_was s e ∙ ap (λ (s : Sweep (List ℕ) Reversal). s.now) all.0, all.1)
 
-  module _ (p : Place) (e : r ≡ At p) where
+  module _ (p : Place) (e : r ≡ Some p) where
     abbrev next_state : Sweep (List ℕ) Reversal
     next_state = record { now = turned_at xs p; ahead = from (length xs) (place_after (length xs) p) }
 

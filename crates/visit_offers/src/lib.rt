@@ -4,15 +4,16 @@
 #![tactic(auto)]
 
 ghost use Rattle.std.specs.Prelude.{◌≡◌, ◌<◌, ◌≤◌, length, get_or, set};
-ghost use Rattle.labels.specs.Columns.{columns_at, Visits};
+ghost use Rattle.labels.specs.Columns.{Visits};
+ghost use Rattle.labels.specs.Lent.{lent};
 ghost use Rattle.loads.specs.Loads.{Loaded};
 ghost use Rattle.insertions.specs.Cache.{cell, known_at};
 ghost use Rattle.places.specs.Places.{Prepared};
 ghost use Rattle.visit_offers.specs.Tried.{tried};
 
 use deltas_across::removal_delta;
-use edits::wide;
 use insertions::Least;
+use labels::columns::Columns;
 use loads::boxes_of;
 use pairs::Choice;
 use places::{Offer, Setup, Tried, best_place, is_ruled_out};
@@ -20,13 +21,7 @@ use places::{Offer, Setup, Tried, best_place, is_ruled_out};
 // The best after the visit at `position` of list `from` was offered to list `to`, whose load is `load`, and what is known of it then.
 fn try_visit(
     setup: Setup,
-    flags: &[u8],
-    service: &[f64],
-    ready: &[f64],
-    due: &[f64],
-    penalty: &[f64],
-    distances: &[f64],
-    times: &[f64],
+    columns: &Columns,
     demand: &[i32],
     giver: &[u16],
     receiver: &[u16],
@@ -39,20 +34,26 @@ fn try_visit(
     known: Least,
     best: Choice,
 ) -> Tried
-    requires prepared { Prepared setup (columns_at setup.l flags service ready due penalty distances times) }
-    requires loaded { Loaded setup.l demand.now × (64 ≤ length buffer.old) × (load ≤ 63000000) }
-    requires visits { Visits setup.l giver.now × (position < length giver.now) }
-    requires visits_2 { Visits setup.l receiver.now × (length receiver.now < 63) }
-    ensures { result ≡ tried (columns_at setup.l flags.entry service.entry ready.entry due.entry penalty.entry distances.entry times.entry)
-        demand.now setup pruning giver.now receiver.now load from position to best known }
+    requires prepared { Prepared setup (lent columns.now) }
+    requires loaded { Loaded columns.now.locations demand.now × (64 ≤ length buffer.old) × (load ≤ 63000000) }
+    requires visits { Visits columns.now.locations giver.now × (position < length giver.now) }
+    requires visits_2 { Visits columns.now.locations receiver.now × (length receiver.now < 63) }
+    ensures { result ≡ tried (lent columns.now) demand.now setup pruning giver.now receiver.now load from position to best known }
 {
     let visit = giver[position];
-    if load + boxes_of(demand, wide(visit)) > setup.capacity {
+    if load + boxes_of(demand, usize::from(visit)) > setup.capacity {
         return Tried { best, least: known };
     }
     // What a list no longer costs once it is emptied.
     let saved = setup.fixed;
-    let removal = removal_delta(setup.l, distances, setup.depot, saved, giver, position);
+    let removal = removal_delta(
+        columns.locations,
+        columns.distances,
+        setup.depot,
+        saved,
+        giver,
+        position,
+    );
     if is_ruled_out(pruning, setup.floor, removal, known.figure) {
         return Tried { best, least: known };
     }
@@ -63,21 +64,13 @@ fn try_visit(
         visit,
         removal,
     };
-    best_place(
-        setup, flags, service, ready, due, penalty, distances, times, receiver, buffer, offer, best,
-    )
+    best_place(setup, columns, receiver, buffer, offer, best)
 }
 
 // The same with the cache: what is known is read before, and written after.
 pub fn offer_visit(
     setup: Setup,
-    flags: &[u8],
-    service: &[f64],
-    ready: &[f64],
-    due: &[f64],
-    penalty: &[f64],
-    distances: &[f64],
-    times: &[f64],
+    columns: &Columns,
     demand: &[i32],
     giver: &[u16],
     receiver: &[u16],
@@ -91,27 +84,27 @@ pub fn offer_visit(
     pruning: bool,
     best: Choice,
 ) -> Choice
-    requires prepared { Prepared setup (columns_at setup.l flags service ready due penalty distances times) }
-    requires loaded { Loaded setup.l demand.now × (64 ≤ length buffer.old) × (load ≤ 63000000) }
-    requires visits { Visits setup.l giver.now × (position < length giver.now) }
-    requires visits_2 { Visits setup.l receiver.now × (length receiver.now < 63) }
+    requires prepared { Prepared setup (lent columns.now) }
+    requires loaded { Loaded columns.now.locations demand.now × (64 ≤ length buffer.old) × (load ≤ 63000000) }
+    requires visits { Visits columns.now.locations giver.now × (position < length giver.now) }
+    requires visits_2 { Visits columns.now.locations receiver.now × (length receiver.now < 63) }
     requires figures_len { (length figures.old ≡ 1024) × (length places.old ≡ 1024) × (to < 16) }
     ensures { let visit = get_or giver.now position 0 in
-        let t = tried (columns_at setup.l flags.entry service.entry ready.entry due.entry penalty.entry distances.entry times.entry)
+        let t = tried (lent columns.now)
         demand.now setup pruning giver.now receiver.now load from position to best
         (known_at figures.old places.old visit to)
         in (result ≡ t.best) × (figures.new ≡ set figures.old (cell visit to) t.least.figure)
         × (places.new ≡ set places.old (cell visit to) t.least.place) }
 {
-    let visit = wide(giver[position]);
+    let visit = usize::from(giver[position]);
     let cell = 16 * visit + to;
     let known = Least {
         figure: figures[cell],
         place: places[cell],
     };
     let tried = try_visit(
-        setup, flags, service, ready, due, penalty, distances, times, demand, giver, receiver,
-        buffer, from, position, to, load, pruning, known, best,
+        setup, columns, demand, giver, receiver, buffer, from, position, to, load, pruning, known,
+        best,
     );
     let least = tried.least;
     figures[cell] = least.figure;

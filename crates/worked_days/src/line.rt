@@ -1,16 +1,26 @@
 // The line of places of document 01, and its van.
-ghost use Rattle.std.specs.Prelude.{◌≡◌, length};
-
+use day::day::Day;
 use day::vehicle::Van;
 
-// The gaps between 0, 10, 20, 30 and 40.
-pub fn distances() -> [f64; 25]
-    ensures { 25 ≡ length result }
-{
-    [
-        0.0, 10.0, 20.0, 30.0, 40.0, 10.0, 0.0, 10.0, 20.0, 30.0, 20.0, 10.0, 0.0, 10.0, 20.0,
-        30.0, 20.0, 10.0, 0.0, 10.0, 40.0, 30.0, 20.0, 10.0, 0.0,
-    ]
+// More moves than any lists here take.
+pub const ENOUGH: u32 = 1000;
+
+// The line as it is lent: the distances are the gaps between 0, 10, 20, 30 and 40.
+pub fn day() -> Day<'static> {
+    Day {
+        locations: 5,
+        flags: &[1, 0, 0, 0, 0],
+        demand: &[1; 5],
+        service: &[0.0; 5],
+        ready: &[0.0; 5],
+        due: &[0.0; 5],
+        penalty: &[0.0; 5],
+        distances: &[
+            0.0, 10.0, 20.0, 30.0, 40.0, 10.0, 0.0, 10.0, 20.0, 30.0, 20.0, 10.0, 0.0, 10.0, 20.0,
+            30.0, 20.0, 10.0, 0.0, 10.0, 40.0, 30.0, 20.0, 10.0, 0.0,
+        ],
+        times: &[],
+    }
 }
 
 // A van of depot 0 without cost, limits or break.
@@ -32,10 +42,11 @@ pub fn van() -> Van {
 
 // The same with a break, which bit 2 of the flags gives it.
 pub fn van_with_break(earliest: f64, latest: f64, duration: f64) -> Van {
-    let mut van = van();
-    van.flags = 4;
-    van.earliest = earliest;
-    van.latest = latest;
-    van.duration = duration;
-    van
+    Van {
+        flags: 4,
+        earliest,
+        latest,
+        duration,
+        ..van()
+    }
 }

@@ -24,32 +24,18 @@ pub fn number(rt: &impl Print, x: f64) -> io::Result<()> {
     text(rt, b"not whole")
 }
 
-fn visit(rt: &impl Print, place: u16) -> io::Result<()> {
-    text(rt, b" ")?;
-    rt.print(place as u64)
-}
-
-// The visits of a list, each behind a blank.
-pub fn visits(rt: &impl Print, list: &[u16]) -> io::Result<()> {
-    let mut i = 0;
-    while i < list.len() {
-        visit(rt, list[i])?;
-        i += 1;
+// Visits, lengths or ids, each behind a blank.
+pub fn list<T: Copy + Into<u64>>(rt: &impl Print, entries: &[T]) -> io::Result<()> {
+    for &entry in entries {
+        text(rt, b" ")?;
+        rt.print(entry.into())?;
     }
     Ok(())
 }
 
-fn id(rt: &impl Print, id: u32) -> io::Result<()> {
-    text(rt, b" ")?;
-    rt.print(id as u64)
-}
-
-// The ids of vans, each behind a blank.
-pub fn ids(rt: &impl Print, column: &[u32]) -> io::Result<()> {
-    let mut i = 0;
-    while i < column.len() {
-        id(rt, column[i])?;
-        i += 1;
-    }
-    Ok(())
+// How many moves a run made, and how it ended.
+pub fn ended(rt: &impl Print, moves: u32, word: &[u8]) -> io::Result<()> {
+    text(rt, b", moves ")?;
+    rt.print(u64::from(moves))?;
+    text(rt, word)
 }

@@ -3,41 +3,63 @@
 #![tactic(auto)]
 
 ghost use Rattle.std.specs.Prelude.{◌≡◌};
-ghost use Rattle.written.specs.Written.{eval_code, eval_passes, eval_in, schedule_code, found_in, schedule_in, taken_in, position_in, start_in};
-ghost use Rattle.written.specs.Written.{distance_of, duration_of, lateness_of, lateness_cost_of};
-ghost use Rattle.written.specs.Written.{table_code, scale_in, floor_in, symmetric_in, fixed_in, depots_in};
-ghost use Rattle.written.specs.Written.{improve_code, settled_in, moves_in, end_distance_in};
-ghost use Rattle.written.specs.Written.{rearrange_code, over_settled_in, over_moves_in, remaining_written};
+ghost use Rattle.day.specs.Number.{number_of};
+ghost use Rattle.written.specs.Written.{distance_in, passes_in, eval_passes, eval_in, found_in, schedule_in, taken_in, position_in, start_in};
+ghost use Rattle.written.specs.Written.{scale_in, floor_in, symmetric_in, fixed_in, depots_in};
+ghost use Rattle.written.specs.Written.{settled_in, moves_in, end_distance_in};
+ghost use Rattle.written.specs.Written.{over_settled_in, over_moves_in, remaining_written};
 ghost use Rattle.written.specs.Written.{taken_code, taken_position, taken_start, bit_of};
 
-use checks::check::{Evaluated, Timetable};
+use break_clock::Scheduled;
 use checks::table::Table;
+use day::refusal::Refusal;
+use evaluation::route::RouteEval;
 use improvements::Improved;
 use labels::label::Taken;
 use rearrangements::Rearranged;
 
+// The number of what was refused, and 0 where nothing was.
+pub fn code_of(answer: Result<(), Refusal>) -> u8
+    ensures { result ≡ number_of answer }
+{
+    match answer {
+        Err(refusal) => refusal.number(),
+        Ok(_) => 0,
+    }
+}
+
 // Writes how a run ended, if it was not refused.
-pub fn write_improved(answer: Improved, settled: &mut u8, moves: &mut u32, distance: &mut f64) -> u8
-    ensures { (result ≡ improve_code answer)
+#[tactic(auto, unfolding(crate::specs::Written::settled_in, crate::specs::Written::moves_in, crate::specs::Written::end_distance_in))]
+pub fn write_improved(
+    answer: Result<Improved, Refusal>,
+    settled: &mut u8,
+    moves: &mut u32,
+    distance: &mut f64,
+) -> u8
+    ensures { (result ≡ number_of answer)
         × (settled.new ≡ settled_in answer settled.old)
         × (moves.new ≡ moves_in answer moves.old)
         × (distance.new ≡ end_distance_in answer distance.old) }
 {
     match answer {
-        Improved::Refused(n) => n,
-        Improved::Settled {
-            moves: m,
-            distance: x,
-        } => {
+        Err(refusal) => refusal.number(),
+        Ok(
+            Improved::Settled {
+                moves: m,
+                distance: x,
+            },
+        ) => {
             *settled = 1;
             *moves = m;
             *distance = x;
             0
         }
-        Improved::Stopped {
-            moves: m,
-            distance: x,
-        } => {
+        Ok(
+            Improved::Stopped {
+                moves: m,
+                distance: x,
+            },
+        ) => {
             *settled = 0;
             *moves = m;
             *distance = x;
@@ -47,32 +69,37 @@ pub fn write_improved(answer: Improved, settled: &mut u8, moves: &mut u32, dista
 }
 
 // Writes how a run ended, if it was not refused.
+#[tactic(auto, unfolding(crate::specs::Written::over_settled_in, crate::specs::Written::over_moves_in, crate::specs::Written::remaining_written))]
 pub fn write_rearranged(
-    answer: Rearranged,
+    answer: Result<Rearranged, Refusal>,
     settled: &mut u8,
     moves: &mut u32,
     remaining: &mut usize,
 ) -> u8
-    ensures { (result ≡ rearrange_code answer)
+    ensures { (result ≡ number_of answer)
         × (settled.new ≡ over_settled_in answer settled.old)
         × (moves.new ≡ over_moves_in answer moves.old)
         × (remaining.new ≡ remaining_written answer remaining.old) }
 {
     match answer {
-        Rearranged::Refused(n) => n,
-        Rearranged::Settled {
-            moves: m,
-            remaining: k,
-        } => {
+        Err(refusal) => refusal.number(),
+        Ok(
+            Rearranged::Settled {
+                moves: m,
+                remaining: k,
+            },
+        ) => {
             *settled = 1;
             *moves = m;
             *remaining = k;
             0
         }
-        Rearranged::Stopped {
-            moves: m,
-            remaining: k,
-        } => {
+        Ok(
+            Rearranged::Stopped {
+                moves: m,
+                remaining: k,
+            },
+        ) => {
             *settled = 0;
             *moves = m;
             *remaining = k;
@@ -82,23 +109,25 @@ pub fn write_rearranged(
 }
 
 // Writes where the break is taken, if it is.
-pub fn write_taken(rest: Taken, taken: &mut u8, position: &mut usize, start: &mut f64)
+#[tactic(auto, unfolding(crate::specs::Written::taken_code, crate::specs::Written::taken_position, crate::specs::Written::taken_start))]
+pub fn write_taken(rest: Option<Taken>, taken: &mut u8, position: &mut usize, start: &mut f64)
     ensures { (taken.new ≡ taken_code rest) × (position.new ≡ taken_position rest position.old) ×
         (start.new ≡ taken_start rest start.old) }
 {
     match rest {
-        Taken::Untaken => {
+        None => {
             *taken = 0;
         }
-        Taken::At(p, s) => {
+        Some(at) => {
             *taken = 1;
-            *position = p;
-            *start = s;
+            *position = at.position;
+            *start = at.start;
         }
     }
 }
 
 // A truth as a byte.
+#[tactic(auto, unfolding(crate::specs::Written::bit_of))]
 pub fn bit_of(b: bool) -> u8
     ensures { result ≡ bit_of b }
 {
@@ -108,47 +137,72 @@ pub fn bit_of(b: bool) -> u8
     0
 }
 
+// The distance of a list.
+#[tactic(auto, unfolding(crate::specs::Written::distance_in))]
+pub fn write_distance(answer: Result<f64, Refusal>, distance: &mut f64) -> u8
+    ensures { (result ≡ number_of answer) × (distance.new ≡ distance_in answer distance.old) }
+{
+    match answer {
+        Err(refusal) => refusal.number(),
+        Ok(x) => {
+            *distance = x;
+            0
+        }
+    }
+}
+
+// Whether a list passes.
+#[tactic(auto, unfolding(crate::specs::Written::passes_in))]
+pub fn write_feasible(answer: Result<bool, Refusal>, passes: &mut u8) -> u8
+    ensures { (result ≡ number_of answer) × (passes.new ≡ passes_in answer passes.old) }
+{
+    match answer {
+        Err(refusal) => refusal.number(),
+        Ok(b) => {
+            *passes = bit_of(b);
+            0
+        }
+    }
+}
+
 // What the list comes to, where it passes.
+#[tactic(auto, unfolding(crate::specs::Written::eval_passes, crate::specs::Written::eval_in))]
 pub fn write_evaluated(
-    answer: Evaluated,
+    answer: Result<Option<RouteEval>, Refusal>,
     passes: &mut u8,
     distance: &mut f64,
     duration: &mut f64,
     lateness: &mut f64,
     lateness_cost: &mut f64,
 ) -> u8
-    ensures { (result ≡ eval_code answer) ×
+    ensures { (result ≡ number_of answer) ×
         (passes.new ≡ eval_passes answer passes.old) ×
-        (distance.new ≡ eval_in distance_of answer distance.old) ×
-        (duration.new ≡ eval_in duration_of answer duration.old) ×
-        (lateness.new ≡ eval_in lateness_of answer lateness.old) ×
-        (lateness_cost.new ≡ eval_in lateness_cost_of answer lateness_cost.old) }
+        (distance.new ≡ eval_in (λ e. e.distance) answer distance.old) ×
+        (duration.new ≡ eval_in (λ e. e.duration) answer duration.old) ×
+        (lateness.new ≡ eval_in (λ e. e.lateness) answer lateness.old) ×
+        (lateness_cost.new ≡ eval_in (λ e. e.lateness_cost) answer lateness_cost.old) }
 {
     match answer {
-        Evaluated::Refused(n) => n,
-        Evaluated::Fails => {
+        Err(refusal) => refusal.number(),
+        Ok(None) => {
             *passes = 0;
             0
         }
-        Evaluated::Passes {
-            distance: a,
-            duration: b,
-            lateness: c,
-            lateness_cost: d,
-        } => {
+        Ok(Some(e)) => {
             *passes = 1;
-            *distance = a;
-            *duration = b;
-            *lateness = c;
-            *lateness_cost = d;
+            *distance = e.distance;
+            *duration = e.duration;
+            *lateness = e.lateness;
+            *lateness_cost = e.lateness_cost;
             0
         }
     }
 }
 
 // The schedule, where there is one.
+#[tactic(auto, unfolding(crate::specs::Written::found_in, crate::specs::Written::schedule_in, crate::specs::Written::taken_in, crate::specs::Written::position_in, crate::specs::Written::start_in))]
 pub fn write_scheduled(
-    answer: Timetable,
+    answer: Result<Option<Scheduled>, Refusal>,
     found: &mut u8,
     distance: &mut f64,
     duration: &mut f64,
@@ -158,50 +212,45 @@ pub fn write_scheduled(
     position: &mut usize,
     start: &mut f64,
 ) -> u8
-    ensures { (result ≡ schedule_code answer) ×
+    ensures { (result ≡ number_of answer) ×
         (found.new ≡ found_in answer found.old) ×
-        (distance.new ≡ schedule_in distance_of answer distance.old) ×
-        (duration.new ≡ schedule_in duration_of answer duration.old) ×
-        (lateness.new ≡ schedule_in lateness_of answer lateness.old) ×
-        (lateness_cost.new ≡ schedule_in lateness_cost_of answer lateness_cost.old) ×
+        (distance.new ≡ schedule_in (λ s. s.distance) answer distance.old) ×
+        (duration.new ≡ schedule_in (λ s. s.duration) answer duration.old) ×
+        (lateness.new ≡ schedule_in (λ s. s.lateness) answer lateness.old) ×
+        (lateness_cost.new ≡ schedule_in (λ s. s.lateness_cost) answer lateness_cost.old) ×
         (taken.new ≡ taken_in answer taken.old) ×
         (position.new ≡ position_in answer position.old) ×
         (start.new ≡ start_in answer start.old) }
 {
     match answer {
-        Timetable::Refused(n) => n,
-        Timetable::Impossible => {
+        Err(refusal) => refusal.number(),
+        Ok(None) => {
             *found = 0;
             0
         }
-        Timetable::Possible {
-            distance: a,
-            duration: b,
-            lateness: c,
-            lateness_cost: d,
-            rest: t,
-        } => {
+        Ok(Some(s)) => {
             *found = 1;
-            *distance = a;
-            *duration = b;
-            *lateness = c;
-            *lateness_cost = d;
-            write_taken(t, taken, position, start);
+            *distance = s.distance;
+            *duration = s.duration;
+            *lateness = s.lateness;
+            *lateness_cost = s.lateness_cost;
+            write_taken(s.rest, taken, position, start);
             0
         }
     }
 }
 
 // What the searches work out.
+#[tactic(auto, unfolding(crate::specs::Written::table_in))]
 pub fn write_table(
-    answer: Table,
+    answer: Result<Table, Refusal>,
     scale: &mut f64,
     floor: &mut f64,
     symmetric: &mut u8,
     fixed: &mut f64,
     depots: &mut usize,
 ) -> u8
-    ensures { (result ≡ table_code answer) ×
+    ensures { (result ≡ number_of answer) ×
         (scale.new ≡ scale_in answer scale.old) ×
         (floor.new ≡ floor_in answer floor.old) ×
         (symmetric.new ≡ symmetric_in answer symmetric.old) ×
@@ -209,19 +258,13 @@ pub fn write_table(
         (depots.new ≡ depots_in answer depots.old) }
 {
     match answer {
-        Table::Refused(n) => n,
-        Table::Known {
-            scale: a,
-            floor: b,
-            symmetric: c,
-            fixed: d,
-            depots: e,
-        } => {
-            *scale = a;
-            *floor = b;
-            *symmetric = bit_of(c);
-            *fixed = d;
-            *depots = e;
+        Err(refusal) => refusal.number(),
+        Ok(table) => {
+            *scale = table.scale;
+            *floor = table.floor;
+            *symmetric = bit_of(table.symmetric);
+            *fixed = table.fixed;
+            *depots = table.depots;
             0
         }
     }

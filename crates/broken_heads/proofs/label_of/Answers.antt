@@ -3,12 +3,12 @@ use mathlib.Core.Path.{sym}
 use Rattle.broken_heads.specs.Head.{reached_as}
 use Rattle.broken_heads.proofs.label_of.Goals as goal
 
-pub returns-in-Missed : goal.returns-in-Missed
+pub returns-in-None : goal.returns-in-None
 unfolding reached_as
-returns-in-Missed c =
-    sym c.in-Missed.is
+returns-in-None c =
+    sym c.in-None.is
 
-pub returns-in-Served : goal.returns-in-Served
+pub returns-in-Some : goal.returns-in-Some
 unfolding reached_as
-returns-in-Served c =
-    sym c.in-Served.is
+returns-in-Some c =
+    sym c.in-Some.is

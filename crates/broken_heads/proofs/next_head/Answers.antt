@@ -1,26 +1,25 @@
 -- `next_head`: the callees give the way, the travel, the stop and the three labels, in the definition's order.
 use mathlib.Core.Path.{refl}
 use native.Mathlib.Omega.{arith}
-use Rattle.labels.specs.Columns.{stop_in}
 use Rattle.break_clock.specs.Schedule.{pushed}
 use Rattle.broken_heads.specs.Head.{clock_of}
 use Rattle.broken_heads.proofs.next_head.Goals as goal
 
-pub get-leg-requires : goal.get-leg-requires
-get-leg-requires c =
-    (c.requires.formed.tables.of_distances, c.requires.place_lt_l.0, c.requires.place_lt_l.1)
+pub distance-leg-requires : goal.distance-leg-requires
+distance-leg-requires c =
+    (c.requires.0, c.requires.1)
 
 pub travel_time-travel-requires : goal.travel_time-travel-requires
 travel_time-travel-requires c =
-    (c.requires.formed.tables, c.requires.place_lt_l.0, c.requires.place_lt_l.1)
+    (c.requires.0, c.requires.1)
 
-pub stop_of-stop-requires : goal.stop_of-stop-requires
-stop_of-stop-requires c =
-    stop_in c.requires.formed c.requires.place_lt_l.1
+pub stop-stop-requires : goal.stop-stop-requires
+stop-stop-requires c =
+    c.requires.1
 
 pub overflow_add-result : goal.overflow_add-result
 overflow_add-result c =
-    omega (arith, c.requires.place_lt_l.2)
+    omega (arith, c.requires.2)
 
 pub returns : goal.returns
 unfolding clock_of pushed
@@ -28,9 +27,9 @@ returns c = (
   rw (
     c.label_of.ensures,
     c.label_of-2.ensures,
-    ← c.get-leg.ensures,
+    ← c.distance-leg.ensures,
     ← c.travel_time-travel.ensures,
-    ← c.stop_of-stop.ensures,
+    ← c.stop-stop.ensures,
     ← c.reached_as-before.ensures,
     ← c.reached_as-after.ensures,
     ← c.serve_next-skipped.ensures,

@@ -23,15 +23,11 @@ overflow_add-to c =
 pub overflow_add-k : goal.overflow_add-k
 overflow_add-k c =
     let there = row_there c.requires.block.0 _ c.loop-i-test.true in
-    omega (arith, side_few c.args.kind c.args.turned _ _ _ c.requires.formed.2.few there)
+    omega (arith, side_few c.args.kind c.args.turned _ _ _ c.requires.driven.1.few there)
 
 pub offset_bounds-skip-from : goal.offset_bounds-skip-from
 offset_bounds-skip-from c =
     omega (arith, entries_few c.requires.block.0 _ c.loop-i-test.true)
-
-pub slice_bounds-cost_one-start : goal.slice_bounds-cost_one-start
-slice_bounds-cost_one-start c =
-    omega arith
 
 pub slice_bounds-cost_one-end : goal.slice_bounds-cost_one-end
 slice_bounds-cost_one-end c =
@@ -41,17 +37,9 @@ pub offset_bounds-costs-from : goal.offset_bounds-costs-from
 offset_bounds-costs-from c =
     omega (arith, entries_few c.requires.block.0 _ c.loop-i-test.true)
 
-pub slice_bounds-cost_one-start-in-loop-i : goal.slice_bounds-cost_one-start-in-loop-i
-slice_bounds-cost_one-start-in-loop-i c =
-    omega arith
-
 pub slice_bounds-cost_one-end-in-loop-i : goal.slice_bounds-cost_one-end-in-loop-i
 slice_bounds-cost_one-end-in-loop-i c =
     omega (arith, entries_few c.requires.block.0 _ c.loop-i-test.true, c.loop-i.invariant.0)
-
-pub cost_one-requires-clause-formed : goal.cost_one-requires-clause-formed
-cost_one-requires-clause-formed c =
-    c.requires.formed
 
 pub cost_one-requires-clause-kept : goal.cost_one-requires-clause-kept
 cost_one-requires-clause-kept c =
@@ -63,15 +51,6 @@ cost_one-requires-clause-other_in_bounds c = (
   lent_wide c.requires.block.0 _ c.loop-i-test.true _
       c.loop-i.invariant.0,
 )
-
-pub overflow_add-i : goal.overflow_add-i
-overflow_add-i c =
-    let there = row_there c.requires.block.0 _ c.loop-i-test.true in
-    omega (arith, side_few c.args.kind c.args.turned _ _ _ c.requires.formed.2.few there)
-
-pub loop-i-smaller : goal.loop-i-smaller
-loop-i-smaller c =
-    omega (arith, c.loop-i-test.true)
 
 pub loop-i-preserved : goal.loop-i-preserved
 loop-i-preserved c =

@@ -9,17 +9,13 @@ pub side_of-side-requires : goal.side_of-side-requires
 side_of-side-requires c =
     let n = length c.args.list.now in
     let m = length c.args.other.now in
-    (omega (arith, c.requires.formed.2.few), omega (arith, c.requires.formed.2.few), side_few c.args.kind c.args.turned n m c.args.k c.requires.formed.2.few c.requires.kept.1)
-
-pub row_costs-requires-clause-formed : goal.row_costs-requires-clause-formed
-row_costs-requires-clause-formed c =
-    c.requires.formed
+    (omega (arith, c.requires.driven.1.few), omega (arith, c.requires.driven.1.few), side_few c.args.kind c.args.turned n m c.args.k c.requires.driven.1.few c.requires.kept.1)
 
 pub row_costs-requires-clause-kept : goal.row_costs-requires-clause-kept
 row_costs-requires-clause-kept c =
     let n = length c.args.list.now in
     let m = length c.args.other.now in
-    let lying = rw (← c.side_of-side.ensures) at (side_lies c.args.kind c.args.turned n m c.args.k c.requires.formed.2.few
+    let lying = rw (← c.side_of-side.ensures) at (side_lies c.args.kind c.args.turned n m c.args.k c.requires.driven.1.few
     c.requires.kept.1) in
     (c.requires.kept.0, row_part _ lying.lies lying.fewer)
 
@@ -27,7 +23,7 @@ pub row_costs-requires-clause-count_in_bounds : goal.row_costs-requires-clause-c
 row_costs-requires-clause-count_in_bounds c =
     let n = length c.args.list.now in
     let m = length c.args.other.now in
-    let lying = rw (← c.side_of-side.ensures) at (side_lies c.args.kind c.args.turned n m c.args.k c.requires.formed.2.few
+    let lying = rw (← c.side_of-side.ensures) at (side_lies c.args.kind c.args.turned n m c.args.k c.requires.driven.1.few
     c.requires.kept.1) in
     (omega (arith, lying.fewer, lying.wide, c.requires.other_in_bounds.0), omega (arith, lying.fewer, lying.wide, c.requires.other_in_bounds.1))
 
@@ -35,7 +31,7 @@ pub extend-requires : goal.extend-requires
 extend-requires c =
     let n = length c.args.list.now in
     let m = length c.args.other.now in
-    let lying = rw (← c.side_of-side.ensures) at (side_lies c.args.kind c.args.turned n m c.args.k c.requires.formed.2.few
+    let lying = rw (← c.side_of-side.ensures) at (side_lies c.args.kind c.args.turned n m c.args.k c.requires.driven.1.few
     c.requires.kept.1) in
     (omega (arith, lying.wide, c.requires.other_in_bounds.1, c.row_costs.auto.costs), lying.lies.few)
 
@@ -43,6 +39,6 @@ pub returns : goal.returns
 returns c =
     let n = length c.args.list.now in
     let m = length c.args.other.now in
-    let lying = rw (← c.side_of-side.ensures) at (side_lies c.args.kind c.args.turned n m c.args.k c.requires.formed.2.few
+    let lying = rw (← c.side_of-side.ensures) at (side_lies c.args.kind c.args.turned n m c.args.k c.requires.driven.1.few
     c.requires.kept.1) in
     costed_row _ _ _ _ _ _ _ _ _ c.side_of-side.ensures lying.first c.row_costs.ensures c.extend.ensures

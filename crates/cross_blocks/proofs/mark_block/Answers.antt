@@ -30,21 +30,9 @@ pub offset_bounds-marks-from : goal.offset_bounds-marks-from
 offset_bounds-marks-from c =
     omega (arith, entries_few c.requires.block.0 _ c.loop-i-test.true)
 
-pub slice_bounds-mark_one-start : goal.slice_bounds-mark_one-start
-slice_bounds-mark_one-start c =
-    omega arith
-
 pub slice_bounds-mark_one-end : goal.slice_bounds-mark_one-end
 slice_bounds-mark_one-end c =
     omega (arith, entries_few c.requires.block.0 _ c.loop-i-test.true, c.loop-i.invariant.0)
-
-pub mark_one-requires-clause-loaded : goal.mark_one-requires-clause-loaded
-mark_one-requires-clause-loaded c =
-    c.requires.loaded
-
-pub mark_one-requires-clause-prefixed : goal.mark_one-requires-clause-prefixed
-mark_one-requires-clause-prefixed c =
-    c.requires.prefixed
 
 pub mark_one-requires-clause-k_bound : goal.mark_one-requires-clause-k_bound
 mark_one-requires-clause-k_bound c = (
@@ -52,15 +40,6 @@ mark_one-requires-clause-k_bound c = (
   lent_wide c.requires.block.0 _
       c.loop-i-test.true _ c.loop-i.invariant.0,
 )
-
-pub overflow_add-i : goal.overflow_add-i
-overflow_add-i c =
-    let there = row_there c.requires.block.0 _ c.loop-i-test.true in
-    omega (arith, there, rows_few c.args.kind (length c.args.one.now), c.requires.loaded.2.few)
-
-pub loop-i-smaller : goal.loop-i-smaller
-loop-i-smaller c =
-    omega (arith, c.loop-i-test.true)
 
 pub loop-i-preserved : goal.loop-i-preserved
 loop-i-preserved c =

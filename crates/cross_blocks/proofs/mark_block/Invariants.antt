@@ -1,6 +1,5 @@
 -- `mark_block`: before each row the marks of those before it are put down.
 use mathlib.Core.Path.{◌≡◌}
-use Prim.Native.Nat.{◌-◌}
 use lib.ListN.{length}
 use Rattle.cross_blocks.specs.Blocks.{MarkedBlock}
 use Rattle.cross_blocks.proofs.mark_block.Given as goal
@@ -8,7 +7,3 @@ use Rattle.cross_blocks.proofs.mark_block.Given as goal
 abbrev pub invariant-loop-i : goal.invariant-loop-i
 invariant-loop-i l =
     (length l.marks ≡ 64) × MarkedBlock l.demand l.van1 l.van2 l.one l.other l.kind l.k l.width l.i l.marks
-
-abbrev pub decreases-loop-i : goal.decreases-loop-i
-decreases-loop-i l =
-    l.rows - l.i

@@ -9,14 +9,6 @@ pub row_of-row-requires : goal.row_of-row-requires
 row_of-row-requires c =
     (omega (arith, c.requires.loaded.2.few), omega (arith, rows_few c.args.kind (length c.args.one.now), c.requires.k_bound.0, c.requires.loaded.2.few))
 
-pub mark_row-requires-clause-loaded : goal.mark_row-requires-clause-loaded
-mark_row-requires-clause-loaded c =
-    c.requires.loaded
-
-pub mark_row-requires-clause-prefixed : goal.mark_row-requires-clause-prefixed
-mark_row-requires-clause-prefixed c =
-    c.requires.prefixed
-
 pub mark_row-requires-clause-rowed : goal.mark_row-requires-clause-rowed
 mark_row-requires-clause-rowed c =
     let n1 = length c.args.one.now in

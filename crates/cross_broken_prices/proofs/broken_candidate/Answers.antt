@@ -9,34 +9,6 @@ use Rattle.cross_broken_prices.proofs.Prices.{head_kept, cost_on}
 use Rattle.broken_heads.specs.Head.{clock_of}
 use Rattle.cross_broken_prices.proofs.broken_candidate.Goals as goal
 
-pub drive_candidate-drive-requires-clause-formed : goal.drive_candidate-drive-requires-clause-formed
-drive_candidate-drive-requires-clause-formed c =
-    (c.requires.formed.0, c.requires.formed.2)
-
-pub drive_candidate-drive-requires-clause-place_lt_l : goal.drive_candidate-drive-requires-clause-place_lt_l
-drive_candidate-drive-requires-clause-place_lt_l c =
-    (c.requires.broken.1.placed, c.requires.broken.1.counted, c.requires.driven_le_from.0)
-
-pub drive_candidate-drive-requires-clause-from_le_to : goal.drive_candidate-drive-requires-clause-from_le_to
-drive_candidate-drive-requires-clause-from_le_to c =
-    (c.requires.driven_le_from.1, c.requires.driven_le_from.2, c.requires.driven_le_from.3, c.requires.driven_le_from.4)
-
-pub overflow_sub-other_to : goal.overflow_sub-other_to
-overflow_sub-other_to c =
-    omega (arith, c.requires.driven_le_from.3)
-
-pub overflow_add-from : goal.overflow_add-from
-overflow_add-from c =
-    omega (arith, c.requires.formed.2.few, c.requires.driven_le_from.1, c.requires.driven_le_from.2, c.requires.driven_le_from.4)
-
-pub overflow_sub-list : goal.overflow_sub-list
-overflow_sub-list c =
-    omega (arith, c.requires.driven_le_from.2)
-
-pub overflow_add-from-2 : goal.overflow_add-from-2
-overflow_add-from-2 c =
-    omega (arith, c.requires.formed.2.few, c.requires.driven_le_from.1, c.requires.driven_le_from.2, c.requires.driven_le_from.4)
-
 pub returns-then-from-other_to-eq0-clause-head_of : goal.returns-then-from-other_to-eq0-clause-head_of
 unfolding of_bits
 returns-then-from-other_to-eq0-clause-head_of c =
@@ -49,19 +21,15 @@ unfolding of_bits
 returns-then-from-other_to-eq0-clause-cost_value c =
     cost_none _ _ _ _ _ _ c.requires.driven_le_from.1 c.requires.driven_le_from.2 c.requires.driven_le_from.4 _ _ c.if-from-other_to-eq0.true
 
-pub get-requires : goal.get-requires
-get-requires c =
-    (c.requires.formed.0.tables.of_distances, c.drive_candidate-drive.ensures.to_end.placed, c.requires.formed.1.depot_there)
-
 pub finish-outcome-requires-clause-tables : goal.finish-outcome-requires-clause-tables
 unfolding clock_of
 finish-outcome-requires-clause-tables c =
-    c.requires.formed.0.tables
+    c.args.columns.now.formed.tables
 
 pub finish-outcome-requires-clause-prev_lt_l : goal.finish-outcome-requires-clause-prev_lt_l
 unfolding clock_of
 finish-outcome-requires-clause-prev_lt_l c =
-    (rw c.clock-clock.ensures c.drive_candidate-drive.ensures.to_end.placed, c.requires.formed.1.depot_there)
+    (rw c.clock-clock.ensures c.drive_candidate-drive.ensures.to_end.placed, c.requires.driven.0.depot_there)
 
 pub returns-clause-head_of : goal.returns-clause-head_of
 returns-clause-head_of c =
@@ -76,4 +44,4 @@ returns-clause-cost_value c =
     cost_on _ _ _ _ c.requires.broken.0 c.args.list.now c.args.other.now _ c.args.to c.args.other_from c.args.other_to _ _
     c.requires.broken.1 c.requires.driven_le_from.0 within _ _ _ _ _ (omega (arith, long, c.requires.driven_le_from.0))
     c.drive_candidate-drive.ensures.to_end
-    (λ e. c.if-from-other_to-eq0.false (sym long ∙ e)) c.get.ensures c.clock-clock.ensures c.finish-outcome.ensures c.end_cost.ensures
+    (λ e. c.if-from-other_to-eq0.false (sym long ∙ e)) c.distance.ensures c.clock-clock.ensures c.finish-outcome.ensures c.end_cost.ensures

@@ -12,9 +12,9 @@ returns-in_default c =
 pub returns-then-allow : goal.returns-then-allow
 unfolding amount price_of evaluated priced_distance
 returns-then-allow c =
-    rw (c.in-Possible.is, sym c.allow.ensures ∙ c.if-allow.true) c.route_cost.ensures
+    rw (c.in-Some.is, sym c.allow.ensures ∙ c.if-allow.true) c.route_cost.ensures
 
 pub returns : goal.returns
 unfolding amount price_of evaluated
 returns c =
-    rw (c.in-Possible.is, sym c.allow.ensures ∙ c.if-allow.false) c.infinite-2.ensures.answer
+    rw (c.in-Some.is, sym c.allow.ensures ∙ c.if-allow.false) c.infinite-2.ensures.answer

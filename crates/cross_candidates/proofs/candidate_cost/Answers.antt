@@ -20,18 +20,10 @@ unfolding of_bits
 returns-then-from-other_to-eq0 c =
     cost_none _ _ _ _ _ _ c.requires.from_le_to.0 c.requires.from_le_to.1 c.requires.from_le_to.3 _ _ c.if-from-other_to-eq0.true
 
-pub head_at-head-requires : goal.head_at-head-requires
-head_at-head-requires c =
-    (omega (arith, c.requires.from_le_to.0, c.requires.from_le_to.1), omega (arith, c.requires.from_le_to.0, c.requires.from_le_to.1, c.requires.formed.2.few), c.requires.unbroken.1.long)
-
-pub price_from-price-requires-clause-formed : goal.price_from-price-requires-clause-formed
-price_from-price-requires-clause-formed c =
-    c.requires.formed
-
 pub price_from-price-requires-clause-place_lt_l : goal.price_from-price-requires-clause-place_lt_l
 price_from-price-requires-clause-place_lt_l c =
     let few : c.args.from ≤ length c.args.list.now = omega (arith, c.requires.from_le_to.0, c.requires.from_le_to.1) in
-    let there = place_there c.args.l c.args.van.depot c.args.list.now c.args.from c.requires.formed.1.depot_there c.requires.formed.2.one_below few in
+    let there = place_there c.args.columns.now.locations c.args.van.depot c.args.list.now c.args.from c.requires.driven.0.depot_there c.requires.driven.1.one_below few in
     (rw c.head_at-head.ensures there, c.requires.from_le_to.1, c.requires.from_le_to.2, c.requires.from_le_to.3)
 
 pub returns-in_default : goal.returns-in_default
@@ -42,6 +34,6 @@ returns-in_default c =
 
 pub returns : goal.returns
 returns c =
-    amount-costs _ _ c.in-Costs.is
+    amount-costs _ _ c.in-Some.is
     ∙ ap amount (price_on_lem _ _ _ c.requires.unbroken.0 _ _ _ _ _ _ c.requires.from_le_to.0 c.requires.from_le_to.1 c.requires.from_le_to.3 _ _ c.requires.unbroken.1 _ _ c.head_at-head.ensures
     c.if-reached-from.false c.if-from-other_to-eq0.false c.price_from-price.ensures)

@@ -1,6 +1,5 @@
 -- `extend`: the entries from `from` on, up to here, are the first one; the others are as they were.
 use mathlib.Core.Path.{refl}
-use Prim.Native.Nat.{◌-◌}
 use native.Mathlib.Omega.{arith}
 use Rattle.cross_choices.proofs.Deciding.{extending_turns}
 use Rattle.cross_choices.proofs.extend.Goals as goal
@@ -13,22 +12,6 @@ loop-j-init c =
       kept = λ i below. refl;
       copied = λ i above some below. absurd (omega (arith, above, below));
     }
-
-pub bounds-costs-0 : goal.bounds-costs-0
-bounds-costs-0 c =
-    omega (arith, c.loop-j-test.true, c.requires.0, c.loop-j.invariant.long)
-
-pub bounds-costs-j : goal.bounds-costs-j
-bounds-costs-j c =
-    omega (arith, c.loop-j-test.true, c.requires.0, c.loop-j.invariant.long)
-
-pub overflow_add-j : goal.overflow_add-j
-overflow_add-j c =
-    omega (arith, c.loop-j-test.true, c.requires.1)
-
-pub loop-j-smaller : goal.loop-j-smaller
-loop-j-smaller c =
-    omega (arith, c.loop-j-test.true)
 
 pub loop-j-preserved : goal.loop-j-preserved
 loop-j-preserved c =

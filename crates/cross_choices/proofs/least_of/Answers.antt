@@ -1,6 +1,5 @@
 -- `least_of`: before each move, the scan from here on comes to the first least of all.
 use mathlib.Core.Path.{refl, sym, ◌∙◌}
-use Prim.Native.Nat.{◌-◌}
 use native.Mathlib.Omega.{arith}
 use Rattle.cross_choices.specs.Rows.{least_of}
 use Rattle.descent.proofs.Loops.{scan_turn, scan_done}
@@ -10,30 +9,6 @@ pub loop-j-init : goal.loop-j-init
 unfolding least_of
 loop-j-init c =
     (omega arith, refl)
-
-pub offset_bounds-costs1-j : goal.offset_bounds-costs1-j
-offset_bounds-costs1-j c =
-    omega (arith, c.loop-j-test.true, c.requires.2)
-
-pub bounds-costs1-j : goal.bounds-costs1-j
-bounds-costs1-j c =
-    omega (arith, c.loop-j-test.true, c.requires.2, c.requires.0)
-
-pub offset_bounds-costs2-j : goal.offset_bounds-costs2-j
-offset_bounds-costs2-j c =
-    omega (arith, c.loop-j-test.true, c.requires.2)
-
-pub bounds-costs2-j : goal.bounds-costs2-j
-bounds-costs2-j c =
-    omega (arith, c.loop-j-test.true, c.requires.2, c.requires.1)
-
-pub overflow_add-j : goal.overflow_add-j
-overflow_add-j c =
-    omega (arith, c.loop-j-test.true, c.requires.2)
-
-pub loop-j-smaller : goal.loop-j-smaller
-loop-j-smaller c =
-    omega (arith, c.loop-j-test.true)
 
 pub loop-j-preserved : goal.loop-j-preserved
 loop-j-preserved c =

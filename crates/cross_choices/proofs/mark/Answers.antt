@@ -1,18 +1,16 @@
 -- `mark`: one return for each side of the test.
-use mathlib.Core.Path.{refl, sym, ◌∙◌}
+use borrow.Author.Rules.{rules}
+use borrow.Author.Tests.{tests}
 use lib.Ieee.{of_bits}
-use Rattle.tests.specs.Pick.{picked, other}
 use Rattle.cross_choices.specs.Rows.{mark_of}
 use Rattle.cross_choices.proofs.mark.Goals as goal
 
-pub returns-then-both : goal.returns-then-both
+pub returns-then-second : goal.returns-then-second
 unfolding mark_of of_bits
-returns-then-both c =
-    let whole = rw c.either.ensures at c.both.ensures in
-    picked _ _ _ _ (sym whole ∙ c.if-both.true) refl
+returns-then-second c =
+    search (rules, tests)
 
 pub returns : goal.returns
 unfolding mark_of
 returns c =
-    let whole = rw c.either.ensures at c.both.ensures in
-    other _ _ _ _ (sym whole ∙ c.if-both.false) c.infinite.ensures.answer
+    search (rules, tests)

@@ -1,6 +1,5 @@
 -- `mark_row`: the table is filled in from its start; each load is asked by the prefix loads of both lists.
 use mathlib.Core.Path.{refl}
-use Prim.Native.Nat.{◌-◌}
 use native.Mathlib.Omega.{arith}
 use Rattle.loads.proofs.Visits.{two_turned}
 use Rattle.cross_choices.proofs.Deciding.{filled_turns, marked}
@@ -32,14 +31,6 @@ pub end_at-to2-requires : goal.end_at-to2-requires
 end_at-to2-requires c =
     omega (arith, c.requires.rowed.0.others_within _ c.loop-j-test.true, c.requires.loaded.2.few)
 
-pub fits-first-requires-clause-loaded : goal.fits-first-requires-clause-loaded
-fits-first-requires-clause-loaded c =
-    (c.requires.loaded.0, c.requires.loaded.1.0, c.requires.loaded.2)
-
-pub fits-first-requires-clause-prefixed : goal.fits-first-requires-clause-prefixed
-fits-first-requires-clause-prefixed c =
-    c.requires.prefixed
-
 pub fits-first-requires-clause-from_le_to : goal.fits-first-requires-clause-from_le_to
 fits-first-requires-clause-from_le_to c = (
   rw (c.start_at-from1.ensures, c.end_at-to1.ensures) (c.requires.rowed.0.ordered _ c.loop-j-test.true),
@@ -55,10 +46,6 @@ pub fits-second-requires-clause-loaded : goal.fits-second-requires-clause-loaded
 fits-second-requires-clause-loaded c =
     (c.requires.loaded.0, c.requires.loaded.1.1, two_turned _ _ _ c.requires.loaded.2)
 
-pub fits-second-requires-clause-prefixed : goal.fits-second-requires-clause-prefixed
-fits-second-requires-clause-prefixed c =
-    (c.requires.prefixed.1, c.requires.prefixed.0)
-
 pub fits-second-requires-clause-from_le_to : goal.fits-second-requires-clause-from_le_to
 fits-second-requires-clause-from_le_to c = (
   rw (c.start_at-from2.ensures, c.end_at-to2.ensures) (c.requires.rowed.0.others_ordered _ c.loop-j-test.true),
@@ -68,22 +55,6 @@ fits-second-requires-clause-from_le_to c = (
       (c.requires.rowed.0.ordered _ c.loop-j-test.true),
   rw c.end_at-to1.ensures (c.requires.rowed.0.within _ c.loop-j-test.true),
 )
-
-pub offset_bounds-marks-j : goal.offset_bounds-marks-j
-offset_bounds-marks-j c =
-    omega (arith, c.loop-j-test.true, c.requires.rowed.0.few)
-
-pub bounds-marks-j : goal.bounds-marks-j
-bounds-marks-j c =
-    omega (arith, c.loop-j-test.true, c.requires.rowed.1, c.loop-j.invariant.long)
-
-pub overflow_add-j : goal.overflow_add-j
-overflow_add-j c =
-    omega (arith, c.loop-j-test.true, c.requires.rowed.0.few)
-
-pub loop-j-smaller : goal.loop-j-smaller
-loop-j-smaller c =
-    omega (arith, c.loop-j-test.true)
 
 pub loop-j-preserved : goal.loop-j-preserved
 loop-j-preserved c =

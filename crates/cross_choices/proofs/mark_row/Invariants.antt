@@ -1,5 +1,4 @@
 -- `mark_row`: the table is filled in from its start; each load is asked by the prefix loads of both lists.
-use Prim.Native.Nat.{◌-◌}
 use lib.ListN.{length}
 use Rattle.cross_moves.specs.CrossDepot.{holds}
 use Rattle.cross_rows.specs.Row.{changed}
@@ -11,7 +10,3 @@ abbrev pub invariant-loop-j : goal.invariant-loop-j
 invariant-loop-j l =
     Filled (λ i. mark_of l.tested (holds l.demand l.van1 (changed l.one l.own l.other l.others i)) (holds l.demand l.van2 (changed l.other l.others l.one l.own i)))
     (length l.initial.marks) l.marks l.j
-
-abbrev pub decreases-loop-j : goal.decreases-loop-j
-decreases-loop-j l =
-    l.count - l.j

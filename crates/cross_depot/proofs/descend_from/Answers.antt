@@ -1,16 +1,7 @@
 -- `descend_from`: after the start the tables hold the plan that is lent.
 use mathlib.Core.Path.{refl, sym, ap, ◌∙◌}
-use native.Mathlib.Omega.{arith}
 use Rattle.numbers.specs.Floor.{gain_floor}
 use Rattle.cross_depot.proofs.descend_from.Goals as goal
-
-pub start-requires-clause-fitted : goal.start-requires-clause-fitted
-start-requires-clause-fitted c =
-    c.requires.manned.crewed.fitted
-
-pub start-requires-clause-nonzero : goal.start-requires-clause-nonzero
-start-requires-clause-nonzero c =
-    ((c.requires.manned.some_van, c.requires.manned.crewed.few), omega (arith, c.requires.held.1, c.requires.held.0.laid.few))
 
 pub start-requires-clause-prices_len : goal.start-requires-clause-prices_len
 start-requires-clause-prices_len c =
@@ -20,10 +11,6 @@ pub descend-requires-clause-asked : goal.descend-requires-clause-asked
 descend-requires-clause-asked c =
     let floor = c.gain_floor.ensures.answer ∙ ap gain_floor c.scale.ensures in
     (c.requires.asked, floor)
-
-pub descend-requires-clause-manned : goal.descend-requires-clause-manned
-descend-requires-clause-manned c =
-    c.requires.manned
 
 pub descend-requires-clause-held : goal.descend-requires-clause-held
 descend-requires-clause-held c =

@@ -3,7 +3,6 @@
 use mathlib.Core.Path.{sym, ◌∙◌}
 use native.Mathlib.Omega.{arith}
 use lib.ListN.{length}
-use Rattle.loads.proofs.Visits.{two_turned}
 use Rattle.cross_kinds.proofs.Along.{rows_few}
 use Rattle.cross_blocks.proofs.Blocks.{block_shut, least_few, block_chosen}
 use Rattle.cross_blocks.proofs.Sides.{block_few, block_wide}
@@ -13,18 +12,6 @@ pub mark_block-requires-clause-loaded : goal.mark_block-requires-clause-loaded
 mark_block-requires-clause-loaded c =
     (c.requires.ready.asked.loaded, (rw c.requires.roomy.2 c.requires.ready.paired.driven1, rw c.requires.roomy.3 c.requires.ready.paired.driven2), c.requires.ready.two)
 
-pub mark_block-requires-clause-prefixed : goal.mark_block-requires-clause-prefixed
-mark_block-requires-clause-prefixed c =
-    (c.requires.ready.prefixed1, c.requires.ready.prefixed2)
-
-pub mark_block-requires-clause-block : goal.mark_block-requires-clause-block
-mark_block-requires-clause-block c =
-    (c.requires.roomy.1, c.requires.roomy.0.costs2_long)
-
-pub block_costs-requires-clause-formed : goal.block_costs-requires-clause-formed
-block_costs-requires-clause-formed c =
-    (c.requires.ready.asked.formed, rw c.requires.roomy.2 c.requires.ready.paired.driven1, c.requires.ready.two)
-
 pub block_costs-requires-clause-kept : goal.block_costs-requires-clause-kept
 block_costs-requires-clause-kept c =
     rw c.requires.roomy.2 c.requires.ready.kept1
@@ -32,10 +19,6 @@ block_costs-requires-clause-kept c =
 pub block_costs-requires-clause-block : goal.block_costs-requires-clause-block
 block_costs-requires-clause-block c =
     (c.requires.roomy.1, c.mark_block.auto.marks ∙ c.requires.roomy.0.costs2_long, c.requires.roomy.0.costs1_long)
-
-pub entries_of-count-requires : goal.entries_of-count-requires
-entries_of-count-requires c =
-    (c.requires.roomy.1, omega (arith, c.requires.ready.two.few), omega (arith, c.requires.ready.two.few))
 
 pub is_shut-requires : goal.is_shut-requires
 is_shut-requires c =
@@ -48,10 +31,6 @@ returns-then-is_shut c =
     c.args.width c.args.rows _ _ c.requires.roomy.1
     _ _ c.requires.roomy.2 c.requires.roomy.3 c.mark_block.ensures c.block_costs.ensures
     (rw c.entries_of-count.ensures at shut) c.args.best
-
-pub block_costs-requires-2-clause-formed : goal.block_costs-requires-2-clause-formed
-block_costs-requires-2-clause-formed c =
-    (c.requires.ready.asked.formed, rw c.requires.roomy.3 c.requires.ready.paired.driven2, two_turned _ _ _ c.requires.ready.two)
 
 pub block_costs-requires-2-clause-kept : goal.block_costs-requires-2-clause-kept
 block_costs-requires-2-clause-kept c =

@@ -1,6 +1,5 @@
 -- `best_of_kind`: before each block, the scan from here on comes to all rows of the kind.
 use mathlib.Core.Path.{refl, sym, ◌∙◌}
-use Prim.Native.Nat.{◌-◌}
 use native.Mathlib.Omega.{arith}
 use lib.ListN.{length}
 use Rattle.cross_kinds.specs.Kinds.{rows_in}
@@ -11,22 +10,10 @@ use Rattle.cross_pairs.proofs.Between.{roomy_kept}
 use Rattle.descent.proofs.Loops.{scan_done}
 use Rattle.cross_pairs.proofs.best_of_kind.Goals as goal
 
-pub rows_of-rows-requires : goal.rows_of-rows-requires
-rows_of-rows-requires c =
-    omega (arith, c.requires.ready.two.few)
-
-pub width_of-width-requires : goal.width_of-width-requires
-width_of-width-requires c =
-    omega (arith, c.requires.ready.two.few)
-
 pub loop-k-init : goal.loop-k-init
 unfolding best_of_kind
 loop-k-init c =
     (c.requires.roomy, refl)
-
-pub overflow_sub-rows : goal.overflow_sub-rows
-overflow_sub-rows c =
-    omega (arith, c.loop-k-test.true)
 
 pub rows_at_once-some-requires : goal.rows_at_once-some-requires
 rows_at_once-some-requires c =
@@ -35,10 +22,6 @@ rows_at_once-some-requires c =
       omega (arith, c.loop-k-test.true),
       omega (arith, c.rows_of-rows.ensures, rows, c.requires.ready.two.few),
     )
-
-pub best_of_block-found-requires-clause-ready : goal.best_of_block-found-requires-clause-ready
-best_of_block-found-requires-clause-ready c =
-    c.requires.ready
 
 pub best_of_block-found-requires-clause-roomy : goal.best_of_block-found-requires-clause-roomy
 best_of_block-found-requires-clause-roomy c = (

@@ -4,21 +4,6 @@ use native.Mathlib.Omega.{arith}
 use lib.Seq.{length-take-le}
 use Rattle.cross_pairs.proofs.between_lists.Goals as goal
 
-pub prefix_both-requires : goal.prefix_both-requires
-prefix_both-requires c = (
-  c.requires.asked.0.loaded,
-  c.requires.asked.2,
-  c.requires.sums_len.0,
-)
-
-pub heads_of_both-reach-requires-clause-formed : goal.heads_of_both-reach-requires-clause-formed
-heads_of_both-reach-requires-clause-formed c =
-    (c.requires.asked.0.formed, c.requires.asked.1, c.requires.asked.2)
-
-pub heads_of_both-reach-requires-clause-heads_len : goal.heads_of_both-reach-requires-clause-heads_len
-heads_of_both-reach-requires-clause-heads_len c =
-    c.requires.sums_len.1
-
 pub slice_bounds-best_of_kinds-end : goal.slice_bounds-best_of_kinds-end
 slice_bounds-best_of_kinds-end c =
     omega (
@@ -50,10 +35,6 @@ slice_bounds-best_of_kinds-end-4 c =
       c.heads_of_both-reach.auto.heads
           ∙ c.requires.sums_len.1,
     )
-
-pub slice_bounds-best_of_kinds-end-5 : goal.slice_bounds-best_of_kinds-end-5
-slice_bounds-best_of_kinds-end-5 c =
-    omega (arith, c.requires.sums_len.2)
 
 pub best_of_kinds-requires-clause-ready : goal.best_of_kinds-requires-clause-ready
 best_of_kinds-requires-clause-ready c =

@@ -7,28 +7,20 @@ use Rattle.loads.proofs.Visits.{visits_first, visits_second}
 use Rattle.cross_pairs.proofs.Between.{lent_long, lent_long2, first_part, second_part, kept_part}
 use Rattle.cross_pairs.proofs.heads_of_both.Goals as goal
 
-pub fill_heads-reached1-requires-clause-formed : goal.fill_heads-reached1-requires-clause-formed
-fill_heads-reached1-requires-clause-formed c =
-    c.requires.formed.0
-
-pub fill_heads-reached1-requires-clause-depot_lt_l : goal.fill_heads-reached1-requires-clause-depot_lt_l
-fill_heads-reached1-requires-clause-depot_lt_l c =
+pub fill_heads-reached1-requires : goal.fill_heads-reached1-requires
+fill_heads-reached1-requires c =
     let few : 256 + 256 ≤ length c.args.heads.now = omega (arith, c.requires.heads_len) in (
-      c.requires.formed.1.driven1.depot_there,
+      c.requires.paired.0.driven1.depot_there,
       visits_first _ _ _
-          c.requires.formed.2,
+          c.requires.paired.1,
       lent_long 256 c.args.heads.now c.args.heads.now c.args.heads.now few,
     )
 
-pub fill_heads-reached2-requires-clause-formed : goal.fill_heads-reached2-requires-clause-formed
-fill_heads-reached2-requires-clause-formed c =
-    c.requires.formed.0
-
-pub fill_heads-reached2-requires-clause-depot_lt_l : goal.fill_heads-reached2-requires-clause-depot_lt_l
-fill_heads-reached2-requires-clause-depot_lt_l c =
+pub fill_heads-reached2-requires : goal.fill_heads-reached2-requires
+fill_heads-reached2-requires c =
     let few : 256 + 256 ≤ length c.args.heads.now = omega (arith, c.requires.heads_len) in
     let long = c.fill_heads-reached1.auto.heads ∙ lent_long 256 c.args.heads.now c.fill_heads-reached1.new.heads c.fill_heads-reached1.new.heads few in
-    (c.requires.formed.1.driven2.depot_there, visits_second _ _ _ c.requires.formed.2, lent_long2 256 c.args.heads.now c.fill_heads-reached1.new.heads c.fill_heads-reached1.new.heads few long)
+    (c.requires.paired.0.driven2.depot_there, visits_second _ _ _ c.requires.paired.1, lent_long2 256 c.args.heads.now c.fill_heads-reached1.new.heads c.fill_heads-reached1.new.heads few long)
 
 pub returns : goal.returns
 returns c =

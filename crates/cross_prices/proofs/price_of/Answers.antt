@@ -2,12 +2,12 @@
 use Rattle.cross_moves.specs.CrossDepot.{price_of}
 use Rattle.cross_prices.proofs.price_of.Goals as goal
 
-pub returns-in-Fails : goal.returns-in-Fails
+pub returns-in-None : goal.returns-in-None
 unfolding price_of
-returns-in-Fails c =
-    rw c.in-Fails.is
+returns-in-None c =
+    rw c.in-None.is
 
-pub returns-in-Passes : goal.returns-in-Passes
+pub returns-in-Some : goal.returns-in-Some
 unfolding price_of
-returns-in-Passes c =
-    rw (c.in-Passes.is, c.route_cost.ensures, c.priced_distance.ensures)
+returns-in-Some c =
+    rw (c.in-Some.is, c.route_cost.ensures, c.priced_distance.ensures)

@@ -8,13 +8,9 @@ unfolding of_bits
 returns-then-list-eq0 c =
     priced_none _ _ _ c.if-list-eq0.true
 
-pub route_eval-evaluation-requires-clause-formed : goal.route_eval-evaluation-requires-clause-formed
-route_eval-evaluation-requires-clause-formed c =
-    c.requires.formed
-
-pub route_eval-evaluation-requires-clause-depot_lt_l : goal.route_eval-evaluation-requires-clause-depot_lt_l
-route_eval-evaluation-requires-clause-depot_lt_l c =
-    (c.requires.driven.0.depot_there, c.requires.driven.1)
+pub route_eval-evaluation-requires : goal.route_eval-evaluation-requires
+route_eval-evaluation-requires c =
+    (c.requires.0.depot_there, c.requires.1)
 
 pub returns : goal.returns
 returns c =

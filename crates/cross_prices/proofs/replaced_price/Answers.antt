@@ -5,14 +5,10 @@ use Rattle.edits.proofs.Cuts.{front}
 use Rattle.cross_prices.proofs.Stretch.{visits-replaced}
 use Rattle.cross_prices.proofs.replaced_price.Goals as goal
 
-pub priced-requires-clause-formed : goal.priced-requires-clause-formed
-priced-requires-clause-formed c =
-    c.requires.formed.0
-
-pub priced-requires-clause-driven : goal.priced-requires-clause-driven
-priced-requires-clause-driven c =
+pub priced-requires : goal.priced-requires
+priced-requires c =
     let whole = front c.replaced_into-end.result c.replaced_into-end.new.buffer _ c.replaced_into-end.ensures.buffer_after in (
-      c.requires.formed.1,
+      c.requires.driven,
       rw whole (visits-replaced _ _ _ c.requires.two.0 _ _ _ _ c.requires.two.1 c.requires.two.2 c.requires.other_from_le_other_to.0 c.requires.other_from_le_other_to.1),
     )
 

@@ -1,6 +1,5 @@
 -- `unbroken_row`: before each candidate the costs of those before it are put down.
 use mathlib.Core.Path.{refl, ◌∙◌}
-use Prim.Native.Nat.{◌-◌}
 use native.Mathlib.Omega.{arith}
 use Rattle.cross_rows.proofs.Rows.{cost_skipped, cost_asked, costing_starts, costing_turns, costing_ends}
 use Rattle.cross_rows.proofs.unbroken_row.Goals as goal
@@ -10,37 +9,21 @@ pub loop-j-init : goal.loop-j-init
 loop-j-init c =
     (omega arith, costing_starts _ _ _ _ _ _ _ _ _ refl)
 
-pub offset_bounds-skip-j : goal.offset_bounds-skip-j
-offset_bounds-skip-j c =
-    omega (arith, c.loop-j-test.true, c.requires.rowed.0.few)
-
-pub bounds-skip-j : goal.bounds-skip-j
-bounds-skip-j c =
-    omega (arith, c.loop-j-test.true, c.requires.rowed.0.few, c.requires.rowed.1)
-
 pub start_at-requires : goal.start_at-requires
 start_at-requires c =
-    omega (arith, c.requires.formed.2.few, c.requires.rowed.0.ordered _ c.loop-j-test.true, c.requires.rowed.0.within _ c.loop-j-test.true)
+    omega (arith, c.requires.driven.1.few, c.requires.rowed.0.ordered _ c.loop-j-test.true, c.requires.rowed.0.within _ c.loop-j-test.true)
 
 pub end_at-requires : goal.end_at-requires
 end_at-requires c =
-    omega (arith, c.requires.formed.2.few, c.requires.rowed.0.within _ c.loop-j-test.true)
+    omega (arith, c.requires.driven.1.few, c.requires.rowed.0.within _ c.loop-j-test.true)
 
 pub start_at-requires-then-skip-j : goal.start_at-requires-then-skip-j
 start_at-requires-then-skip-j c =
-    omega (arith, c.requires.formed.2.few, c.requires.rowed.0.others_ordered _ c.loop-j-test.true, c.requires.rowed.0.others_within _ c.loop-j-test.true)
+    omega (arith, c.requires.driven.1.few, c.requires.rowed.0.others_ordered _ c.loop-j-test.true, c.requires.rowed.0.others_within _ c.loop-j-test.true)
 
 pub end_at-requires-then-skip-j : goal.end_at-requires-then-skip-j
 end_at-requires-then-skip-j c =
-    omega (arith, c.requires.formed.2.few, c.requires.rowed.0.others_within _ c.loop-j-test.true)
-
-pub candidate_cost-cost-requires-clause-formed : goal.candidate_cost-cost-requires-clause-formed
-candidate_cost-cost-requires-clause-formed c =
-    c.requires.formed
-
-pub candidate_cost-cost-requires-clause-unbroken : goal.candidate_cost-cost-requires-clause-unbroken
-candidate_cost-cost-requires-clause-unbroken c =
-    c.requires.unbroken
+    omega (arith, c.requires.driven.1.few, c.requires.rowed.0.others_within _ c.loop-j-test.true)
 
 pub candidate_cost-cost-requires-clause-from_le_to : goal.candidate_cost-cost-requires-clause-from_le_to
 candidate_cost-cost-requires-clause-from_le_to c = (
@@ -49,22 +32,6 @@ candidate_cost-cost-requires-clause-from_le_to c = (
   rw (c.start_at-then-skip-j.ensures, c.end_at-then-skip-j.ensures) (c.requires.rowed.0.others_ordered _ c.loop-j-test.true),
   rw c.end_at-then-skip-j.ensures (c.requires.rowed.0.others_within _ c.loop-j-test.true),
 )
-
-pub offset_bounds-costs-j : goal.offset_bounds-costs-j
-offset_bounds-costs-j c =
-    omega (arith, c.loop-j-test.true, c.requires.rowed.0.few)
-
-pub bounds-costs-j : goal.bounds-costs-j
-bounds-costs-j c =
-    omega (arith, c.loop-j-test.true, c.requires.rowed.2, c.loop-j.invariant.1.same_length)
-
-pub overflow_add-j : goal.overflow_add-j
-overflow_add-j c =
-    omega (arith, c.loop-j-test.true, c.requires.rowed.0.few)
-
-pub loop-j-smaller : goal.loop-j-smaller
-loop-j-smaller c =
-    omega (arith, c.loop-j-test.true)
 
 pub loop-j-preserved : goal.loop-j-preserved
 loop-j-preserved c = (

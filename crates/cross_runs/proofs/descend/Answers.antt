@@ -2,7 +2,6 @@
 -- pairs of old lists; proofs/Going.antt has the start, the turn and the end.
 use borrow.Author.Tests.{eq-eqb, ne_eqb, ltb-true}
 use mathlib.Core.Path.{refl, ◌∙◌}
-use Prim.Native.Nat.{◌-◌}
 use native.Mathlib.Omega.{arith}
 use Rattle.cross_search.proofs.Keeping.{kept_start}
 use Rattle.cross_runs.proofs.Going.{begins, had_room, answers, goes_on}
@@ -20,30 +19,6 @@ loop-turn-init c =
       c.requires.deltas_len,
       c.requires.sums_len,
     )
-
-pub take_turn-turn-requires-clause-asked : goal.take_turn-turn-requires-clause-asked
-take_turn-turn-requires-clause-asked c =
-    c.requires.asked
-
-pub take_turn-turn-requires-clause-manned : goal.take_turn-turn-requires-clause-manned
-take_turn-turn-requires-clause-manned c =
-    c.requires.manned
-
-pub take_turn-turn-requires-clause-live : goal.take_turn-turn-requires-clause-live
-take_turn-turn-requires-clause-live c =
-    c.loop-turn.invariant.1
-
-pub take_turn-turn-requires-clause-sums_len : goal.take_turn-turn-requires-clause-sums_len
-take_turn-turn-requires-clause-sums_len c =
-    c.loop-turn.invariant.6
-
-pub take_turn-turn-requires-clause-deltas_len : goal.take_turn-turn-requires-clause-deltas_len
-take_turn-turn-requires-clause-deltas_len c =
-    c.loop-turn.invariant.5
-
-pub take_turn-turn-requires-clause-kept : goal.take_turn-turn-requires-clause-kept
-take_turn-turn-requires-clause-kept c =
-    c.loop-turn.invariant.4
 
 pub returns-then-turn-ne1 : goal.returns-then-turn-ne1
 returns-then-turn-ne1 c =

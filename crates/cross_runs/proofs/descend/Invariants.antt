@@ -4,24 +4,23 @@ use mathlib.Core.Path.{◌≡◌}
 use Prim.Native.Nat.{◌-◌}
 use lib.ListN.{length}
 use Rattle.edits.specs.Total.{SameVisits}
-use Rattle.labels.specs.Columns.{columns}
-use Rattle.fleet.specs.Fleet.{fleet_of}
 use Rattle.cross_moves.specs.CrossDepot.{plan_of}
 use Rattle.cross_deltas.specs.Deltas.{Kept}
 use Rattle.cross_steps.specs.Tables.{plan_in, Live}
 use Rattle.cross_runs.proofs.Going.{Running}
+use Rattle.labels.specs.Lent.{lent}
 use Rattle.cross_runs.proofs.descend.Given as goal
 
 abbrev pub invariant-loop-turn : goal.invariant-loop-turn
 invariant-loop-turn l =
-    Running (columns l.l l.flags l.service l.ready l.due l.penalty l.distances l.times) l.demand
-    (fleet_of l.van_ids l.depots l.capacities l.distance_costs l.fixed_costs l.van_flags l.max_distances l.max_durations l.earliest l.latest l.durations)
+    Running (lent l.columns) l.demand
+    l.fleet
     l.limit (plan_of l.initial.visits l.initial.lengths l.initial.ids l.initial.costs) l.moves (plan_in l.turn.left l.visits l.lengths l.ids l.costs)
-    × Live l.l l.visits l.lengths l.ids l.costs l.turn.left
+    × Live l.columns.locations l.visits l.lengths l.ids l.costs l.turn.left
     × (length l.lengths ≡ length l.initial.lengths)
     × SameVisits l.initial.visits l.visits
-    × Kept (columns l.l l.flags l.service l.ready l.due l.penalty l.distances l.times) l.demand
-    (fleet_of l.van_ids l.depots l.capacities l.distance_costs l.fixed_costs l.van_flags l.max_distances l.max_durations l.earliest l.latest l.durations)
+    × Kept (lent l.columns) l.demand
+    l.fleet
     (plan_in l.turn.left l.visits l.lengths l.ids l.costs) l.floor l.turn.kept l.turn.one l.turn.other 0 l.deltas
     × (length l.deltas ≡ 256)
     × ((length l.sums ≡ 128) × (length l.heads ≡ 512) × (length l.tried_costs ≡ 64))

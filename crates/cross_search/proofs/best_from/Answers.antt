@@ -1,6 +1,5 @@
 -- `best_from`: before each second list, the scan from here on comes to the scan over all of them, and the table has the pairs before.
 use mathlib.Core.Path.{sym, ◌∙◌}
-use Prim.Native.Nat.{◌-◌}
 use native.Mathlib.Omega.{arith}
 use Rattle.descent.proofs.Loops.{scan_turn, scan_done}
 use Rattle.cross_search.proofs.Pairs.{from_start}
@@ -18,42 +17,6 @@ loop-b-init c = (
   c.requires.sums_len.1,
   c.requires.sums_len.2,
 )
-
-pub after_pair-found-requires-clause-asked : goal.after_pair-found-requires-clause-asked
-after_pair-found-requires-clause-asked c =
-    c.requires.asked
-
-pub after_pair-found-requires-clause-manned : goal.after_pair-found-requires-clause-manned
-after_pair-found-requires-clause-manned c =
-    c.requires.manned
-
-pub after_pair-found-requires-clause-held : goal.after_pair-found-requires-clause-held
-after_pair-found-requires-clause-held c =
-    c.requires.held
-
-pub after_pair-found-requires-clause-a_in_bounds : goal.after_pair-found-requires-clause-a_in_bounds
-after_pair-found-requires-clause-a_in_bounds c =
-    (c.requires.a_in_bounds, c.loop-b-test.true)
-
-pub after_pair-found-requires-clause-sums_len : goal.after_pair-found-requires-clause-sums_len
-after_pair-found-requires-clause-sums_len c =
-    (c.loop-b.invariant.4, c.loop-b.invariant.5, c.loop-b.invariant.6)
-
-pub after_pair-found-requires-clause-deltas_len : goal.after_pair-found-requires-clause-deltas_len
-after_pair-found-requires-clause-deltas_len c =
-    (c.loop-b.invariant.3, c.loop-b.invariant.1)
-
-pub after_pair-found-requires-clause-kept : goal.after_pair-found-requires-clause-kept
-after_pair-found-requires-clause-kept c =
-    c.loop-b.invariant.2
-
-pub overflow_add-b : goal.overflow_add-b
-overflow_add-b c =
-    omega (arith, c.loop-b-test.true, c.requires.held.0.laid.few)
-
-pub loop-b-smaller : goal.loop-b-smaller
-loop-b-smaller c =
-    omega (arith, c.loop-b-test.true)
 
 pub loop-b-preserved : goal.loop-b-preserved
 loop-b-preserved c = (

@@ -1,7 +1,6 @@
 -- `best_move`: before each first list, the scan from here on comes to the scan over all of them, and the table has the rows before.
 use mathlib.Core.Path.{sym, ap, ◌∙◌}
 use mathlib.Core.Logic.{inl}
-use Prim.Native.Nat.{◌-◌}
 use native.Mathlib.Omega.{arith}
 use Rattle.cross_choices.specs.Scan.{best_of}
 use Rattle.descent.proofs.Loops.{scan_turn, scan_done}
@@ -20,42 +19,6 @@ loop-a-init c = (
   c.requires.sums_len.1,
   c.requires.sums_len.2,
 )
-
-pub best_from-found-requires-clause-asked : goal.best_from-found-requires-clause-asked
-best_from-found-requires-clause-asked c =
-    c.requires.asked
-
-pub best_from-found-requires-clause-manned : goal.best_from-found-requires-clause-manned
-best_from-found-requires-clause-manned c =
-    c.requires.manned
-
-pub best_from-found-requires-clause-held : goal.best_from-found-requires-clause-held
-best_from-found-requires-clause-held c =
-    c.requires.held
-
-pub best_from-found-requires-clause-a_in_bounds : goal.best_from-found-requires-clause-a_in_bounds
-best_from-found-requires-clause-a_in_bounds c =
-    c.loop-a-test.true
-
-pub best_from-found-requires-clause-sums_len : goal.best_from-found-requires-clause-sums_len
-best_from-found-requires-clause-sums_len c =
-    (c.loop-a.invariant.4, c.loop-a.invariant.5, c.loop-a.invariant.6)
-
-pub best_from-found-requires-clause-deltas_len : goal.best_from-found-requires-clause-deltas_len
-best_from-found-requires-clause-deltas_len c =
-    (c.loop-a.invariant.3, c.loop-a.invariant.1)
-
-pub best_from-found-requires-clause-kept : goal.best_from-found-requires-clause-kept
-best_from-found-requires-clause-kept c =
-    c.loop-a.invariant.2
-
-pub overflow_add-a : goal.overflow_add-a
-overflow_add-a c =
-    omega (arith, c.loop-a-test.true, c.requires.held.0.laid.few)
-
-pub loop-a-smaller : goal.loop-a-smaller
-loop-a-smaller c =
-    omega (arith, c.loop-a-test.true)
 
 pub loop-a-preserved : goal.loop-a-preserved
 loop-a-preserved c = (

@@ -1,19 +1,6 @@
 -- `make_best`: the move is made in the first n entries, and the others are as they were.
-use native.Mathlib.Omega.{arith}
 use Rattle.cross_steps.proofs.Parts.{part, parts_even, made_in}
 use Rattle.cross_steps.proofs.make_best.Goals as goal
-
-pub slice_bounds-make_move-end : goal.slice_bounds-make_move-end
-slice_bounds-make_move-end c =
-    c.requires.makes.1
-
-pub slice_bounds-make_move-end-2 : goal.slice_bounds-make_move-end-2
-slice_bounds-make_move-end-2 c =
-    omega (arith, c.requires.makes.1, c.requires.ids_len.0)
-
-pub slice_bounds-make_move-end-3 : goal.slice_bounds-make_move-end-3
-slice_bounds-make_move-end-3 c =
-    omega (arith, c.requires.makes.1, c.requires.ids_len.1)
 
 pub make_move-requires-clause-makes : goal.make_move-requires-clause-makes
 make_move-requires-clause-makes c =

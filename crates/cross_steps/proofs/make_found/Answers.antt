@@ -16,10 +16,6 @@ pub make_best-left-requires-clause-makes : goal.make_best-left-requires-clause-m
 make_best-left-requires-clause-makes c =
     (c.requires.makes.0 (eq-eqb _ _ c.if-found-ne1.false), c.requires.makes.1)
 
-pub make_best-left-requires-clause-ids_len : goal.make_best-left-requires-clause-ids_len
-make_best-left-requires-clause-ids_len c =
-    c.requires.ids_len
-
 pub returns : goal.returns
 returns c =
     one_made _ _ _ _ _ _ _ (eq-eqb _ _ c.if-found-ne1.false) (c.if-not-room.false) _ _ _ _ _ _

@@ -1,26 +1,14 @@
--- `locations_ok`: the locations passed are right.
-use borrow.Author.Rules.{rules}
-use mathlib.Core.Path.{sym}
-use Rattle.tests.specs.All.{all_none, all_more, all_fails, all_end, no, yes}
-use Rattle.day.specs.Refusal.{locations_ok}
-use mathlib.Core.Path.{ap}
-use mathlib.Core.Bool.{not}
+-- `locations_ok`: the closure asks the definition's test of each location.
+use Rattle.std.proofs.Common.{rules, arith}
+use borrow.Author.Tests.{tests}
+use Rattle.tests.specs.All.{all_none}
+use Rattle.tests.proofs.Ranges.{all_in_range}
+use Rattle.std.proofs.Common.{ap}
+use Rattle.day.specs.Day.{Day}
+use Rattle.day.specs.Refusal.{location_ok, locations_ok}
 use Rattle.day_tests.proofs.locations_ok.Goals as goal
-
-pub loop-i-init : goal.loop-i-init
-loop-i-init c =
-    (search rules, all_none _)
-
-pub returns-then-not-location_ok : goal.returns-then-not-location_ok
-unfolding locations_ok
-returns-then-not-location_ok c =
-    sym (all_fails _ _ c.loop-i.i (search rules) (no _ _ c.location_ok.ensures (ap not c.if-not-location_ok.true)))
-
-pub loop-i-preserved : goal.loop-i-preserved
-loop-i-preserved c =
-    (search rules, all_more _ _ c.loop-i.invariant.1 (yes _ _ c.location_ok.ensures (ap not c.if-not-location_ok.false)))
 
 pub returns : goal.returns
 unfolding locations_ok
 returns c =
-    all_end _ _ _ c.loop-i.invariant.0 c.loop-i-test.false c.loop-i.invariant.1
+    all_in_range (location_ok c.args.day.now.flags c.args.day.now.demand c.args.day.now.service c.args.day.now.penalty) _ _ _ _ c.all.ensures.ran (ap (λ (d : Day). d.l) c.day.view_is) (omega arith) (all_none _) (λ k b f called. search (rules, tests))

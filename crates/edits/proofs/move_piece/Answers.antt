@@ -1,17 +1,11 @@
 -- `edits::move_piece` meets its contract: the piece and the visits between it and its new place are neighbours, which change places.
 use mathlib.Core.Path.{sym, ◌∙◌}
-use mathlib.Core.Logic.{⊎_elim}
-use borrow.Author.Rules.{rules}
 use Rattle.edits.proofs.Turns.{put_earlier, put_later}
 use Rattle.edits.proofs.move_piece.Goals as goal
 
 pub returns-then-to-from : goal.returns-then-to-from
 returns-then-to-from c =
     c.exchange_stretches.ensures ∙ sym (put_earlier _ _ _ _ c.if-to-from.true)
-
-pub exchange_stretches-requires-2 : goal.exchange_stretches-requires-2
-exchange_stretches-requires-2 c =
-    ⊎_elim (λ earlier. search rules) (λ later. search rules) c.requires.fact
 
 pub returns : goal.returns
 returns c =

@@ -14,8 +14,8 @@ boxes_in-requires c =
 pub run_moves-requires-clause-asked : goal.run_moves-requires-clause-asked
 run_moves-requires-clause-asked c =
     record {
-      formed = c.requires.formed.0;
-      loaded = c.requires.formed.1;
+      formed = c.args.columns.now.formed;
+      loaded = c.requires.loaded;
       depot_there = c.requires.capacity_value.1;
       needed = c.route_checks_needed-needed.ensures;
       floor = c.gain_floor-floor.ensures.answer ∙ ap gain_floor c.scale.ensures;

@@ -3,21 +3,21 @@ use mathlib.Core.Path.{◌≡◌}
 use mathlib.Core.List.{[]}
 use Prim.Native.Nat.{◌-◌}
 use lib.ListN.{length}
-use Rattle.labels.specs.Columns.{columns}
 use Rattle.lists.specs.Table.{lists}
 use Rattle.list_changes.specs.Edits.{Edited}
 use Rattle.loads.specs.Loads.{Held}
 use Rattle.exchange_sweeps.specs.Exchange.{from, InSweep, next_of}
 use Rattle.descent.proofs.Going.{Going}
+use Rattle.labels.specs.Lent.{lent}
 use Rattle.exchange.proofs.run_moves.Given as goal
 
 abbrev pub invariant-loop-terms : goal.invariant-loop-terms
 invariant-loop-terms l =
-    let c = columns l.terms.l l.flags l.service l.ready l.due l.penalty l.distances l.times in
+    let c = lent l.columns in
     Going (next_of c l.demand l.terms) l.limit (record { now = lists l.initial.visits l.initial.lengths; ahead = [] }) l.moves
     (record { now = lists l.visits l.lengths; ahead = from (length l.lengths) l.ahead })
     × Edited l.initial.visits l.initial.lengths l.visits l.lengths (lists l.visits l.lengths)
-    × Held l.terms.l l.visits l.lengths
+    × Held l.columns.locations l.visits l.lengths
     × InSweep (length l.lengths) l.ahead
     × (l.n ≡ length l.lengths)
 

@@ -1,14 +1,14 @@
 -- `first_move`: the first move from the place at hand on is the first from the start on. The measure is how many places are left.
 use mathlib.Core.Path.{◌≡◌}
 use lib.ListN.{length}
-use Rattle.labels.specs.Columns.{columns}
 use Rattle.lists.specs.Table.{lists}
 use Rattle.exchange_sweeps.specs.Exchange.{from, InSweep, first_at}
+use Rattle.labels.specs.Lent.{lent}
 use Rattle.exchange_sweeps.proofs.first_move.Given as goal
 
 abbrev pub invariant-loop-place : goal.invariant-loop-place
 invariant-loop-place l =
-    let c = columns l.terms.l l.flags l.service l.ready l.due l.penalty l.distances l.times in
+    let c = lent l.columns in
     (l.n ≡ length l.lengths) × InSweep (length l.lengths) l.place
     × (first_at c l.demand l.terms (lists l.visits l.lengths) (from (length l.lengths) l.place)
     ≡ first_at c l.demand l.terms (lists l.visits l.lengths) (from (length l.lengths) l.initial.place))

@@ -3,12 +3,8 @@ use native.Mathlib.Omega.{arith}
 use Rattle.heads.proofs.Heads.{few-shared, nearest_driven, drives_on}
 use Rattle.heads.proofs.reach.Goals as goal
 
-pub drive-requires-clause-formed : goal.drive-requires-clause-formed
-drive-requires-clause-formed c =
-    c.requires.formed
-
-pub drive-requires-clause-place_lt_l : goal.drive-requires-clause-place_lt_l
-drive-requires-clause-place_lt_l c =
+pub drive-requires : goal.drive-requires
+drive-requires c =
     let near = nearest_driven _ _ _ c.shared_visits-end.result _ _ c.requires.depot_lt_l.0 c.requires.driven in
     let few = few-shared c.args.rest c.args.to in (
       rw c.nearest_start-start.ensures near.0.placed,

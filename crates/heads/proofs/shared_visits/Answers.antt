@@ -2,12 +2,12 @@
 use Rattle.heads.specs.Head.{shared}
 use Rattle.heads.proofs.shared_visits.Goals as goal
 
-pub returns-in-NoBreak : goal.returns-in-NoBreak
+pub returns-in-None : goal.returns-in-None
 unfolding shared
-returns-in-NoBreak c =
-    rw c.in-NoBreak.is
+returns-in-None c =
+    rw c.in-None.is
 
-pub returns-in-Break : goal.returns-in-Break
+pub returns-in-Some : goal.returns-in-Some
 unfolding shared
-returns-in-Break c =
-    rw c.in-Break.is
+returns-in-Some c =
+    rw c.in-Some.is

@@ -3,10 +3,6 @@ use Rattle.improvements.proofs.Improving.{improved_as_lem}
 use Rattle.within.proofs.Kept.{ran_visits}
 use Rattle.improvements.proofs.improve_part.Goals as goal
 
-pub improve-ended-requires-clause-formed : goal.improve-ended-requires-clause-formed
-improve-ended-requires-clause-formed c =
-    c.requires.formed
-
 pub improve-ended-requires-clause-depot_lt_l : goal.improve-ended-requires-clause-depot_lt_l
 improve-ended-requires-clause-depot_lt_l c =
     c.requires.depot_lt_l
@@ -17,7 +13,7 @@ improve-ended-requires-clause-distances_value c =
 
 pub route_distance-distance-requires : goal.route_distance-distance-requires
 route_distance-distance-requires c = (
-  c.requires.formed.tables.of_distances,
+  c.args.columns.now.formed.tables.of_distances,
   c.requires.depot_lt_l.0,
   rw
       c.improve-ended.ensures.0 (ran_visits _ _ _ _ _ _

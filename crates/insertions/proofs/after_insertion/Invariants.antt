@@ -1,5 +1,5 @@
 -- `after_insertion`: down the column, a cell is still the old one when it is read.
-use Prim.Native.Nat.{◌-◌, ◌≤◌}
+use Prim.Native.Nat.{◌≤◌}
 use mathlib.Core.Path.{◌≡◌}
 use lib.ListN.{length}
 use Rattle.day.specs.Matrix.{leg}
@@ -12,7 +12,3 @@ invariant-loop-visit l =
     let f = came_at (insertion_delta (leg l.l l.distances) l.depot l.fixed) l.r l.position l.list l.initial.figures l.initial.places in
     (l.visit ≤ l.l) × (l.figures ≡ column (λ v. (f v).figure) l.r l.visit l.initial.figures) × (l.places ≡ column (λ v. (f v).place) l.r l.visit l.initial.places)
     × (length l.figures ≡ 1024) × (length l.places ≡ 1024)
-
-abbrev pub decreases-loop-visit : goal.decreases-loop-visit
-decreases-loop-visit l =
-    l.l - l.visit

@@ -1,5 +1,4 @@
 -- `after_removal`: down the column, a cell is still the old one when it is read.
-use Prim.Native.Nat.{◌-◌}
 use mathlib.Core.Path.{◌≡◌}
 use native.Mathlib.Omega.{arith}
 use lib.ListN.{length-set}

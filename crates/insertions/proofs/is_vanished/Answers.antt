@@ -1,4 +1,4 @@
--- `is_vanished`: each arm is the definition's case.
+-- `is_vanished`: each side of the test is the definition's case.
 use borrow.Author.Tests.{eq-eqb, ne_eqb}
 use Rattle.insertions.specs.Cache.{vanished}
 use Rattle.insertions.proofs.is_vanished.Goals as goal
@@ -8,7 +8,7 @@ unfolding vanished
 returns-then-place-position c =
     rw (eq-eqb _ _ c.if-place-position.true)
 
-pub returns : goal.returns
+pub returns-else-place-position : goal.returns-else-place-position
 unfolding vanished
-returns c =
+returns-else-place-position c =
     rw (ne_eqb _ _ c.if-place-position.false)

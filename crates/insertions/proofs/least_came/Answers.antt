@@ -26,11 +26,11 @@ returns-then-known-position c =
 
 pub insertion_delta-before-requires : goal.insertion_delta-before-requires
 insertion_delta-before-requires c =
-    (c.requires.square.0, c.requires.square.1, c.requires.square.2, omega (arith, c.wide-at.ensures, c.requires.position_in_bounds.0))
+    (c.requires.square.0, c.requires.square.1, c.requires.square.2, omega (arith, c.from-at.ensures, c.requires.position_in_bounds.0))
 
 pub insertion_delta-behind-requires : goal.insertion_delta-behind-requires
 insertion_delta-behind-requires c =
-    (c.requires.square.0, c.requires.square.1, c.requires.square.2, omega (arith, c.wide-at.ensures, c.requires.position_in_bounds.0))
+    (c.requires.square.0, c.requires.square.1, c.requires.square.2, omega (arith, c.from-at.ensures, c.requires.position_in_bounds.0))
 
 pub moved_up-requires : goal.moved_up-requires
 moved_up-requires c =
@@ -41,7 +41,7 @@ unfolding least_came
 returns c =
     picked _ _ _ _ (yes _ _ c.is_finite.ensures.answer (ap not c.if-not-is_finite.false))
     (other _ _ _ _ (ne_eqb _ _ c.if-known-position.false)
-    (came_tried c.args.known c.args.position _ c.wide-at.ensures _
+    (came_tried c.args.known c.args.position _ c.from-at.ensures _
     (insertion_delta (leg c.args.l c.args.distances.now) c.args.depot c.args.fixed
     c.args.list.now c.args.visit) _ _ _ _ c.insertion_delta-before.ensures c.insertion_delta-behind.ensures
     c.moved_up.ensures c.first_of-one.ensures c.first_of.ensures))

@@ -4,13 +4,9 @@ use Rattle.evaluation.specs.Route.{feasible}
 use Rattle.layouts.proofs.Layouts.{laid_visits, front-laid}
 use Rattle.layouts.proofs.built_passes.Goals as goal
 
-pub route_feasible-requires-clause-formed : goal.route_feasible-requires-clause-formed
-route_feasible-requires-clause-formed c =
-    c.requires.formed
-
-pub route_feasible-requires-clause-depot_lt_l : goal.route_feasible-requires-clause-depot_lt_l
-route_feasible-requires-clause-depot_lt_l c =
-    (c.requires.depot_lt_l.0, rw (front-laid _ _ _ c.lay_out.ensures) (laid_visits _ _ _ _ c.requires.depot_lt_l.2 c.requires.depot_lt_l.1))
+pub route_feasible-requires : goal.route_feasible-requires
+route_feasible-requires c =
+    (c.requires.0, rw (front-laid _ _ _ c.lay_out.ensures) (laid_visits _ _ _ _ c.requires.2 c.requires.1))
 
 pub returns : goal.returns
 returns c =

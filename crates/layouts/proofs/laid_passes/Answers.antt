@@ -14,35 +14,15 @@ unfolding passing
 returns-then-not-needed c =
     off _ _ (not-true c.args.needed (ap not c.if-not-needed.true))
 
-pub passes_from-requires-clause-formed : goal.passes_from-requires-clause-formed
-passes_from-requires-clause-formed c =
-    c.requires.formed
-
-pub passes_from-requires-clause-depot_lt_l : goal.passes_from-requires-clause-depot_lt_l
-passes_from-requires-clause-depot_lt_l c =
-    (c.requires.depot_lt_l.0, c.requires.depot_lt_l.1)
-
-pub passes_from-requires-clause-cut_in : goal.passes_from-requires-clause-cut_in
-passes_from-requires-clause-cut_in c =
-    (c.requires.depot_lt_l.2, c.requires.driven.0.placed)
-
-pub built_passes-requires-clause-formed : goal.built_passes-requires-clause-formed
-built_passes-requires-clause-formed c =
-    c.requires.formed
-
-pub built_passes-requires-clause-depot_lt_l : goal.built_passes-requires-clause-depot_lt_l
-built_passes-requires-clause-depot_lt_l c =
-    c.requires.depot_lt_l
-
-pub returns-in-NoBreak : goal.returns-in-NoBreak
+pub returns-in-None : goal.returns-in-None
 unfolding passing
-returns-in-NoBreak c =
+returns-in-None c =
     on _ _ _ (not-false c.args.needed (ap not c.if-not-needed.false))
     (c.passes_from.ensures
     ∙ from_head _ _ _ _ _ _ c.requires.driven.0 (head_kept _ c.args.list.now c.args.p c.requires.depot_lt_l.2 c.requires.driven.1)
-    c.in-NoBreak.is)
+    c.in-None.is)
 
-pub returns-in-Break : goal.returns-in-Break
+pub returns-in-Some : goal.returns-in-Some
 unfolding passing
-returns-in-Break c =
+returns-in-Some c =
     on _ _ _ (not-false c.args.needed (ap not c.if-not-needed.false)) c.built_passes.ensures

@@ -1,24 +1,13 @@
 -- `passes_from`: what is driven and the rest of the list laid out make the whole walk from the head. A visit that is missed leaves the rest missed.
-use native.Mathlib.Omega.{arith}
-use mathlib.Core.Path.{refl, ap, ◌∙◌}
-use Rattle.labels.specs.Columns.{stop_in}
+use mathlib.Core.Path.{ap, ◌∙◌}
 use Rattle.evaluation.specs.Route.{tick_is, home, unbroken_ends}
 use Rattle.layouts.specs.Layout.{laid, passes_from}
 use Rattle.layouts.proofs.Layouts.{laid-below, laid_long, laid_short}
 use Rattle.layouts.proofs.Onward.{turns, misses, end_passes}
 use Rattle.layouts.proofs.passes_from.Goals as goal
 
-pub loop-i-init : goal.loop-i-init
-loop-i-init c =
-    (c.requires.cut_in.1, refl)
-
-pub visit_laid-visit-requires : goal.visit_laid-visit-requires
-visit_laid-visit-requires c =
-    (c.requires.cut_in.0, c.loop-i-test.true)
-
-pub get-distance-requires : goal.get-distance-requires
-get-distance-requires c = (
-  c.requires.formed.tables.of_distances,
+pub distance-distance-requires : goal.distance-distance-requires
+distance-distance-requires c = (
   c.loop-i.invariant.0,
   rw c.visit_laid-visit.ensures (laid-below _ c.requires.depot_lt_l.1 c.requires.cut_in.0
       c.loop-i-test.true),
@@ -26,51 +15,38 @@ get-distance-requires c = (
 
 pub travel_time-travel-requires : goal.travel_time-travel-requires
 travel_time-travel-requires c = (
-  c.requires.formed.tables,
   c.loop-i.invariant.0,
   rw c.visit_laid-visit.ensures (laid-below _ c.requires.depot_lt_l.1 c.requires.cut_in.0
       c.loop-i-test.true),
 )
 
-pub stop_of-stop-requires : goal.stop_of-stop-requires
-stop_of-stop-requires c =
-    stop_in c.requires.formed (rw c.visit_laid-visit.ensures (laid-below _ c.requires.depot_lt_l.1 c.requires.cut_in.0
-    c.loop-i-test.true))
+pub stop-stop-requires : goal.stop-stop-requires
+stop-stop-requires c =
+    rw c.visit_laid-visit.ensures (laid-below _ c.requires.depot_lt_l.1 c.requires.cut_in.0
+    c.loop-i-test.true)
 
 pub returns-in_default : goal.returns-in_default
 unfolding passes_from
 returns-in_default c =
     misses _ (laid c.args.list.now c.args.p) _ _ c.loop-i.distance _ _ c.visit_laid-visit.ensures
     (laid_long c.args.list.now c.requires.cut_in.0 c.loop-i-test.true) c.args.limits c.args.depot
-    (tick_is _ _ _ _ _ _ _ _ c.travel_time-travel.ensures c.stop_of-stop.ensures c.serve-reached.ensures
+    (tick_is _ _ _ _ _ _ _ _ c.travel_time-travel.ensures c.stop-stop.ensures c.serve-reached.ensures
     c.in_default.is) c.loop-i.invariant.1
-
-pub overflow_add-i : goal.overflow_add-i
-overflow_add-i c =
-    omega (arith, c.loop-i-test.true, c.requires.depot_lt_l.1.few)
 
 pub loop-i-preserved : goal.loop-i-preserved
 loop-i-preserved c = (
   rw c.visit_laid-visit.ensures (laid-below _ c.requires.depot_lt_l.1 c.requires.cut_in.0 c.loop-i-test.true),
-  turns _ _ _ _ _ _ _ c.visit_laid-visit.ensures (laid_long _ c.requires.cut_in.0 c.loop-i-test.true) _ _ c.get-distance.ensures
-      (tick_is _ _ _ _ _ _ _ _ c.travel_time-travel.ensures c.stop_of-stop.ensures c.serve-reached.ensures
-      c.in-Served.is)
+  turns _ _ _ _ _ _ _ c.visit_laid-visit.ensures (laid_long _ c.requires.cut_in.0 c.loop-i-test.true) _ _ c.distance-distance.ensures
+      (tick_is _ _ _ _ _ _ _ _ c.travel_time-travel.ensures c.stop-stop.ensures c.serve-reached.ensures
+      c.in-Some.is)
       ∙ c.loop-i.invariant.1,
 )
-
-pub get-distance-requires-2 : goal.get-distance-requires-2
-get-distance-requires-2 c =
-    (c.requires.formed.tables.of_distances, c.loop-i.invariant.0, c.requires.depot_lt_l.0)
-
-pub travel_time-back-requires : goal.travel_time-back-requires
-travel_time-back-requires c =
-    (c.requires.formed.tables, c.loop-i.invariant.0, c.requires.depot_lt_l.0)
 
 pub returns : goal.returns
 unfolding passes_from
 returns c =
     c.allow.ensures
     ∙ end_passes _ _ _ _ _
-    (unbroken_ends _ _ _ _ _ _ _ _ _ (laid_short _ c.requires.cut_in.0 c.loop-i-test.false) c.get-distance-2.ensures
+    (unbroken_ends _ _ _ _ _ _ _ _ _ (laid_short _ c.requires.cut_in.0 c.loop-i-test.false) c.distance-distance-2.ensures
     c.travel_time-back.ensures
     ∙ ap (home _ c.args.depot) c.loop-i.invariant.1)

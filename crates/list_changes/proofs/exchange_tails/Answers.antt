@@ -5,16 +5,6 @@ use borrow.Author.Rules.{rules}
 use Rattle.list_changes.proofs.Across.{tails_room, tails_edited}
 use Rattle.list_changes.proofs.exchange_tails.Goals as goal
 
-pub place_of-from-requires : goal.place_of-from-requires
-place_of-from-requires c =
-    let room = tails_room _ _ _ _ _ _ c.requires in
-    omega arith
-
-pub place_of-b-requires : goal.place_of-b-requires
-place_of-b-requires c =
-    let room = tails_room _ _ _ _ _ _ c.requires in
-    omega arith
-
 pub exchange_outer-requires : goal.exchange_outer-requires
 exchange_outer-requires c =
     let room = tails_room _ _ _ _ _ _ c.requires in

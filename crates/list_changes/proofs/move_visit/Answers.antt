@@ -1,29 +1,13 @@
 -- `list_changes::move_visit` meets its contract: both places lie in the table, and proofs/Across.antt has what the two edits make of the lists. Assumes
 -- nothing.
 use native.Mathlib.Omega.{arith}
-use borrow.Author.Rules.{rules}
 use Rattle.list_changes.proofs.Across.{relocation_room, relocate_edited}
 use Rattle.list_changes.proofs.move_visit.Goals as goal
-
-pub place_of-p-requires : goal.place_of-p-requires
-place_of-p-requires c =
-    let room = relocation_room _ _ _ _ _ _ c.requires in
-    omega arith
-
-pub place_of-q-requires : goal.place_of-q-requires
-place_of-q-requires c =
-    let room = relocation_room _ _ _ _ _ _ c.requires in
-    omega arith
 
 pub move_one-requires : goal.move_one-requires
 move_one-requires c =
     let room = relocation_room _ _ _ _ _ _ c.requires in
     omega (arith, c.place_of-p.ensures, c.place_of-q.ensures)
-
-pub move_length-requires-clause-from_in_bounds : goal.move_length-requires-clause-from_in_bounds
-move_length-requires-clause-from_in_bounds c =
-    let room = relocation_room _ _ _ _ _ _ c.requires in
-    search rules
 
 pub move_length-requires-clause-nonzero : goal.move_length-requires-clause-nonzero
 move_length-requires-clause-nonzero c =

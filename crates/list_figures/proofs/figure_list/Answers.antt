@@ -8,12 +8,8 @@ pub list_of-list-requires : goal.list_of-list-requires
 list_of-list-requires c =
     (c.requires.held.0.laid, c.requires.held.1)
 
-pub effective_cost-cost-requires-clause-formed : goal.effective_cost-cost-requires-clause-formed
-effective_cost-cost-requires-clause-formed c =
-    c.requires.asked.formed
-
-pub effective_cost-cost-requires-clause-depot_lt_l : goal.effective_cost-cost-requires-clause-depot_lt_l
-effective_cost-cost-requires-clause-depot_lt_l c =
+pub effective_cost-cost-requires : goal.effective_cost-cost-requires
+effective_cost-cost-requires c =
     (c.requires.asked.depot_there, lent_visits _ _ _ c.requires.held.0 _ _ c.list_of-list.ensures)
 
 pub load_of-load-requires : goal.load_of-load-requires

@@ -1,5 +1,4 @@
 -- `figure_lists`: the entries of the lists so far are right.
-use Prim.Native.Nat.{◌-◌}
 use native.Mathlib.Omega.{arith}
 use Rattle.list_figures.proofs.Keeping.{kept_none, kept_more, kept_all}
 use Rattle.list_figures.proofs.figure_lists.Goals as goal
@@ -8,10 +7,6 @@ pub loop-r-init : goal.loop-r-init
 loop-r-init c =
     (omega arith, kept_none _ _ c.args.terms _ _ _ c.requires.costs_len.0 c.requires.costs_len.1)
 
-pub figure_list-requires-clause-asked : goal.figure_list-requires-clause-asked
-figure_list-requires-clause-asked c =
-    c.requires.asked
-
 pub figure_list-requires-clause-held : goal.figure_list-requires-clause-held
 figure_list-requires-clause-held c =
     (c.requires.held, c.loop-r-test.true)
@@ -19,14 +14,6 @@ figure_list-requires-clause-held c =
 pub figure_list-requires-clause-costs_len : goal.figure_list-requires-clause-costs_len
 figure_list-requires-clause-costs_len c =
     (c.loop-r.invariant.1.costs_long, c.loop-r.invariant.1.loads_long)
-
-pub overflow_add-r : goal.overflow_add-r
-overflow_add-r c =
-    omega (arith, c.loop-r-test.true, c.requires.held.laid.few)
-
-pub loop-r-smaller : goal.loop-r-smaller
-loop-r-smaller c =
-    omega (arith, c.loop-r-test.true)
 
 pub loop-r-preserved : goal.loop-r-preserved
 loop-r-preserved c = (

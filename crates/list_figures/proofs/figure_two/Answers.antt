@@ -4,21 +4,9 @@ use native.Mathlib.Omega.{arith}
 use Rattle.list_figures.proofs.Keeping.{both_put}
 use Rattle.list_figures.proofs.figure_two.Goals as goal
 
-pub figure_list-requires-clause-asked : goal.figure_list-requires-clause-asked
-figure_list-requires-clause-asked c =
-    c.requires.asked
-
 pub figure_list-requires-clause-held : goal.figure_list-requires-clause-held
 figure_list-requires-clause-held c =
     (c.requires.held.0, c.requires.held.1)
-
-pub figure_list-requires-clause-costs_len : goal.figure_list-requires-clause-costs_len
-figure_list-requires-clause-costs_len c =
-    c.requires.costs_len
-
-pub figure_list-requires-2-clause-asked : goal.figure_list-requires-2-clause-asked
-figure_list-requires-2-clause-asked c =
-    c.requires.asked
 
 pub figure_list-requires-2-clause-held : goal.figure_list-requires-2-clause-held
 figure_list-requires-2-clause-held c =

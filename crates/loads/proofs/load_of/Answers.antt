@@ -1,5 +1,5 @@
--- `load_of`: so far the load is that of the first k visits.
-use mathlib.Core.Path.{refl, ap, ◌∙◌}
+-- `load_of`: so far the load is that of the visits passed.
+use mathlib.Core.Path.{ap, ◌∙◌}
 use native.Mathlib.Omega.{arith}
 use lib.Seq.{take_all}
 use Rattle.edits.specs.Total.{total}
@@ -7,33 +7,25 @@ use Rattle.loads.specs.Loads.{boxes_of}
 use Rattle.loads.proofs.Boxes.{load_small, load_more, sum_small}
 use Rattle.loads.proofs.load_of.Goals as goal
 
-pub loop-k-init : goal.loop-k-init
-loop-k-init c =
-    (omega arith, refl)
+pub boxes_of-load-requires-clause-visit_in_bounds : goal.boxes_of-load-requires-clause-visit_in_bounds
+boxes_of-load-requires-clause-visit_in_bounds c =
+    omega (arith, c.requires.0.column, c.requires.1.below _ c.loop-visit-test.true)
 
-pub boxes_at-load-requires : goal.boxes_at-load-requires
-boxes_at-load-requires c =
-    (c.requires.0, c.loop-k-test.true, c.requires.1.below _ c.loop-k-test.true)
+pub boxes_of-load-requires-clause-pos_value : goal.boxes_of-load-requires-clause-pos_value
+boxes_of-load-requires-clause-pos_value c =
+    c.requires.0.in_range _ (c.requires.1.below _ c.loop-visit-test.true)
 
 pub overflow_add-load : goal.overflow_add-load
 overflow_add-load c =
-    let small = sum_small _ _ _ c.requires.0 c.requires.1.below c.requires.1.few _ _ _ c.loop-k-test.true c.loop-k.invariant.1
-    c.boxes_at-load.ensures in
+    let small = sum_small _ _ _ c.requires.0 c.requires.1.below c.requires.1.few _ _ _ c.loop-visit-test.true c.loop-visit.invariant
+    c.boxes_of-load.ensures.0 in
     omega (arith, small.0, small.1)
 
-pub overflow_add-k : goal.overflow_add-k
-overflow_add-k c =
-    omega (arith, c.loop-k-test.true, c.requires.1.few)
-
-pub loop-k-smaller : goal.loop-k-smaller
-loop-k-smaller c =
-    omega (arith, c.loop-k-test.true)
-
-pub loop-k-preserved : goal.loop-k-preserved
-loop-k-preserved c =
-    (omega (arith, c.loop-k-test.true), load_more _ _ _ _ _ c.loop-k-test.true c.loop-k.invariant.1 c.boxes_at-load.ensures)
+pub loop-visit-preserved : goal.loop-visit-preserved
+loop-visit-preserved c =
+    load_more _ _ _ _ _ c.loop-visit-test.true c.loop-visit.invariant c.boxes_of-load.ensures.0
 
 pub returns : goal.returns
 returns c =
-    let whole = c.loop-k.invariant.1 ∙ ap (total (boxes_of c.args.demand.now)) (take_all _ c.args.list.now c.loop-k-test.false) in
+    let whole = c.loop-visit.invariant ∙ ap (total (boxes_of c.args.demand.now)) (take_all _ c.args.list.now c.loop-visit-test.false) in
     (whole, rw whole (load_small _ _ c.args.list.now c.requires.0 c.requires.1.below c.requires.1.few))

@@ -1,13 +1,8 @@
 -- `numbers::is_plain` meets its contract: at most 2^40 only the sign is open, and the bits tell it; what is above it, or no number, is not plain.
 use mathlib.Core.Path.{sym, subst}
 use lib.Dec.{T}
-use Rattle.numbers.proofs.Total.{le_left}
-use Rattle.numbers.proofs.Plain.{most, test_sign, test_most}
+use Rattle.numbers.proofs.Plain.{test_sign, test_most}
 use Rattle.numbers.proofs.is_plain.Goals as goal
-
-pub float_to_bits-result : goal.float_to_bits-result
-float_to_bits-result c =
-    le_left c.args.x most (subst T (sym c.if-x.true) tt)
 
 pub returns-then-x : goal.returns-then-x
 returns-then-x c =

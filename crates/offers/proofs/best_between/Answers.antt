@@ -13,10 +13,6 @@ pub returns-then-from-to : goal.returns-then-from-to
 returns-then-from-to c =
     (pair-none _ _ c.args.setup _ _ _ _ c.requires.prepared c.requires.loaded.1 _ _ refl refl _ refl c.if-from-to.true, c.requires.cached)
 
-pub length_of-requires : goal.length_of-requires
-length_of-requires c =
-    c.requires.in_bounds.1
-
 pub returns-then-length_of-eq0 : goal.returns-then-length_of-eq0
 returns-then-length_of-eq0 c = (
   pair_empty _ _ c.args.setup _ _ _ _ c.requires.prepared c.requires.loaded.1 _ _ refl refl _ refl _ _ c.requires.cached c.if-from-to.false
@@ -46,10 +42,6 @@ loop-position-init c = (
   refl,
   refl,
 )
-
-pub offer_visit-best-requires-clause-prepared : goal.offer_visit-best-requires-clause-prepared
-offer_visit-best-requires-clause-prepared c =
-    c.requires.prepared
 
 pub offer_visit-best-requires-clause-loaded : goal.offer_visit-best-requires-clause-loaded
 offer_visit-best-requires-clause-loaded c =
@@ -86,15 +78,6 @@ offer_visit-best-requires-clause-figures_len c =
       omega
           (arith, c.requires.in_bounds.2, c.requires.loaded.1.laid.few),
     )
-
-pub overflow_add-position : goal.overflow_add-position
-overflow_add-position c =
-    let long = ap length c.list_of-giver.ensures in
-    omega (arith, c.loop-position-test.true, long, (list_visits _ _ _ c.requires.loaded.1 c.args.from).few)
-
-pub loop-position-smaller : goal.loop-position-smaller
-loop-position-smaller c =
-    omega (arith, c.loop-position-test.true)
 
 pub loop-position-preserved : goal.loop-position-preserved
 loop-position-preserved c = (

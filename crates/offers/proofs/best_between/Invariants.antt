@@ -2,15 +2,11 @@
 use mathlib.Core.Path.{◌≡◌}
 use Prim.Native.Nat.{◌-◌}
 use lib.ListN.{length}
-use Rattle.labels.specs.Columns.{columns}
 use Rattle.offers.proofs.Trying.{Pairing}
+use Rattle.labels.specs.Lent.{lent}
 use Rattle.offers.proofs.best_between.Given as goal
 
 abbrev pub invariant-loop-position : goal.invariant-loop-position
 invariant-loop-position l =
-    Pairing (columns l.setup.l l.flags l.service l.ready l.due l.penalty l.distances l.times) l.demand l.setup l.visits l.lengths l.from l.to l.giver l.initial.best l.position l.best l.figures l.places
+    Pairing (lent l.columns) l.demand l.setup l.visits l.lengths l.from l.to l.giver l.initial.best l.position l.best l.figures l.places
     × (length l.buffer ≡ length l.initial.buffer) × (length l.figures ≡ length l.initial.figures) × (length l.places ≡ length l.initial.places)
-
-abbrev pub decreases-loop-position : goal.decreases-loop-position
-decreases-loop-position l =
-    length l.giver - l.position

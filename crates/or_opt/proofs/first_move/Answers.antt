@@ -1,36 +1,15 @@
 -- `first_move`: the first move from here on is the first from `first` on; a length that has none is passed over.
-use mathlib.Core.Path.{refl, sym, ap, ◌∙◌}
-use native.Mathlib.Omega.{arith}
+use mathlib.Core.Path.{sym, ap, ◌∙◌}
 use Rattle.segments.specs.Segments.{piece_of}
 use Rattle.or_opt.specs.OrOpt.{Apt}
 use Rattle.or_opt.proofs.Sizes.{fits_taken, size-moves, size_passed, sizes_done}
 use Rattle.or_opt.proofs.first_move.Goals as goal
 
-pub loop-size-init : goal.loop-size-init
-loop-size-init c =
-    refl
-
-pub best_piece-best-requires-clause-asked : goal.best_piece-best-requires-clause-asked
-best_piece-best-requires-clause-asked c =
-    c.requires
-
-pub best_piece-best-requires-clause-size_bound : goal.best_piece-best-requires-clause-size_bound
-best_piece-best-requires-clause-size_bound c =
-    c.loop-size-test.true
-
-pub returns-in-Move : goal.returns-in-Move
+pub returns-in-Some : goal.returns-in-Some
 unfolding Apt
-returns-in-Move c =
-    let taken = ap piece_of (sym c.in-Move.is) ∙ c.best_piece-best.ensures in
+returns-in-Some c =
+    let taken = ap piece_of (sym c.in-Some.is) ∙ c.best_piece-best.ensures in
     (size-moves _ c.args.terms _ _ _ c.loop-size-test.true taken ∙ c.loop-size.invariant, (fits_taken _ c.args.terms _ _ _ taken).1)
-
-pub overflow_add-size : goal.overflow_add-size
-overflow_add-size c =
-    omega (arith, c.loop-size-test.true)
-
-pub loop-size-smaller : goal.loop-size-smaller
-loop-size-smaller c =
-    omega (arith, c.loop-size-test.true)
 
 pub loop-size-preserved : goal.loop-size-preserved
 loop-size-preserved c =

@@ -5,10 +5,10 @@ use Rattle.or_opt.specs.OrOpt.{Apt, leads}
 use Rattle.or_opt.proofs.Sizes.{is-ahead, is_anew}
 use Rattle.or_opt.proofs.next_move.Goals as goal
 
-pub returns-in-Move : goal.returns-in-Move
-returns-in-Move c =
-    let found = ap (leads c.args.list.now) (sym c.in-Move.is) ∙ c.first_move-best.ensures.0 in
-    (is-ahead _ c.args.terms _ c.args.ahead _ found, subst (Apt (length c.args.list.now)) c.in-Move.is c.first_move-best.ensures.1)
+pub returns-in-Some : goal.returns-in-Some
+returns-in-Some c =
+    let found = ap (leads c.args.list.now) (sym c.in-Some.is) ∙ c.first_move-best.ensures.0 in
+    (is-ahead _ c.args.terms _ c.args.ahead _ found, subst (Apt (length c.args.list.now)) c.in-Some.is c.first_move-best.ensures.1)
 
 pub returns : goal.returns
 returns c =

@@ -17,18 +17,14 @@ pub loop-change-init : goal.loop-change-init
 loop-change-init c = (
   going_starts _ _ _,
   record {
-    formed = c.requires.formed;
-    depot_there = c.requires.depot_lt_l.0;
-    visits = c.requires.depot_lt_l.1;
+    formed = c.args.columns.now.formed;
+    depot_there = c.requires.0;
+    visits = c.requires.1;
     needed = c.route_checks_needed-needed.ensures;
     floor = c.gain_floor-floor.ensures.answer ∙ ap gain_floor c.scale.ensures;
   },
   refl,
 )
-
-pub next_move-best-requires : goal.next_move-best-requires
-next_move-best-requires c =
-    c.loop-change.invariant.1
 
 pub returns-in_default : goal.returns-in_default
 unfolding run_of leads
@@ -40,46 +36,38 @@ returns-in_default c =
 pub returns-then-limit-moves : goal.returns-then-limit-moves
 unfolding run_of leads
 returns-then-limit-moves c =
-    let one_left = ap (leads c.loop-change.list) (sym c.in-Move.is) ∙ c.next_move-best.ensures.0 in
+    let one_left = ap (leads c.loop-change.list) (sym c.in-Some.is) ∙ c.next_move-best.ensures.0 in
     let answer = going_stops _ _ _ _ _ _ c.loop-change.invariant.0 c.if-limit-moves.true (sym one_left) in
     (ap (λ (s : Sweep (List ℕ) ℕ). s.now) answer.0, answer.1)
 
 pub move_piece-requires-clause-size_in_bounds : goal.move_piece-requires-clause-size_in_bounds
 unfolding Apt
 move_piece-requires-clause-size_in_bounds c =
-    let fits = subst (Apt (length c.loop-change.list)) c.in-Move.is c.next_move-best.ensures.1 in
+    let fits = subst (Apt (length c.loop-change.list)) c.in-Some.is c.next_move-best.ensures.1 in
     fits.inside
 
 pub move_piece-requires-clause-to_in_bounds : goal.move_piece-requires-clause-to_in_bounds
 unfolding Apt
 move_piece-requires-clause-to_in_bounds c =
-    let fits = subst (Apt (length c.loop-change.list)) c.in-Move.is c.next_move-best.ensures.1 in
+    let fits = subst (Apt (length c.loop-change.list)) c.in-Some.is c.next_move-best.ensures.1 in
     fits.there
 
 pub move_piece-requires-clause-fact : goal.move_piece-requires-clause-fact
 unfolding Apt
 move_piece-requires-clause-fact c =
-    let fits = subst (Apt (length c.loop-change.list)) c.in-Move.is c.next_move-best.ensures.1 in
+    let fits = subst (Apt (length c.loop-change.list)) c.in-Some.is c.next_move-best.ensures.1 in
     fits.apart
 
 pub overflow_add-ahead : goal.overflow_add-ahead
 unfolding Apt
 overflow_add-ahead c =
-    let fits = subst (Apt (length c.loop-change.list)) c.in-Move.is c.next_move-best.ensures.1 in
+    let fits = subst (Apt (length c.loop-change.list)) c.in-Some.is c.next_move-best.ensures.1 in
     omega (arith, fits.inside, c.loop-change.invariant.1.visits.few)
-
-pub overflow_add-moves : goal.overflow_add-moves
-overflow_add-moves c =
-    omega (arith, c.if-limit-moves.false, c.ranges.limit)
-
-pub loop-change-smaller : goal.loop-change-smaller
-loop-change-smaller c =
-    omega (arith, c.if-limit-moves.false)
 
 pub loop-change-preserved : goal.loop-change-preserved
 unfolding Apt
 loop-change-preserved c =
-    let fits = subst (Apt (length c.loop-change.list)) c.in-Move.is c.next_move-best.ensures.1 in
-    let one_left = ap (leads c.loop-change.list) (sym c.in-Move.is) ∙ c.next_move-best.ensures.0 in
-    let on = moved_on _ _ _ _ _ c.loop-change.ahead _ c.in-Move.change _ c.loop-change.invariant.1 fits c.loop-change.invariant.0 c.if-limit-moves.false one_left c.move_piece.ensures in
+    let fits = subst (Apt (length c.loop-change.list)) c.in-Some.is c.next_move-best.ensures.1 in
+    let one_left = ap (leads c.loop-change.list) (sym c.in-Some.is) ∙ c.next_move-best.ensures.0 in
+    let on = moved_on _ _ _ _ _ c.loop-change.ahead _ c.in-Some.change _ c.loop-change.invariant.1 fits c.loop-change.invariant.0 c.if-limit-moves.false one_left c.move_piece.ensures in
     (on.0, on.1, c.move_piece.auto.list ∙ c.loop-change.invariant.2)

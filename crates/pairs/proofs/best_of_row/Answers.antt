@@ -1,6 +1,5 @@
 -- `best_of_row`: before each turn the first of the best so far and the rest of the row is the first of all.
 use mathlib.Core.Path.{refl, sym, ◌∙◌}
-use Prim.Native.Nat.{◌-◌}
 use native.Mathlib.Omega.{arith}
 use Rattle.pairs.proofs.Rows.{row_turn, row_done}
 use Rattle.pairs.proofs.best_of_row.Goals as goal
@@ -16,14 +15,6 @@ entry_at-requires-clause-sized c =
 pub entry_at-requires-clause-from_bound : goal.entry_at-requires-clause-from_bound
 entry_at-requires-clause-from_bound c =
     (c.requires.n_bound.1, omega (arith, c.loop-to-test.true, c.requires.n_bound.0))
-
-pub overflow_add-to : goal.overflow_add-to
-overflow_add-to c =
-    omega (arith, c.loop-to-test.true, c.requires.n_bound.0)
-
-pub loop-to-smaller : goal.loop-to-smaller
-loop-to-smaller c =
-    omega (arith, c.loop-to-test.true)
 
 pub loop-to-preserved : goal.loop-to-preserved
 loop-to-preserved c =

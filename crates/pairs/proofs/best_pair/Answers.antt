@@ -1,6 +1,5 @@
 -- `best_pair`: before each row the first of the best so far and the rows from here on is the first of all.
 use mathlib.Core.Path.{refl, sym, ◌∙◌}
-use Prim.Native.Nat.{◌-◌}
 use native.Mathlib.Omega.{arith}
 use Rattle.pairs.specs.Pairs.{least_entry}
 use Rattle.pairs.proofs.Rows.{rows_turn, rows_done}
@@ -17,14 +16,6 @@ best_of_row-best-requires-clause-sized c =
 pub best_of_row-best-requires-clause-n_bound : goal.best_of_row-best-requires-clause-n_bound
 best_of_row-best-requires-clause-n_bound c =
     (c.requires.1, omega (arith, c.loop-from-test.true, c.requires.1))
-
-pub overflow_add-from : goal.overflow_add-from
-overflow_add-from c =
-    omega (arith, c.loop-from-test.true, c.requires.1)
-
-pub loop-from-smaller : goal.loop-from-smaller
-loop-from-smaller c =
-    omega (arith, c.loop-from-test.true)
 
 pub loop-from-preserved : goal.loop-from-preserved
 loop-from-preserved c =

@@ -1,15 +1,19 @@
--- `in_order`: the less, the equal and the greater each by its law.
-use Rattle.pairs.proofs.Order.{in_order-less, in_order_same, in_order_more}
+-- `in_order`: each of the ways out is the definition's case.
+use borrow.Author.Tests.{lt-ltb, le-ltb, eq-eqb, ne_eqb}
+use Rattle.pairs.specs.Pairs.{in_order}
 use Rattle.pairs.proofs.in_order.Goals as goal
 
 pub returns-then-a-b : goal.returns-then-a-b
+unfolding in_order
 returns-then-a-b c =
-    in_order-less _ _ _ c.if-a-b.true
+    rw (lt-ltb _ _ c.if-a-b.true)
 
 pub returns-then-a-b-2 : goal.returns-then-a-b-2
+unfolding in_order
 returns-then-a-b-2 c =
-    in_order_same _ _ _ c.if-a-b.false c.if-a-b-2.true
+    rw (le-ltb _ _ c.if-a-b.false, eq-eqb _ _ c.if-a-b-2.true)
 
-pub returns : goal.returns
-returns c =
-    in_order_more _ _ _ c.if-a-b.false c.if-a-b-2.false
+pub returns-else-a-b-2 : goal.returns-else-a-b-2
+unfolding in_order
+returns-else-a-b-2 c =
+    rw (le-ltb _ _ c.if-a-b.false, ne_eqb _ _ c.if-a-b-2.false)

@@ -11,10 +11,6 @@ pub cut_at-cut-requires-clause-square : goal.cut_at-cut-requires-clause-square
 cut_at-cut-requires-clause-square c =
     (c.requires.prepared.formed.tables.of_distances, c.requires.prepared.marked, listed c.requires.prepared c.requires.visits.0)
 
-pub cut_at-cut-requires-clause-i_lt_j : goal.cut_at-cut-requires-clause-i_lt_j
-cut_at-cut-requires-clause-i_lt_j c =
-    (c.requires.inside.i_first, c.requires.inside.j_next, c.requires.inside.k_there)
-
 pub any_below-requires : goal.any_below-requires
 any_below-requires c =
     let placed = cut_placed _ _ _ _ _ _ _ _ c.cut_at-cut.ensures (listed c.requires.prepared c.requires.visits.0) in
@@ -24,17 +20,9 @@ pub returns-then-not-any_below-clause-result_value : goal.returns-then-not-any_b
 returns-then-not-any_below-clause-result_value c =
     none_below c.args.setup _ _ _ _ c.requires.prepared c.cut_at-cut.ensures (sym c.any_below.ensures ∙ c.if-not-any_below.true)
 
-pub returns-then-not-any_below-clause-upper_bound : goal.returns-then-not-any_below-clause-upper_bound
-returns-then-not-any_below-clause-upper_bound c =
-    omega arith
-
 pub loop-pattern-init : goal.loop-pattern-init
 loop-pattern-init c =
     (scan_start _ _ _ _ _ _ c.requires.prepared.floor, refl)
-
-pub better_of-best-requires-clause-prepared : goal.better_of-best-requires-clause-prepared
-better_of-best-requires-clause-prepared c =
-    c.requires.prepared
 
 pub better_of-best-requires-clause-visits : goal.better_of-best-requires-clause-visits
 better_of-best-requires-clause-visits c =
@@ -46,10 +34,6 @@ better_of-best-requires-clause-inside c =
     let below : c.loop-pattern.pattern < 8 = omega (arith, c.loop-pattern-test.true) in
     (c.requires.inside, below)
 
-pub better_of-best-requires-clause-cut_value : goal.better_of-best-requires-clause-cut_value
-better_of-best-requires-clause-cut_value c =
-    c.cut_at-cut.ensures
-
 pub loop-pattern-preserved : goal.loop-pattern-preserved
 loop-pattern-preserved c =
     let below : c.loop-pattern.pattern < 8 = omega (arith, c.loop-pattern-test.true) in (
@@ -60,7 +44,3 @@ loop-pattern-preserved c =
 pub returns-clause-result_value : goal.returns-clause-result_value
 returns-clause-result_value c =
     scan_end _ _ _ _ _ _ _ c.loop-pattern-test.false c.loop-pattern.invariant.0
-
-pub returns-clause-upper_bound : goal.returns-clause-upper_bound
-returns-clause-upper_bound c =
-    c.loop-pattern.invariant.0.below

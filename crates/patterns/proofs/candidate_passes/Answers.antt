@@ -12,12 +12,8 @@ unfolding passing
 returns-then-not-setup c =
     off _ _ (not-true c.args.setup.needed c.if-not-setup.true)
 
-pub passes-requires-clause-formed : goal.passes-requires-clause-formed
-passes-requires-clause-formed c =
-    c.requires.prepared.formed
-
-pub passes-requires-clause-depot_lt_l : goal.passes-requires-clause-depot_lt_l
-passes-requires-clause-depot_lt_l c = (
+pub passes-requires : goal.passes-requires
+passes-requires c = (
   c.requires.prepared.depot_there,
   rw (front c.reconnected_into-end.result c.reconnected_into-end.new.buffer _
       c.reconnected_into-end.ensures.buffer_after)

@@ -3,20 +3,16 @@ use mathlib.Core.Path.{◌≡◌}
 use Prim.Native.Nat.{ℕ, suc, ◌-◌, ◌≤◌}
 use lib.ListN.{length}
 use Rattle.day.specs.Matrix.{leg}
-use Rattle.labels.specs.Columns.{columns}
 use Rattle.descent.specs.Order.{range}
 use Rattle.deltas.specs.Deltas.{insertion_delta}
 use Rattle.insertions.specs.Cache.{least_below}
 use Rattle.places.specs.Places.{best_among}
+use Rattle.labels.specs.Lent.{lent}
 use Rattle.places.proofs.best_place.Given as goal
 
-abbrev pub invariant-loop-setup : goal.invariant-loop-setup
-invariant-loop-setup l =
-    let cost : ℕ → _ = insertion_delta (leg l.setup.l l.distances) l.setup.depot l.setup.fixed l.list l.offer.visit in
-    (best_among (columns l.setup.l l.flags l.service l.ready l.due l.penalty l.distances l.times) l.setup l.list l.offer (range l.place (suc (length l.list))) l.after
-    ≡ best_among (columns l.setup.l l.flags l.service l.ready l.due l.penalty l.distances l.times) l.setup l.list l.offer (range 0 (suc (length l.list))) l.initial.after)
+abbrev pub invariant-loop-place : goal.invariant-loop-place
+invariant-loop-place l =
+    let cost : ℕ → _ = insertion_delta (leg l.columns.locations l.columns.distances.now) l.setup.depot l.setup.fixed l.list l.offer.visit in
+    (best_among (lent l.columns) l.setup l.list l.offer (range l.place (suc (length l.list))) l.after
+    ≡ best_among (lent l.columns) l.setup l.list l.offer (range 0 (suc (length l.list))) l.initial.after)
     × (l.least ≡ least_below cost l.place) × (l.place ≤ suc (length l.list)) × (length l.buffer ≡ length l.initial.buffer)
-
-abbrev pub decreases-loop-setup : goal.decreases-loop-setup
-decreases-loop-setup l =
-    suc (length l.list) - l.place

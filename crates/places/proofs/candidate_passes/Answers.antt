@@ -21,12 +21,8 @@ pub slice_bounds-passes-end : goal.slice_bounds-passes-end
 slice_bounds-passes-end c =
     omega (arith, c.inserted_into-end.ensures.value, c.inserted_into-end.auto.buffer, c.requires.in_bounds, c.requires.visits.1)
 
-pub passes-requires-clause-formed : goal.passes-requires-clause-formed
-passes-requires-clause-formed c =
-    c.requires.prepared.formed
-
-pub passes-requires-clause-depot_lt_l : goal.passes-requires-clause-depot_lt_l
-passes-requires-clause-depot_lt_l c = (
+pub passes-requires : goal.passes-requires
+passes-requires c = (
   c.requires.prepared.depot_there,
   rw (front c.inserted_into-end.result c.inserted_into-end.new.buffer _ c.inserted_into-end.ensures.buffer_after)
       (visits_inserted _ c.args.list.now c.args.visit c.args.place c.requires.visits.0 c.requires.visits.1

@@ -1,46 +1,48 @@
 -- `relocate_improve`: a refusal changes nothing; otherwise the lists are held and loaded, and the run is the definition's.
 use borrow.Author.Rules.{rules}
-use Rattle.rearrangements.proofs.Rearranging.{refused_over, rearranged_over, loaded, held, capacity-fine, relocate_claimed}
-use Rattle.rearrangements.specs.Rearrange.{run_over}
-use Rattle.refusals.specs.Refusal.{fine_lists}
-use Rattle.across.specs.Across.{relocate_ran}
-use Rattle.labels.specs.Columns.{formed}
 use mir.ValLaws.{to_z-of_z}
 use mir.Syntax.{w32}
-use mathlib.Core.Path.{refl, sym, ◌∙◌}
+use Rattle.std.proofs.Common.{refl, sym, ap}
+use Rattle.day.specs.Day.{Day}
+use Rattle.labels.specs.Columns.{Columns}
+use Rattle.across.specs.Across.{relocate_ran}
+use Rattle.refusals.specs.Refusal.{fine_lists}
+use Rattle.rearrangements.specs.Rearrange.{run_over}
+use Rattle.rearrangements.proofs.Rearranging.{refused_over, rearranged_over, no_report, loaded, held, capacity-fine, relocate_claimed}
 use Rattle.rearrangements.proofs.relocate_improve.Goals as goal
 
-pub returns-then-refused-ne0 : goal.returns-then-refused-ne0
-returns-then-refused-ne0 c =
-    let is = refused_over relocate_ran _ _ _ _ _ c.refusal_of_lists-refused.result c.if-refused-ne0.true c.refusal_of_lists-refused.ensures.answer in
-    record { answer = (is.0, is.1, is.2, (λ f. refl), tt) }
+pub returns-in_err-refusal_of_lists : goal.returns-in_err-refusal_of_lists
+returns-in_err-refusal_of_lists c =
+    let is = refused_over relocate_ran _ _ _ _ c.args.limit _ _ c.from_residual.ensures.1 c.in_err-refusal_of_lists.ensures.answer in
+    record { answer = (is.0, is.1, is.2, (λ f. refl), rw (no_report _ _ c.from_residual.ensures.1).1 tt) }
 
-pub relocate_visits-ended-requires-clause-formed : goal.relocate_visits-ended-requires-clause-formed
-relocate_visits-ended-requires-clause-formed c =
-    let f = fine_lists _ _ _ _ (sym c.refusal_of_lists-refused.ensures.answer
-    ∙ c.if-refused-ne0.false) in
-    (formed f.day.shaped, loaded _ _ _ _ f)
+pub of-columns-requires : goal.of-columns-requires
+of-columns-requires c =
+    record { shaped = (fine_lists _ _ _ _ (sym c.in_ok-refusal_of_lists.ensures.answer)).day.shaped }
+
+pub relocate_visits-ended-requires-clause-loaded : goal.relocate_visits-ended-requires-clause-loaded
+relocate_visits-ended-requires-clause-loaded c =
+    rw (ap (λ (k : Columns). k.l) c.of-columns.ensures, ap (λ (d : Day). d.demand) c.day.view_is)
+    (loaded _ _ _ _ (fine_lists _ _ _ _ (sym c.in_ok-refusal_of_lists.ensures.answer)))
 
 pub relocate_visits-ended-requires-clause-capacity_value : goal.relocate_visits-ended-requires-clause-capacity_value
 relocate_visits-ended-requires-clause-capacity_value c =
-    let f = fine_lists _ _ _ _ (sym c.refusal_of_lists-refused.ensures.answer
-    ∙ c.if-refused-ne0.false) in
-    rw (to_z-of_z w32 c.args.van.capacity (search rules)) (capacity-fine _ _ _ _ f, f.depot, held _ _ _ _ f)
+    let f = fine_lists _ _ _ _ (sym c.in_ok-refusal_of_lists.ensures.answer) in
+    rw (ap (λ (k : Columns). k.l) c.of-columns.ensures, to_z-of_z w32 c.args.van.capacity (search rules)) (capacity-fine _ _ _ _ f, f.depot, held _ _ _ _ f)
 
 pub returns : goal.returns
 unfolding run_over
 returns c =
+    let none = c.in_ok-refusal_of_lists.ensures.answer in
     let e = rw (
       to_z-of_z w32
           c.args.van.capacity (search rules),
+      c.of-columns.ensures,
       c.of-limits.ensures,
       c.fixed_cost_in_distance-fixed.ensures,
+      ap (λ (d : Day). d.demand) c.day.view_is,
     ) at
     c.relocate_visits-ended.ensures in
-    let all = rearranged_over relocate_ran _ _ _ _ _
-    c.refusal_of_lists-refused.result c.if-refused-ne0.false
-    c.refusal_of_lists-refused.ensures.answer _ _ _ _ _ _ e.0 e.1 c.drop_lists-remaining.ensures.0
-    c.drop_lists-remaining.ensures.1 c.rearranged_of.ensures in
-    let none = sym c.refusal_of_lists-refused.ensures.answer
-    ∙ c.if-refused-ne0.false in
+    let all = rearranged_over relocate_ran _ _ _ _ _ none _ _ _ _ _ _ e.0 e.1 c.drop_lists-remaining.ensures.0
+    c.drop_lists-remaining.ensures.1 c.rearranged_of-rearranged.ensures in
     record { answer = (all.0, all.1, all.2, e.0.same, relocate_claimed _ _ _ _ _ none _ _ _ all.0 all.1 all.2) }

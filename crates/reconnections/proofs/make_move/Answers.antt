@@ -1,12 +1,12 @@
--- `make_move`: the list is overwritten as a whole by the list that was built, which is as long.
-use mathlib.Core.Path.{ap, ◌∙◌}
-use lib.ListN.{length}
-use Rattle.edits.proofs.Chain.{appended_whole}
-use Rattle.reconnections.proofs.Reconnected.{length-reconnected}
+-- `make_move`: the list laid out anew is the list as the pattern has it.
+use mathlib.Core.Path.{◌∙◌}
+use Rattle.reconnections.proofs.Reconnected.{cut_in, laid_out}
 use Rattle.reconnections.proofs.make_move.Goals as goal
+
+pub rearrange-requires : goal.rearrange-requires
+rearrange-requires c =
+    (cut_in c.args.place c.args.pattern c.reconnection-p.ensures c.requires.inside.0, c.requires.list_in_bounds)
 
 pub returns : goal.returns
 returns c =
-    let as_long = length-reconnected c.args.list.now c.args.place c.args.pattern c.requires.inside.0 in
-    appended_whole c.append_stretch.ensures.appended (ap length c.reconnected_into-end.ensures.buffer_after ∙ as_long)
-    ∙ c.reconnected_into-end.ensures.buffer_after
+    c.rearrange.ensures ∙ laid_out c.args.place c.args.pattern c.reconnection-p.ensures _

@@ -1,33 +1,33 @@
 -- `refusal_of`: the day's refusals come first, then the van's, then the lists'; each return is one case of the definition.
-use mathlib.Core.Path.{sym, ◌∙◌}
-use Rattle.tests.specs.All.{first_some, first_none}
+use Rattle.std.proofs.Common.{sym, ap, ◌∙◌}
+use Rattle.tests.specs.All.{first_none}
+use Rattle.day.specs.Day.{Day}
+use Rattle.day.specs.Customer.{num_depots}
+use Rattle.day.specs.Number.{refused_first}
 use Rattle.day_refusals.specs.Order.{day_fine}
+use Rattle.van_refusals.specs.Order.{van_refusal}
+use Rattle.list_refusals.specs.Refused.{lists_refusal}
 use Rattle.refusals.specs.Refusal.{refusal}
 use Rattle.refusals.proofs.refusal_of.Goals as goal
 
-pub returns-then-of_day-ne0 : goal.returns-then-of_day-ne0
+pub returns-in_err-day_refusal : goal.returns-in_err-day_refusal
 unfolding refusal
-returns-then-of_day-ne0 c =
-    record { answer = rw (← c.day_refusal-of_day.ensures) (first_some _ _ c.if-of_day-ne0.true) }
+returns-in_err-day_refusal c =
+    record { answer = refused_first _ _ _ _ c.from_residual.ensures.1 c.in_err-day_refusal.ensures }
 
-pub returns-then-of_van-ne0 : goal.returns-then-of_van-ne0
+pub returns-in_err-van_refusal : goal.returns-in_err-van_refusal
 unfolding refusal
-returns-then-of_van-ne0 c =
-    record {
-      answer = first_none _ _ _ (sym c.day_refusal-of_day.ensures ∙ c.if-of_day-ne0.false) (rw (← c.van_refusal-of_van.ensures)
-          (first_some _ _ c.if-of_van-ne0.true));
-    }
+returns-in_err-van_refusal c =
+    let of_day = c.in_err-van_refusal.ensures ∙ ap (λ (d : Day). van_refusal d.flags c.args.van) c.day.view_is in
+    record { answer = first_none _ _ _ (sym c.in_ok-day_refusal.ensures) (refused_first _ _ _ _ c.from_residual-in_err-van_refusal.ensures.1 of_day) }
 
 pub lists_refusal-requires : goal.lists_refusal-requires
 lists_refusal-requires c =
-    let none = sym c.day_refusal-of_day.ensures ∙ c.if-of_day-ne0.false in
-    (day_fine _ none).shaped.few
+    rw (ap (λ (d : Day). d.l) c.day.view_is) (day_fine _ (sym c.in_ok-day_refusal.ensures)).shaped.few
 
 pub returns : goal.returns
 unfolding refusal
 returns c =
-    record {
-      answer = first_none _ _ _ (sym c.day_refusal-of_day.ensures ∙ c.if-of_day-ne0.false)
-          (first_none _ _ _ (sym c.van_refusal-of_van.ensures ∙ c.if-of_van-ne0.false) (c.lists_refusal.ensures ∙ rw
-          c.num_depots.ensures));
-    }
+    let of_van = c.in_ok-van_refusal.ensures ∙ ap (λ (d : Day). van_refusal d.flags c.args.van) c.day.view_is in
+    let of_lists = c.lists_refusal.ensures ∙ rw c.num_depots-depots.ensures (ap (λ (d : Day). lists_refusal (num_depots d.flags) d.l c.args.visits.now c.args.lengths.now c.args.list) c.day.view_is) in
+    record { answer = first_none _ _ _ (sym c.in_ok-day_refusal.ensures) (first_none _ _ _ (sym of_van) of_lists) }

@@ -1,5 +1,6 @@
 -- `descend`: the table of pairs is right of the lists as they are lent, and the moves are made from there.
 use native.Mathlib.Omega.{arith}
+use Rattle.labels.specs.Lent.{lent}
 use Rattle.relocate.proofs.descend.Goals as goal
 
 pub search_all-requires-clause-prepared : goal.search_all-requires-clause-prepared

@@ -19,7 +19,7 @@ overflow_cast-setup c =
 pub descend-requires-clause-prepared : goal.descend-requires-clause-prepared
 descend-requires-clause-prepared c =
     record {
-      formed = c.requires.formed;
+      formed = c.args.columns.now.formed;
       depot_there = c.requires.depot_lt_l.0;
       floor = c.gain_floor-floor.ensures.answer ∙ ap gain_floor c.scale.ensures;
       needed = c.route_checks_needed-needed.ensures;
@@ -31,7 +31,7 @@ descend-requires-clause-loaded c =
 
 pub descend-requires-clause-cached : goal.descend-requires-clause-cached
 descend-requires-clause-cached c =
-    nothing_known_yet _ _ _ _ _ _ c.unknown-figures.ensures.answer c.requires.formed.tables.of_distances.few refl refl
+    nothing_known_yet _ _ _ _ _ _ c.unknown-figures.ensures.answer c.args.columns.now.formed.tables.of_distances.few refl refl
 
 pub descend-requires-clause-sized : goal.descend-requires-clause-sized
 descend-requires-clause-sized c =

@@ -4,21 +4,9 @@ use Rattle.loads.proofs.Tables.{still_held}
 use Rattle.relocations.proofs.Searching.{moved_right}
 use Rattle.relocation_changes.proofs.move_and_search.Goals as goal
 
-pub make_move-requires-clause-square : goal.make_move-requires-clause-square
-make_move-requires-clause-square c =
-    (c.requires.prepared.formed.tables.of_distances, c.requires.prepared.depot_there, c.requires.loaded.1)
-
-pub make_move-requires-clause-relocates : goal.make_move-requires-clause-relocates
-make_move-requires-clause-relocates c =
-    c.requires.relocates
-
-pub make_move-requires-clause-known : goal.make_move-requires-clause-known
-make_move-requires-clause-known c =
-    c.requires.cached
-
-pub search_changed-requires-clause-prepared : goal.search_changed-requires-clause-prepared
-search_changed-requires-clause-prepared c =
-    c.requires.prepared
+pub make_move-requires-clause-held : goal.make_move-requires-clause-held
+make_move-requires-clause-held c =
+    (c.requires.prepared.depot_there, c.requires.loaded.1)
 
 pub search_changed-requires-clause-loaded : goal.search_changed-requires-clause-loaded
 search_changed-requires-clause-loaded c =

@@ -23,4 +23,4 @@ bounds-list-position c =
 
 pub returns : goal.returns
 returns c =
-    c.wide.ensures ∙ ap (λ (xs : List ℕ). get_or xs c.args.position 0) c.list_of-list.ensures
+    c.from.ensures ∙ ap (λ (xs : List ℕ). get_or xs c.args.position 0) c.list_of-list.ensures

@@ -1,6 +1,5 @@
 -- `search_all`: before each row, the pairs of the rows before it are right.
 use mathlib.Core.Path.{refl, ◌∙◌}
-use Prim.Native.Nat.{◌-◌}
 use native.Mathlib.Omega.{arith}
 use Rattle.relocations.proofs.Searching.{rows_start, rows_end}
 use Rattle.relocations.proofs.search_all.Goals as goal
@@ -18,10 +17,6 @@ loop-from-init c = (
   refl,
 )
 
-pub search_row-requires-clause-prepared : goal.search_row-requires-clause-prepared
-search_row-requires-clause-prepared c =
-    c.requires.prepared
-
 pub search_row-requires-clause-loaded : goal.search_row-requires-clause-loaded
 search_row-requires-clause-loaded c =
     (c.requires.loaded.0, c.requires.loaded.1, omega (arith, c.loop-from.invariant.3, c.requires.loaded.2))
@@ -37,14 +32,6 @@ search_row-requires-clause-pairs_right c =
 pub search_row-requires-clause-from_in_bounds : goal.search_row-requires-clause-from_in_bounds
 search_row-requires-clause-from_in_bounds c =
     c.loop-from-test.true
-
-pub overflow_add-from : goal.overflow_add-from
-overflow_add-from c =
-    omega (arith, c.loop-from-test.true, c.requires.loaded.1.laid.few)
-
-pub loop-from-smaller : goal.loop-from-smaller
-loop-from-smaller c =
-    omega (arith, c.loop-from-test.true)
 
 pub loop-from-preserved : goal.loop-from-preserved
 loop-from-preserved c = (

@@ -1,6 +1,5 @@
 -- `search_changed`: before each turn, the pairs without a and b and those searched again are right.
 use mathlib.Core.Path.{refl, ◌∙◌}
-use Prim.Native.Nat.{◌-◌}
 use native.Mathlib.Omega.{arith}
 use Rattle.relocations.proofs.Searching.{both_sized, again_turn, again_end}
 use Rattle.relocations.proofs.search_changed.Goals as goal
@@ -8,10 +7,6 @@ use Rattle.relocations.proofs.search_changed.Goals as goal
 pub loop-other-init : goal.loop-other-init
 loop-other-init c =
     (c.requires.pairs_right, c.requires.cached, omega arith, refl, refl, refl, refl, refl, refl)
-
-pub search_both-requires-clause-prepared : goal.search_both-requires-clause-prepared
-search_both-requires-clause-prepared c =
-    c.requires.prepared
 
 pub search_both-requires-clause-loaded : goal.search_both-requires-clause-loaded
 search_both-requires-clause-loaded c =
@@ -24,10 +19,6 @@ search_both-requires-clause-cached c =
 pub search_both-requires-clause-sized : goal.search_both-requires-clause-sized
 search_both-requires-clause-sized c =
     (c.loop-other.invariant.0.sized, c.requires.a_in_bounds.0, c.loop-other-test.true)
-
-pub search_both-requires-in-loop-other-clause-prepared : goal.search_both-requires-in-loop-other-clause-prepared
-search_both-requires-in-loop-other-clause-prepared c =
-    c.requires.prepared
 
 pub search_both-requires-in-loop-other-clause-loaded : goal.search_both-requires-in-loop-other-clause-loaded
 search_both-requires-in-loop-other-clause-loaded c = (
@@ -52,14 +43,6 @@ search_both-requires-in-loop-other-clause-sized c = (
   c.requires.a_in_bounds.1,
   c.loop-other-test.true,
 )
-
-pub overflow_add-other : goal.overflow_add-other
-overflow_add-other c =
-    omega (arith, c.loop-other-test.true, c.requires.loaded.1.laid.few)
-
-pub loop-other-smaller : goal.loop-other-smaller
-loop-other-smaller c =
-    omega (arith, c.loop-other-test.true)
 
 pub loop-other-preserved : goal.loop-other-preserved
 loop-other-preserved c = (

@@ -2,10 +2,6 @@
 use native.Mathlib.Omega.{arith}
 use Rattle.relocations.proofs.search_pair.Goals as goal
 
-pub best_between-best-requires-clause-prepared : goal.best_between-best-requires-clause-prepared
-best_between-best-requires-clause-prepared c =
-    c.requires.prepared
-
 pub best_between-best-requires-clause-loaded : goal.best_between-best-requires-clause-loaded
 best_between-best-requires-clause-loaded c =
     (c.requires.loaded.0, c.requires.loaded.1)
@@ -13,14 +9,6 @@ best_between-best-requires-clause-loaded c =
 pub best_between-best-requires-clause-in_bounds : goal.best_between-best-requires-clause-in_bounds
 best_between-best-requires-clause-in_bounds c =
     (c.requires.loaded.2, c.requires.sized.1, c.requires.sized.2)
-
-pub best_between-best-requires-clause-cached : goal.best_between-best-requires-clause-cached
-best_between-best-requires-clause-cached c =
-    c.requires.cached
-
-pub put_pair-requires-clause-sized : goal.put_pair-requires-clause-sized
-put_pair-requires-clause-sized c =
-    c.requires.sized.0
 
 pub put_pair-requires-clause-from_bound : goal.put_pair-requires-clause-from_bound
 put_pair-requires-clause-from_bound c =

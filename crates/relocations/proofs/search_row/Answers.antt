@@ -1,6 +1,5 @@
 -- `search_row`: before each pair, those before it are right.
 use mathlib.Core.Path.{refl, ◌∙◌}
-use Prim.Native.Nat.{◌-◌}
 use native.Mathlib.Omega.{arith}
 use Rattle.relocations.proofs.Searching.{row_turn, row_end}
 use Rattle.relocations.proofs.search_row.Goals as goal
@@ -8,10 +7,6 @@ use Rattle.relocations.proofs.search_row.Goals as goal
 pub loop-to-init : goal.loop-to-init
 loop-to-init c =
     (c.requires.pairs_right, c.requires.cached, omega arith, refl, refl, refl, refl, refl, refl)
-
-pub search_pair-requires-clause-prepared : goal.search_pair-requires-clause-prepared
-search_pair-requires-clause-prepared c =
-    c.requires.prepared
 
 pub search_pair-requires-clause-loaded : goal.search_pair-requires-clause-loaded
 search_pair-requires-clause-loaded c =
@@ -24,14 +19,6 @@ search_pair-requires-clause-cached c =
 pub search_pair-requires-clause-sized : goal.search_pair-requires-clause-sized
 search_pair-requires-clause-sized c =
     (c.loop-to.invariant.0.sized, c.requires.from_in_bounds, c.loop-to-test.true)
-
-pub overflow_add-to : goal.overflow_add-to
-overflow_add-to c =
-    omega (arith, c.loop-to-test.true, c.requires.loaded.1.laid.few)
-
-pub loop-to-smaller : goal.loop-to-smaller
-loop-to-smaller c =
-    omega (arith, c.loop-to-test.true)
 
 pub loop-to-preserved : goal.loop-to-preserved
 loop-to-preserved c = (

@@ -35,7 +35,7 @@ turn_unbroken-requires-clause-shared c =
 
 pub turn_unbroken-requires-clause-rest_value : goal.turn_unbroken-requires-clause-rest_value
 turn_unbroken-requires-clause-rest_value c =
-    c.in-NoBreak.is
+    c.in-None.is
 
 pub turn_broken-requires-clause-worked : goal.turn_broken-requires-clause-worked
 turn_broken-requires-clause-worked c =
@@ -47,22 +47,22 @@ turn_broken-requires-clause-first_lt_last c =
 
 pub turn_broken-requires-clause-needed_value : goal.turn_broken-requires-clause-needed_value
 turn_broken-requires-clause-needed_value c =
-    break_checked _ _ _ c.requires.worked.0 c.in-Break.is
+    break_checked _ _ _ c.requires.worked.0 c.in-Some.is
 
-pub returns-in-NoBreak-clause-value : goal.returns-in-NoBreak-clause-value
-returns-in-NoBreak-clause-value c =
+pub returns-in-None-clause-value : goal.returns-in-None-clause-value
+returns-in-None-clause-value c =
     checked _ _ c.requires.worked.0 _ c.args.place _ c.two_opt_delta-delta.ensures _ c.counts_as_gain-gains.ensures.answer
     (c.if-not-gains.false) _ c.turn_unbroken.ensures.value
 
-pub returns-in-NoBreak-clause-list_after : goal.returns-in-NoBreak-clause-list_after
-returns-in-NoBreak-clause-list_after c =
+pub returns-in-None-clause-list_after : goal.returns-in-None-clause-list_after
+returns-in-None-clause-list_after c =
     c.turn_unbroken.ensures.list_after
 
-pub returns-in-Break-clause-value : goal.returns-in-Break-clause-value
-returns-in-Break-clause-value c =
+pub returns-in-Some-clause-value : goal.returns-in-Some-clause-value
+returns-in-Some-clause-value c =
     checked _ _ c.requires.worked.0 _ c.args.place _ c.two_opt_delta-delta.ensures _ c.counts_as_gain-gains.ensures.answer
     (c.if-not-gains.false) _ c.turn_broken.ensures.value
 
-pub returns-in-Break-clause-list_after : goal.returns-in-Break-clause-list_after
-returns-in-Break-clause-list_after c =
+pub returns-in-Some-clause-list_after : goal.returns-in-Some-clause-list_after
+returns-in-Some-clause-list_after c =
     c.turn_broken.ensures.list_after

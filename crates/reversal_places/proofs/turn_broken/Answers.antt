@@ -22,12 +22,8 @@ pub reverse-requires-clause-to_in_bounds : goal.reverse-requires-clause-to_in_bo
 reverse-requires-clause-to_in_bounds c =
     omega (arith, c.requires.first_lt_last.1)
 
-pub outcome_of-outcome-requires-clause-formed : goal.outcome_of-outcome-requires-clause-formed
-outcome_of-outcome-requires-clause-formed c =
-    c.requires.worked.0.formed
-
-pub outcome_of-outcome-requires-clause-depot_lt_l : goal.outcome_of-outcome-requires-clause-depot_lt_l
-outcome_of-outcome-requires-clause-depot_lt_l c = (
+pub outcome_of-outcome-requires : goal.outcome_of-outcome-requires
+outcome_of-outcome-requires c = (
   c.requires.worked.0.depot_there,
   rw c.reverse.ensures (turned-visits _ _ c.args.place c.requires.first_lt_last.0 c.requires.worked.1),
 )

@@ -10,10 +10,6 @@ pub overflow_add-end : goal.overflow_add-end
 overflow_add-end c =
     omega (arith, c.requires.first_lt_last.1, c.requires.worked.1.few)
 
-pub laid_passes-laid-requires-clause-formed : goal.laid_passes-laid-requires-clause-formed
-laid_passes-laid-requires-clause-formed c =
-    c.requires.worked.0.formed
-
 pub laid_passes-laid-requires-clause-depot_lt_l : goal.laid_passes-laid-requires-clause-depot_lt_l
 laid_passes-laid-requires-clause-depot_lt_l c = (
   c.requires.worked.0.depot_there,

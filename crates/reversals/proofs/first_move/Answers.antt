@@ -14,7 +14,6 @@ loop-place-init c =
 pub head_up_to-head-requires : goal.head_up_to-head-requires
 head_up_to-head-requires c =
     rw c.loop-place.invariant.0 (record {
-      formed = c.requires.worked.0.formed;
       depot_lt_l = (
         c.requires.worked.0.depot_there,
         c.requires.worked.1,

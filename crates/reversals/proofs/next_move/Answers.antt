@@ -11,9 +11,9 @@ pub first_move-found-requires-clause-in_sweep : goal.first_move-found-requires-c
 first_move-found-requires-clause-in_sweep c =
     search (c.requires.in_sweep, start_in)
 
-pub returns-in-At : goal.returns-in-At
-returns-in-At c =
-    found_ahead _ _ _ _ _ _ _ c.in-At.is c.first_move-found.ensures
+pub returns-in-Some : goal.returns-in-Some
+returns-in-Some c =
+    found_ahead _ _ _ _ _ _ _ c.in-Some.is c.first_move-found.ensures
 
 pub first_move-requires-clause-worked : goal.first_move-requires-clause-worked
 first_move-requires-clause-worked c =

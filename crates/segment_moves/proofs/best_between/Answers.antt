@@ -1,17 +1,9 @@
 -- `best_between`: the best so far and the positions still ahead choose what the best at the start and all positions do.
-use mathlib.Core.Path.{refl, sym, ◌∙◌}
+use mathlib.Core.Path.{sym, ◌∙◌}
 use mathlib.Core.Logic.{⊎_elim, inl, inr}
 use native.Mathlib.Omega.{arith}
 use Rattle.segments.proofs.Choosing.{turn_one, end_one}
 use Rattle.segment_moves.proofs.best_between.Goals as goal
-
-pub loop-to-init : goal.loop-to-init
-loop-to-init c =
-    (omega arith, refl, c.requires.known)
-
-pub consider-found-requires-clause-asked : goal.consider-found-requires-clause-asked
-consider-found-requires-clause-asked c =
-    c.requires.asked
 
 pub consider-found-requires-clause-fits : goal.consider-found-requires-clause-fits
 consider-found-requires-clause-fits c =
@@ -20,14 +12,6 @@ consider-found-requires-clause-fits c =
       there = omega arith;
       apart = ⊎_elim (λ before. inl (omega arith)) (λ behind. inr (omega arith)) c.requires.fact;
     }
-
-pub consider-found-requires-clause-gain_value : goal.consider-found-requires-clause-gain_value
-consider-found-requires-clause-gain_value c =
-    c.requires.gain_value
-
-pub consider-found-requires-clause-known : goal.consider-found-requires-clause-known
-consider-found-requires-clause-known c =
-    c.loop-to.invariant.2
 
 pub loop-to-preserved : goal.loop-to-preserved
 loop-to-preserved c = (

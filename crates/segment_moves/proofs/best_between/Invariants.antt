@@ -1,19 +1,15 @@
 -- `best_between`: the best so far and the positions still ahead choose what the best at the start and all positions do.
 use mathlib.Core.Path.{◌≡◌}
-use Prim.Native.Nat.{◌-◌, ◌≤◌}
-use Rattle.labels.specs.Columns.{columns}
+use Prim.Native.Nat.{◌≤◌}
 use Rattle.descent.specs.Order.{range}
 use Rattle.segments.specs.Segments.{choice, to_each, piece_of, Known}
+use Rattle.labels.specs.Lent.{lent}
 use Rattle.segment_moves.proofs.best_between.Given as goal
 
 abbrev pub invariant-loop-to : goal.invariant-loop-to
 invariant-loop-to l =
-    let c = columns l.terms.l l.flags l.service l.ready l.due l.penalty l.distances l.times in
+    let c = lent l.columns in
     (l.start ≤ l.to)
     × (choice c l.terms l.list (piece_of l.found) (to_each l.piece.size l.piece.from (range l.to l.end))
     ≡ choice c l.terms l.list (piece_of l.initial.found) (to_each l.piece.size l.piece.from (range l.start l.end)))
     × Known c l.terms l.list l.found
-
-abbrev pub decreases-loop-to : goal.decreases-loop-to
-decreases-loop-to l =
-    l.end - l.to

@@ -8,10 +8,6 @@ use Rattle.segments.proofs.Choosing.{turn_each, end_each}
 use Rattle.segment_moves.proofs.Rows.{all_chosen, none_chosen}
 use Rattle.segment_moves.proofs.best_piece.Goals as goal
 
-pub overflow_add-size : goal.overflow_add-size
-overflow_add-size c =
-    omega (arith, c.requires.size_bound)
-
 pub returns-then-n-size : goal.returns-then-n-size
 returns-then-n-size c =
     none_chosen _ c.args.terms _ _ (omega (arith, c.if-n-size.true))
@@ -20,30 +16,6 @@ pub loop-from-init : goal.loop-from-init
 unfolding Known
 loop-from-init c =
     (omega arith, refl, tt)
-
-pub overflow_add-from : goal.overflow_add-from
-overflow_add-from c =
-    omega (arith, c.requires.size_bound, c.loop-from.invariant.0, c.requires.asked.visits.few)
-
-pub best_from-best-requires-clause-asked : goal.best_from-best-requires-clause-asked
-best_from-best-requires-clause-asked c =
-    c.requires.asked
-
-pub best_from-best-requires-clause-size_in_bounds : goal.best_from-best-requires-clause-size_in_bounds
-best_from-best-requires-clause-size_in_bounds c =
-    c.loop-from-test.true
-
-pub best_from-best-requires-clause-known : goal.best_from-best-requires-clause-known
-best_from-best-requires-clause-known c =
-    c.loop-from.invariant.2
-
-pub overflow_add-from-in-loop-from : goal.overflow_add-from-in-loop-from
-overflow_add-from-in-loop-from c =
-    omega (arith, c.loop-from.invariant.0, c.requires.asked.visits.few)
-
-pub loop-from-smaller : goal.loop-from-smaller
-loop-from-smaller c =
-    omega (arith, c.loop-from-test.true)
 
 pub loop-from-preserved : goal.loop-from-preserved
 loop-from-preserved c =

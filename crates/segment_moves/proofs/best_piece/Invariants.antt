@@ -2,20 +2,16 @@
 use mathlib.Core.Path.{◌≡◌}
 use Prim.Native.Nat.{suc, ◌-◌, ◌≤◌}
 use lib.ListN.{length}
-use Rattle.labels.specs.Columns.{columns}
 use Rattle.descent.specs.Order.{range, each}
 use Rattle.segments.specs.Segments.{choice, piece_of, Known}
 use Rattle.segment_moves.specs.Row.{row}
+use Rattle.labels.specs.Lent.{lent}
 use Rattle.segment_moves.proofs.best_piece.Given as goal
 
 abbrev pub invariant-loop-from : goal.invariant-loop-from
 invariant-loop-from l =
-    let c = columns l.terms.l l.flags l.service l.ready l.due l.penalty l.distances l.times in
+    let c = lent l.columns in
     (l.from ≤ suc (length l.list))
     × (choice c l.terms l.list (piece_of l.best) (each (range l.from (suc (length l.list - l.size))) (row (length l.list) l.size))
     ≡ choice c l.terms l.list (piece_of l.initial.best) (each (range 0 (suc (length l.list - l.size))) (row (length l.list) l.size)))
     × Known c l.terms l.list l.best
-
-abbrev pub decreases-loop-from : goal.decreases-loop-from
-decreases-loop-from l =
-    suc (length l.list) - l.from

@@ -2,12 +2,12 @@
 use Rattle.segments.specs.Segments.{bar_of}
 use Rattle.segments.proofs.bar.Goals as goal
 
-pub returns-in-Nothing : goal.returns-in-Nothing
+pub returns-in-None : goal.returns-in-None
 unfolding bar_of
-returns-in-Nothing c =
-    rw c.in-Nothing.is
+returns-in-None c =
+    rw c.in-None.is
 
-pub returns-in-Move : goal.returns-in-Move
+pub returns-in-Some : goal.returns-in-Some
 unfolding bar_of
-returns-in-Move c =
-    rw c.in-Move.is
+returns-in-Some c =
+    rw c.in-Some.is

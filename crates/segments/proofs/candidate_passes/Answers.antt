@@ -20,12 +20,8 @@ pub move_piece-requires-clause-fact : goal.move_piece-requires-clause-fact
 move_piece-requires-clause-fact c =
     c.requires.fits.apart
 
-pub route_feasible-requires-clause-formed : goal.route_feasible-requires-clause-formed
-route_feasible-requires-clause-formed c =
-    c.requires.asked.formed
-
-pub route_feasible-requires-clause-depot_lt_l : goal.route_feasible-requires-clause-depot_lt_l
-route_feasible-requires-clause-depot_lt_l c =
+pub route_feasible-requires : goal.route_feasible-requires
+route_feasible-requires c =
     let p : Piece = record { size = c.args.size; from = c.args.from; to = c.args.to } in
     let whole = appended_whole c.append.ensures (sym c.requires.candidate_len) in
     let made = made_is _ _ _ p whole c.move_piece.ensures in

@@ -4,17 +4,13 @@ use mathlib.Core.Path.{ap, ◌∙◌}
 use Rattle.numbers.specs.Floor.{gain_floor}
 use Rattle.soft.proofs.improve.Goals as goal
 
-pub descend-requires-clause-formed : goal.descend-requires-clause-formed
-descend-requires-clause-formed c =
-    c.requires.formed
-
 pub descend-requires-clause-depot_lt_l : goal.descend-requires-clause-depot_lt_l
 descend-requires-clause-depot_lt_l c =
-    c.requires.depot_lt_l
+    c.requires
 
 pub descend-requires-clause-list_in_bounds : goal.descend-requires-clause-list_in_bounds
 descend-requires-clause-list_in_bounds c =
-    omega (arith, c.requires.depot_lt_l.1.few)
+    omega (arith, c.requires.1.few)
 
 pub returns : goal.returns
 returns c =

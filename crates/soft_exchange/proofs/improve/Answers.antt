@@ -13,7 +13,7 @@ boxes_in-requires c =
 
 pub run_moves-requires-clause-asked : goal.run_moves-requires-clause-asked
 run_moves-requires-clause-asked c =
-    record { formed = c.requires.formed.0; loaded = c.requires.formed.1; depot_there = c.requires.capacity_value.1 }
+    record { formed = c.args.columns.now.formed; loaded = c.requires.loaded; depot_there = c.requires.capacity_value.1 }
 
 pub run_moves-requires-clause-held : goal.run_moves-requires-clause-held
 run_moves-requires-clause-held c =

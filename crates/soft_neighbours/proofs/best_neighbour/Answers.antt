@@ -1,9 +1,9 @@
 -- `best_neighbour`. The invariant: what is chosen from here on is what the whole scan chooses, and the head is driven. The measure: the neighbours left.
 use mathlib.Core.Path.{refl, ◌∙◌}
-use Rattle.labels.specs.Columns.{columns}
 use Rattle.evaluation.specs.Route.{effective_cost}
 use Rattle.heads.proofs.Heads.{depot_driven}
 use Rattle.soft_neighbours.proofs.Passes.{scan_starts, scan_turns, scan_ends, inside_at, fewer}
+use Rattle.labels.specs.Lent.{lent}
 use Rattle.soft_neighbours.proofs.best_neighbour.Goals as goal
 
 pub first_place-here-requires : goal.first_place-here-requires
@@ -16,14 +16,10 @@ loop-here-init c =
 
 pub returns-in_default : goal.returns-in_default
 returns-in_default c =
-    let day = columns c.args.l c.args.flags.now c.args.service.now c.args.ready.now c.args.due.now c.args.penalty.now c.args.distances.now c.args.times.now in
+    let day = lent c.args.columns.now in
     let price = effective_cost day c.args.limits c.args.depot in
     scan_ends c.args.which price c.args.cost c.args.floor c.args.list.now _ _ _ c.requires.cost_value c.first_place-here.ensures.0 c.loop-here.invariant.0
     c.in_default.is
-
-pub price_of-priced-requires-clause-formed : goal.price_of-priced-requires-clause-formed
-price_of-priced-requires-clause-formed c =
-    c.requires.formed
 
 pub price_of-priced-requires-clause-depot_lt_l : goal.price_of-priced-requires-clause-depot_lt_l
 price_of-priced-requires-clause-depot_lt_l c =
@@ -31,7 +27,7 @@ price_of-priced-requires-clause-depot_lt_l c =
 
 pub price_of-priced-requires-clause-list_in_bounds : goal.price_of-priced-requires-clause-list_in_bounds
 price_of-priced-requires-clause-list_in_bounds c =
-    let inside = inside_at _ _ _ c.in-At.is c.loop-here.invariant.0.inside in
+    let inside = inside_at _ _ _ c.in-Some.is c.loop-here.invariant.0.inside in
     (rw c.loop-here.invariant.1 c.requires.list_in_bounds, inside)
 
 pub price_of-priced-requires-clause-driven : goal.price_of-priced-requires-clause-driven
@@ -40,14 +36,14 @@ price_of-priced-requires-clause-driven c =
 
 pub after-here-requires : goal.after-here-requires
 after-here-requires c =
-    (c.requires.depot_lt_l.1.few, inside_at _ _ _ c.in-At.is c.loop-here.invariant.0.inside)
+    (c.requires.depot_lt_l.1.few, inside_at _ _ _ c.in-Some.is c.loop-here.invariant.0.inside)
 
 pub loop-here-smaller : goal.loop-here-smaller
 loop-here-smaller c =
-    fewer _ _ _ _ c.in-At.is c.after-here.ensures
+    fewer _ _ _ _ c.in-Some.is c.after-here.ensures
 
 pub loop-here-preserved : goal.loop-here-preserved
 loop-here-preserved c =
-    let scanning = scan_turns _ _ _ _ _ _ _ _ _ _ c.loop-here.invariant.0 c.in-At.is c.price_of-priced.ensures.0
+    let scanning = scan_turns _ _ _ _ _ _ _ _ _ _ c.loop-here.invariant.0 c.in-Some.is c.price_of-priced.ensures.0
     c.or-best.ensures c.after-here.ensures in
     (scanning, c.price_of-priced.auto.buffer ∙ c.loop-here.invariant.1, c.price_of-priced.ensures.1)

@@ -10,10 +10,6 @@ pub layout_of-p-requires : goal.layout_of-p-requires
 layout_of-p-requires c =
     (c.requires.depot_lt_l.1.few, c.requires.list_in_bounds.1)
 
-pub reach-head-requires-clause-formed : goal.reach-head-requires-clause-formed
-reach-head-requires-clause-formed c =
-    c.requires.formed
-
 pub reach-head-requires-clause-depot_lt_l : goal.reach-head-requires-clause-depot_lt_l
 reach-head-requires-clause-depot_lt_l c =
     (c.requires.depot_lt_l.0, c.requires.depot_lt_l.1, omega (arith, c.layout_of-p.ensures.within.b_c, c.layout_of-p.ensures.within.c_d, c.layout_of-p.ensures.within.d_n))
@@ -38,12 +34,8 @@ pub slice_bounds-price_from-end : goal.slice_bounds-price_from-end
 slice_bounds-price_from-end c =
     omega (arith, c.lay_out.auto.buffer, c.requires.list_in_bounds.0)
 
-pub price_from-price-requires-clause-formed : goal.price_from-price-requires-clause-formed
-price_from-price-requires-clause-formed c =
-    c.requires.formed
-
-pub price_from-price-requires-clause-depot_lt_l : goal.price_from-price-requires-clause-depot_lt_l
-price_from-price-requires-clause-depot_lt_l c = (
+pub price_from-price-requires : goal.price_from-price-requires
+price_from-price-requires c = (
   c.requires.depot_lt_l.0,
   c.reach-head.ensures.driven_2.placed,
   rw (part_is _ _ _ _ _ _ c.layout_of-p.ensures c.lay_out.ensures) (visits_behind _ c.reach-head.result.visits _ (made_visits _ _ _ _ _ c.layout_of-p.ensures c.requires.depot_lt_l.1)),

@@ -12,10 +12,6 @@ pub returns-then-from-to : goal.returns-then-from-to
 returns-then-from-to c =
     rw c.nothing_below.ensures (best-same_list _ _ _ _ _ _ c.if-from-to.true)
 
-pub length_of-requires : goal.length_of-requires
-length_of-requires c =
-    c.requires.from_in_bounds.0
-
 pub returns-then-length_of-eq0 : goal.returns-then-length_of-eq0
 returns-then-length_of-eq0 c =
     rw c.nothing_below-then-length_of-eq0.ensures
@@ -29,10 +25,6 @@ list_of-giver-requires c =
 pub list_of-receiver-requires : goal.list_of-receiver-requires
 list_of-receiver-requires c =
     (c.requires.loaded.1.laid, c.requires.from_in_bounds.1)
-
-pub best_priced-requires-clause-prepared : goal.best_priced-requires-clause-prepared
-best_priced-requires-clause-prepared c =
-    c.requires.prepared
 
 pub best_priced-requires-clause-loaded : goal.best_priced-requires-clause-loaded
 best_priced-requires-clause-loaded c =

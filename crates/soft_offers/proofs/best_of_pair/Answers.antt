@@ -10,10 +10,6 @@ pub loop-position-init : goal.loop-position-init
 loop-position-init c =
     (rw c.nothing_below-best.ensures, omega arith, refl, rw c.at_depot-head.ensures (depot_driven _ _ _ _ c.requires.prepared.depot_there))
 
-pub reach-head-requires-clause-formed : goal.reach-head-requires-clause-formed
-reach-head-requires-clause-formed c =
-    c.requires.prepared.formed
-
 pub reach-head-requires-clause-depot_lt_l : goal.reach-head-requires-clause-depot_lt_l
 reach-head-requires-clause-depot_lt_l c =
     (c.requires.prepared.depot_there, c.requires.two_of.gives, c.loop-position.invariant.1)
@@ -21,10 +17,6 @@ reach-head-requires-clause-depot_lt_l c =
 pub reach-head-requires-clause-driven : goal.reach-head-requires-clause-driven
 reach-head-requires-clause-driven c =
     c.loop-position.invariant.3
-
-pub offer_visit-best-requires-clause-prepared : goal.offer_visit-best-requires-clause-prepared
-offer_visit-best-requires-clause-prepared c =
-    c.requires.prepared
 
 pub offer_visit-best-requires-clause-loaded : goal.offer_visit-best-requires-clause-loaded
 offer_visit-best-requires-clause-loaded c =
@@ -34,21 +26,9 @@ pub offer_visit-best-requires-clause-two_of : goal.offer_visit-best-requires-cla
 offer_visit-best-requires-clause-two_of c =
     (c.requires.two_of, c.loop-position-test.true)
 
-pub offer_visit-best-requires-clause-known : goal.offer_visit-best-requires-clause-known
-offer_visit-best-requires-clause-known c =
-    c.requires.known
-
 pub offer_visit-best-requires-clause-driven_by : goal.offer_visit-best-requires-clause-driven_by
 offer_visit-best-requires-clause-driven_by c =
     c.reach-head.ensures.driven_2
-
-pub overflow_add-position : goal.overflow_add-position
-overflow_add-position c =
-    omega (arith, c.loop-position-test.true, c.requires.two_of.gives.few)
-
-pub loop-position-smaller : goal.loop-position-smaller
-loop-position-smaller c =
-    omega (arith, c.loop-position-test.true)
 
 pub loop-position-preserved : goal.loop-position-preserved
 loop-position-preserved c = (

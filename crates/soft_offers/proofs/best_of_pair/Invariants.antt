@@ -2,20 +2,16 @@
 use mathlib.Core.Path.{◌≡◌}
 use Prim.Native.Nat.{◌-◌, ◌≤◌}
 use lib.ListN.{length}
-use Rattle.labels.specs.Columns.{columns}
 use Rattle.descent.specs.Order.{range}
 use Rattle.pairs.specs.Pairs.{nothing}
 use Rattle.soft_places.specs.Places.{DrivenBy}
 use Rattle.soft_offers.specs.Offers.{bound, best_offers}
+use Rattle.labels.specs.Lent.{lent}
 use Rattle.soft_offers.proofs.best_of_pair.Given as goal
 
 abbrev pub invariant-loop-position : goal.invariant-loop-position
 invariant-loop-position l =
-    let day = columns l.setup.l l.flags l.service l.ready l.due l.penalty l.distances l.times in
+    let day = lent l.columns in
     (best_offers day l.demand l.setup l.giver l.receiver l.pair (range l.position (length l.giver)) l.best
     ≡ best_offers day l.demand l.setup l.giver l.receiver l.pair (range 0 (length l.giver)) (nothing (bound l.setup)))
     × (l.position ≤ length l.giver) × (length l.buffer ≡ length l.initial.buffer) × DrivenBy day l.setup l.giver l.head
-
-abbrev pub decreases-loop-position : goal.decreases-loop-position
-decreases-loop-position l =
-    length l.giver - l.position

@@ -18,10 +18,6 @@ pub loop-place-init : goal.loop-place-init
 loop-place-init c =
     (refl, c.inserted_first-end.ensures.buffer_after, omega arith, refl, rw c.at_depot-head.ensures (depot_driven _ _ _ _ c.requires.prepared.depot_there))
 
-pub reach-head-requires-clause-formed : goal.reach-head-requires-clause-formed
-reach-head-requires-clause-formed c =
-    c.requires.prepared.formed
-
 pub reach-head-requires-clause-depot_lt_l : goal.reach-head-requires-clause-depot_lt_l
 reach-head-requires-clause-depot_lt_l c =
     (c.requires.prepared.depot_there, c.requires.visits.0, c.loop-place.invariant.2)
@@ -53,12 +49,8 @@ slice_bounds-price_from-end c =
       c.requires.visits.1,
     )
 
-pub price_from-new-requires-clause-formed : goal.price_from-new-requires-clause-formed
-price_from-new-requires-clause-formed c =
-    c.requires.prepared.formed
-
-pub price_from-new-requires-clause-depot_lt_l : goal.price_from-new-requires-clause-depot_lt_l
-price_from-new-requires-clause-depot_lt_l c =
+pub price_from-new-requires : goal.price_from-new-requires
+price_from-new-requires c =
     let all = visits_inserted _ c.args.list.now c.args.offer.visit c.loop-place.place c.requires.visits.0 c.requires.visits.1 c.requires.visits.2 in (
       c.requires.prepared.depot_there,
       c.reach-head.ensures.driven_2.placed,

@@ -3,15 +3,15 @@
 use mathlib.Core.Path.{◌≡◌}
 use Prim.Native.Nat.{suc, ◌-◌, ◌≤◌}
 use lib.ListN.{length, take}
-use Rattle.labels.specs.Columns.{columns}
 use Rattle.descent.specs.Order.{range}
 use Rattle.edits.specs.Edits.{inserted}
 use Rattle.soft_places.specs.Places.{DrivenBy, price_of, best_among}
+use Rattle.labels.specs.Lent.{lent}
 use Rattle.soft_places.proofs.best_place.Given as goal
 
 abbrev pub invariant-loop-place : goal.invariant-loop-place
 invariant-loop-place l =
-    let day = columns l.setup.l l.flags l.service l.ready l.due l.penalty l.distances l.times in
+    let day = lent l.columns in
     (best_among (price_of day l.setup) l.list l.offer (range l.place (suc (length l.list))) l.after
     ≡ best_among (price_of day l.setup) l.list l.offer (range 0 (suc (length l.list))) l.initial.after)
     × (take l.end l.buffer ≡ inserted l.list l.offer.visit l.place) × (l.place ≤ length l.list) × (length l.buffer ≡ length l.initial.buffer) × DrivenBy day l.setup l.list l.head

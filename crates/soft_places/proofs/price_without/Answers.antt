@@ -6,12 +6,8 @@ use Rattle.loads.proofs.Visits.{visits_without}
 use Rattle.soft_places.proofs.Laid.{tail_visits, price_without_is}
 use Rattle.soft_places.proofs.price_without.Goals as goal
 
-pub price_from-requires-clause-formed : goal.price_from-requires-clause-formed
-price_from-requires-clause-formed c =
-    c.requires.prepared.formed
-
-pub price_from-requires-clause-depot_lt_l : goal.price_from-requires-clause-depot_lt_l
-price_from-requires-clause-depot_lt_l c =
+pub price_from-requires : goal.price_from-requires
+price_from-requires c =
     (c.requires.prepared.depot_there, c.requires.driven_by.placed, tail_visits _ _ _ c.requires.in_bounds.1 c.requires.in_bounds.2)
 
 pub returns-then-head-position : goal.returns-then-head-position

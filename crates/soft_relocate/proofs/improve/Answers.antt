@@ -20,7 +20,7 @@ overflow_cast-setup c =
 
 pub descend-requires-clause-prepared : goal.descend-requires-clause-prepared
 descend-requires-clause-prepared c =
-    record { formed = c.requires.formed; depot_there = c.requires.depot_lt_l.0 }
+    record { formed = c.args.columns.now.formed; depot_there = c.requires.depot_lt_l.0 }
 
 pub descend-requires-clause-loaded : goal.descend-requires-clause-loaded
 descend-requires-clause-loaded c =

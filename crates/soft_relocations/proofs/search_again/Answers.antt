@@ -10,14 +10,6 @@ pub loop-other-init : goal.loop-other-init
 loop-other-init c =
     (c.requires.right_of, refl, refl, refl, refl)
 
-pub search_both-requires-clause-prepared : goal.search_both-requires-clause-prepared
-search_both-requires-clause-prepared c =
-    c.requires.prepared
-
-pub search_both-requires-clause-loaded : goal.search_both-requires-clause-loaded
-search_both-requires-clause-loaded c =
-    c.requires.loaded
-
 pub search_both-requires-clause-in_bounds : goal.search_both-requires-clause-in_bounds
 search_both-requires-clause-in_bounds c =
     omega (arith, c.loop-other.invariant.1, c.requires.in_bounds)
@@ -25,14 +17,6 @@ search_both-requires-clause-in_bounds c =
 pub search_both-requires-clause-sized : goal.search_both-requires-clause-sized
 search_both-requires-clause-sized c =
     (c.loop-other.invariant.0.sized, c.requires.a_in_bounds.0, c.loop-other-test.true)
-
-pub search_both-requires-in-loop-other-clause-prepared : goal.search_both-requires-in-loop-other-clause-prepared
-search_both-requires-in-loop-other-clause-prepared c =
-    c.requires.prepared
-
-pub search_both-requires-in-loop-other-clause-loaded : goal.search_both-requires-in-loop-other-clause-loaded
-search_both-requires-in-loop-other-clause-loaded c =
-    c.requires.loaded
 
 pub search_both-requires-in-loop-other-clause-in_bounds : goal.search_both-requires-in-loop-other-clause-in_bounds
 search_both-requires-in-loop-other-clause-in_bounds c =
@@ -45,14 +29,6 @@ search_both-requires-in-loop-other-clause-sized c = (
   c.requires.a_in_bounds.1,
   c.loop-other-test.true,
 )
-
-pub overflow_add-other : goal.overflow_add-other
-overflow_add-other c =
-    omega (arith, c.loop-other-test.true, c.requires.loaded.1.laid.few)
-
-pub loop-other-smaller : goal.loop-other-smaller
-loop-other-smaller c =
-    omega (arith, c.loop-other-test.true)
 
 pub loop-other-preserved : goal.loop-other-preserved
 loop-other-preserved c = (

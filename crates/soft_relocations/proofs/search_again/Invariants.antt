@@ -2,16 +2,12 @@
 use mathlib.Core.Path.{◌≡◌}
 use Prim.Native.Nat.{◌-◌}
 use lib.ListN.{length}
-use Rattle.labels.specs.Columns.{columns}
 use Rattle.pairs.specs.Pairs.{table, Renewed}
 use Rattle.soft_relocations.specs.Relocations.{RightOf}
+use Rattle.labels.specs.Lent.{lent}
 use Rattle.soft_relocations.proofs.search_again.Given as goal
 
 abbrev pub invariant-loop-other : goal.invariant-loop-other
 invariant-loop-other l =
-    RightOf (columns l.setup.l l.flags l.service l.ready l.due l.penalty l.distances l.times) l.demand l.setup l.visits l.lengths (Renewed l.a l.b l.other) (table l.deltas l.positions l.places)
+    RightOf (lent l.columns) l.demand l.setup l.visits l.lengths (Renewed l.a l.b l.other) (table l.deltas l.positions l.places)
     × (length l.buffer ≡ length l.initial.buffer) × (length l.deltas ≡ length l.initial.deltas) × (length l.positions ≡ length l.initial.positions) × (length l.places ≡ length l.initial.places)
-
-abbrev pub decreases-loop-other : goal.decreases-loop-other
-decreases-loop-other l =
-    length l.lengths - l.other

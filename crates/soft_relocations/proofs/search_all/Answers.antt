@@ -9,14 +9,6 @@ pub loop-from-init : goal.loop-from-init
 loop-from-init c =
     (right_start _ _ _ _ _ _ c.requires.sized, refl, refl, refl, refl)
 
-pub search_row-requires-clause-prepared : goal.search_row-requires-clause-prepared
-search_row-requires-clause-prepared c =
-    c.requires.prepared
-
-pub search_row-requires-clause-loaded : goal.search_row-requires-clause-loaded
-search_row-requires-clause-loaded c =
-    c.requires.loaded
-
 pub search_row-requires-clause-in_bounds : goal.search_row-requires-clause-in_bounds
 search_row-requires-clause-in_bounds c =
     omega (arith, c.loop-from.invariant.1, c.requires.in_bounds)
@@ -24,14 +16,6 @@ search_row-requires-clause-in_bounds c =
 pub search_row-requires-clause-right_of : goal.search_row-requires-clause-right_of
 search_row-requires-clause-right_of c =
     (c.loop-from.invariant.0, c.loop-from-test.true)
-
-pub overflow_add-from : goal.overflow_add-from
-overflow_add-from c =
-    omega (arith, c.loop-from-test.true, c.requires.loaded.1.laid.few)
-
-pub loop-from-smaller : goal.loop-from-smaller
-loop-from-smaller c =
-    omega (arith, c.loop-from-test.true)
 
 pub loop-from-preserved : goal.loop-from-preserved
 loop-from-preserved c = (

@@ -2,16 +2,12 @@
 use mathlib.Core.Path.{◌≡◌}
 use Prim.Native.Nat.{◌-◌}
 use lib.ListN.{length}
-use Rattle.labels.specs.Columns.{columns}
 use Rattle.pairs.specs.Pairs.{table, Before}
 use Rattle.soft_relocations.specs.Relocations.{RightOf}
+use Rattle.labels.specs.Lent.{lent}
 use Rattle.soft_relocations.proofs.search_all.Given as goal
 
 abbrev pub invariant-loop-from : goal.invariant-loop-from
 invariant-loop-from l =
-    RightOf (columns l.setup.l l.flags l.service l.ready l.due l.penalty l.distances l.times) l.demand l.setup l.visits l.lengths (Before l.from 0) (table l.deltas l.positions l.places)
+    RightOf (lent l.columns) l.demand l.setup l.visits l.lengths (Before l.from 0) (table l.deltas l.positions l.places)
     × (length l.buffer ≡ length l.initial.buffer) × (length l.deltas ≡ length l.initial.deltas) × (length l.positions ≡ length l.initial.positions) × (length l.places ≡ length l.initial.places)
-
-abbrev pub decreases-loop-from : goal.decreases-loop-from
-decreases-loop-from l =
-    length l.lengths - l.from

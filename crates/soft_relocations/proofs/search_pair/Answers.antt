@@ -2,25 +2,9 @@
 use native.Mathlib.Omega.{arith}
 use Rattle.soft_relocations.proofs.search_pair.Goals as goal
 
-pub best_between-best-requires-clause-prepared : goal.best_between-best-requires-clause-prepared
-best_between-best-requires-clause-prepared c =
-    c.requires.prepared
-
-pub best_between-best-requires-clause-loaded : goal.best_between-best-requires-clause-loaded
-best_between-best-requires-clause-loaded c =
-    c.requires.loaded
-
-pub best_between-best-requires-clause-in_bounds : goal.best_between-best-requires-clause-in_bounds
-best_between-best-requires-clause-in_bounds c =
-    c.requires.in_bounds
-
 pub best_between-best-requires-clause-from_in_bounds : goal.best_between-best-requires-clause-from_in_bounds
 best_between-best-requires-clause-from_in_bounds c =
     (c.requires.sized.1, c.requires.sized.2)
-
-pub put_pair-requires-clause-sized : goal.put_pair-requires-clause-sized
-put_pair-requires-clause-sized c =
-    c.requires.sized.0
 
 pub put_pair-requires-clause-from_bound : goal.put_pair-requires-clause-from_bound
 put_pair-requires-clause-from_bound c =

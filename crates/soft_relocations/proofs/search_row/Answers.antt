@@ -10,14 +10,6 @@ pub loop-to-init : goal.loop-to-init
 loop-to-init c =
     (c.requires.right_of.0, refl, refl, refl, refl)
 
-pub search_pair-requires-clause-prepared : goal.search_pair-requires-clause-prepared
-search_pair-requires-clause-prepared c =
-    c.requires.prepared
-
-pub search_pair-requires-clause-loaded : goal.search_pair-requires-clause-loaded
-search_pair-requires-clause-loaded c =
-    c.requires.loaded
-
 pub search_pair-requires-clause-in_bounds : goal.search_pair-requires-clause-in_bounds
 search_pair-requires-clause-in_bounds c =
     omega (arith, c.loop-to.invariant.1, c.requires.in_bounds)
@@ -25,14 +17,6 @@ search_pair-requires-clause-in_bounds c =
 pub search_pair-requires-clause-sized : goal.search_pair-requires-clause-sized
 search_pair-requires-clause-sized c =
     (c.loop-to.invariant.0.sized, c.requires.right_of.1, c.loop-to-test.true)
-
-pub overflow_add-to : goal.overflow_add-to
-overflow_add-to c =
-    omega (arith, c.loop-to-test.true, c.requires.loaded.1.laid.few)
-
-pub loop-to-smaller : goal.loop-to-smaller
-loop-to-smaller c =
-    omega (arith, c.loop-to-test.true)
 
 pub loop-to-preserved : goal.loop-to-preserved
 loop-to-preserved c = (

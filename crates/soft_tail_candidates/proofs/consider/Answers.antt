@@ -10,10 +10,6 @@ pub returns-then-load2-terms : goal.returns-then-load2-terms
 returns-then-load2-terms c =
     stays_second_load _ _ c.args.terms _ _ _ _ _ _ c.requires.load1_value.1 c.if-load2-terms.true
 
-pub change_of-delta-requires-clause-formed : goal.change_of-delta-requires-clause-formed
-change_of-delta-requires-clause-formed c =
-    (c.requires.asked.formed, c.requires.asked.depot_there)
-
 pub change_of-delta-requires-clause-two : goal.change_of-delta-requires-clause-two
 change_of-delta-requires-clause-two c =
     c.requires.two

@@ -26,14 +26,6 @@ overflow_add-head1 c =
     c.loop-last.invariant.1 c.boxes_at-head1.ensures in
     omega (arith, small.0, small.1)
 
-pub overflow_add-last : goal.overflow_add-last
-overflow_add-last c =
-    omega (arith, c.loop-last-test.true, c.requires.two.few)
-
-pub reach-driven1-requires-clause-formed : goal.reach-driven1-requires-clause-formed
-reach-driven1-requires-clause-formed c =
-    c.requires.asked.formed
-
 pub reach-driven1-requires-clause-depot_lt_l : goal.reach-driven1-requires-clause-depot_lt_l
 reach-driven1-requires-clause-depot_lt_l c =
     (c.requires.asked.depot_there, first_visits _ _ _ c.requires.two, omega (arith, c.loop-last-test.true))
@@ -69,14 +61,6 @@ best_row-best-requires-clause-head1_value c =
 pub best_row-best-requires-clause-driven_by : goal.best_row-best-requires-clause-driven_by
 best_row-best-requires-clause-driven_by c =
     c.reach-driven1.ensures.driven_2
-
-pub overflow_add-last-in-loop-last-2 : goal.overflow_add-last-in-loop-last-2
-overflow_add-last-in-loop-last-2 c =
-    omega (arith, c.loop-last-test.true, c.requires.two.few)
-
-pub loop-last-smaller : goal.loop-last-smaller
-loop-last-smaller c =
-    omega (arith, c.loop-last-test.true)
 
 pub loop-last-preserved : goal.loop-last-preserved
 loop-last-preserved c = (

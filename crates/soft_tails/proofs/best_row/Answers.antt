@@ -33,10 +33,6 @@ pub overflow_add-cut2 : goal.overflow_add-cut2
 overflow_add-cut2 c =
     omega (arith, c.loop-last-test.true, c.requires.two.0.few)
 
-pub reach-driven2-requires-clause-formed : goal.reach-driven2-requires-clause-formed
-reach-driven2-requires-clause-formed c =
-    c.requires.asked.formed
-
 pub reach-driven2-requires-clause-depot_lt_l : goal.reach-driven2-requires-clause-depot_lt_l
 reach-driven2-requires-clause-depot_lt_l c =
     (c.requires.asked.depot_there, second_visits _ _ _ c.requires.two.0, omega (arith, c.loop-last-test.true))
@@ -61,7 +57,7 @@ overflow_add-new1 c =
     c.boxes_at-head2.ensures in
     -- the first head is part of its list
     let head = head_small (boxes_of c.args.demand.now) c.args.cut1 c.args.one.now c.args.head1 c.requires.head1_value in
-    let most = load_small c.args.terms.l c.args.demand.now c.args.one.now c.requires.asked.loaded c.requires.two.0.one_below (omega (arith, c.requires.two.0.few)) in
+    let most = load_small c.args.columns.now.locations c.args.demand.now c.args.one.now c.requires.asked.loaded c.requires.two.0.one_below (omega (arith, c.requires.two.0.few)) in
     omega (arith, small.1, head, most, c.requires.figured.second_load)
 
 pub overflow_sub-new2 : goal.overflow_sub-new2
@@ -76,7 +72,7 @@ overflow_add-new2 c =
     -- the second head is part of the list
     let small = sum_small _ _ _ c.requires.asked.loaded two.other_below (omega (arith, two.few)) _ _ _ c.loop-last-test.true c.loop-last.invariant.1
     c.boxes_at-head2.ensures in
-    let most = load_small c.args.terms.l c.args.demand.now c.args.one.now c.requires.asked.loaded c.requires.two.0.one_below (omega (arith, c.requires.two.0.few)) in
+    let most = load_small c.args.columns.now.locations c.args.demand.now c.args.one.now c.requires.asked.loaded c.requires.two.0.one_below (omega (arith, c.requires.two.0.few)) in
     omega (arith, small.0, small.1, most, c.requires.figured.first_load)
 
 pub consider-found-requires-clause-asked : goal.consider-found-requires-clause-asked
@@ -110,14 +106,6 @@ consider-found-requires-clause-load1_value c =
 pub consider-found-requires-clause-driven_by : goal.consider-found-requires-clause-driven_by
 consider-found-requires-clause-driven_by c =
     (c.requires.driven_by, c.reach-driven2.ensures.driven_2)
-
-pub overflow_add-last : goal.overflow_add-last
-overflow_add-last c =
-    omega (arith, c.loop-last-test.true, c.requires.two.0.few)
-
-pub loop-last-smaller : goal.loop-last-smaller
-loop-last-smaller c =
-    omega (arith, c.loop-last-test.true)
 
 pub loop-last-preserved : goal.loop-last-preserved
 loop-last-preserved c = (

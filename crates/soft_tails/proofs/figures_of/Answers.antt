@@ -2,20 +2,12 @@
 use native.Mathlib.Omega.{arith}
 use Rattle.soft_tails.proofs.figures_of.Goals as goal
 
-pub effective_cost-cost1-requires-clause-formed : goal.effective_cost-cost1-requires-clause-formed
-effective_cost-cost1-requires-clause-formed c =
-    c.requires.asked.formed
-
-pub effective_cost-cost1-requires-clause-depot_lt_l : goal.effective_cost-cost1-requires-clause-depot_lt_l
-effective_cost-cost1-requires-clause-depot_lt_l c =
+pub effective_cost-cost1-requires : goal.effective_cost-cost1-requires
+effective_cost-cost1-requires c =
     (c.requires.asked.depot_there, record { few = omega (arith, c.requires.two.few); below = c.requires.two.one_below })
 
-pub effective_cost-cost2-requires-clause-formed : goal.effective_cost-cost2-requires-clause-formed
-effective_cost-cost2-requires-clause-formed c =
-    c.requires.asked.formed
-
-pub effective_cost-cost2-requires-clause-depot_lt_l : goal.effective_cost-cost2-requires-clause-depot_lt_l
-effective_cost-cost2-requires-clause-depot_lt_l c =
+pub effective_cost-cost2-requires : goal.effective_cost-cost2-requires
+effective_cost-cost2-requires c =
     (c.requires.asked.depot_there, record { few = omega (arith, c.requires.two.few); below = c.requires.two.other_below })
 
 pub load_of-load1-requires : goal.load_of-load1-requires

@@ -10,12 +10,12 @@ offset_bounds-giver-position c =
 pub boxes_of-requires-clause-visit_in_bounds : goal.boxes_of-requires-clause-visit_in_bounds
 boxes_of-requires-clause-visit_in_bounds c =
     let below = c.requires.two_of.0.gives.below _ c.requires.two_of.1 in
-    omega (arith, c.wide.ensures, below, c.requires.loaded.0.column)
+    omega (arith, c.from.ensures, below, c.requires.loaded.0.column)
 
 pub boxes_of-requires-clause-pos_value : goal.boxes_of-requires-clause-pos_value
 boxes_of-requires-clause-pos_value c =
     let below = c.requires.two_of.0.gives.below _ c.requires.two_of.1 in
-    rw c.wide.ensures (c.requires.loaded.0.in_range _ below)
+    rw c.from.ensures (c.requires.loaded.0.in_range _ below)
 
 pub overflow_add-load : goal.overflow_add-load
 overflow_add-load c =
@@ -24,34 +24,18 @@ overflow_add-load c =
 pub returns-then-load-setup : goal.returns-then-load-setup
 returns-then-load-setup c =
     refused_as _ _ c.args.setup c.args.giver.now c.args.receiver.now c.args.pair c.args.best
-    c.args.position _ _ c.wide.ensures c.boxes_of.ensures.0
+    c.args.position _ _ c.from.ensures c.boxes_of.ensures.0
     c.if-load-setup.true
-
-pub giving_delta-giving-requires-clause-prepared : goal.giving_delta-giving-requires-clause-prepared
-giving_delta-giving-requires-clause-prepared c =
-    c.requires.prepared
 
 pub giving_delta-giving-requires-clause-in_bounds : goal.giving_delta-giving-requires-clause-in_bounds
 giving_delta-giving-requires-clause-in_bounds c =
     (c.requires.loaded.1, c.requires.two_of.0.gives, c.requires.two_of.1)
 
-pub giving_delta-giving-requires-clause-driven_by : goal.giving_delta-giving-requires-clause-driven_by
-giving_delta-giving-requires-clause-driven_by c =
-    c.requires.driven_by
-
-pub giving_delta-giving-requires-clause-value : goal.giving_delta-giving-requires-clause-value
-giving_delta-giving-requires-clause-value c =
-    c.requires.known.0.price_from
-
 pub returns-then-not-is_finite : goal.returns-then-not-is_finite
 returns-then-not-is_finite c =
     fails_as _ _ c.args.setup c.args.giver.now c.args.receiver.now c.args.pair c.args.best
-    c.args.position _ _ c.wide.ensures c.boxes_of.ensures.0
+    c.args.position _ _ c.from.ensures c.boxes_of.ensures.0
     _ c.giving_delta-giving.ensures _ c.is_finite.ensures.answer (c.if-not-is_finite.true)
-
-pub best_place-requires-clause-prepared : goal.best_place-requires-clause-prepared
-best_place-requires-clause-prepared c =
-    c.requires.prepared
 
 pub best_place-requires-clause-in_bounds : goal.best_place-requires-clause-in_bounds
 best_place-requires-clause-in_bounds c =
@@ -64,6 +48,6 @@ best_place-requires-clause-visits c =
 pub returns : goal.returns
 returns c =
     offered_as _ _ c.args.setup c.args.giver.now c.args.receiver.now c.args.pair c.args.best
-    c.args.position _ _ c.wide.ensures c.boxes_of.ensures.0
+    c.args.position _ _ c.from.ensures c.boxes_of.ensures.0
     _ c.giving_delta-giving.ensures _ c.is_finite.ensures.answer (c.if-not-is_finite.false) c.if-load-setup.false _ _
     c.fixed_if-paid.ensures c.best_place.ensures

@@ -28,10 +28,6 @@ pub returns-then-not-delta-best : goal.returns-then-not-delta-best
 returns-then-not-delta-best c =
     stays_delta _ _ c.args.terms c.requires.asked _ _ _ _ _ _ c.exchange_delta-delta.ensures (ap not c.if-not-delta-best.true)
 
-pub joined_passes-requires-clause-formed : goal.joined_passes-requires-clause-formed
-joined_passes-requires-clause-formed c =
-    (c.requires.asked.formed, c.requires.asked.depot_there)
-
 pub joined_passes-requires-clause-two : goal.joined_passes-requires-clause-two
 joined_passes-requires-clause-two c =
     c.requires.two.0
@@ -43,10 +39,6 @@ joined_passes-requires-clause-cut1_in_bounds c =
 pub returns-then-not-joined_passes : goal.returns-then-not-joined_passes
 returns-then-not-joined_passes c =
     stays_first_list _ _ c.args.terms c.requires.asked _ _ _ _ _ _ c.joined_passes.ensures (ap not c.if-not-joined_passes.true)
-
-pub joined_passes-requires-2-clause-formed : goal.joined_passes-requires-2-clause-formed
-joined_passes-requires-2-clause-formed c =
-    (c.requires.asked.formed, c.requires.asked.depot_there)
 
 pub joined_passes-requires-2-clause-two : goal.joined_passes-requires-2-clause-two
 joined_passes-requires-2-clause-two c =

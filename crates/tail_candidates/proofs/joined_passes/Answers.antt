@@ -13,16 +13,12 @@ unfolding passing
 returns-then-not-terms c =
     off _ _ (not-true c.args.terms.needed c.if-not-terms.true)
 
-pub passes-requires-clause-formed : goal.passes-requires-clause-formed
-passes-requires-clause-formed c =
-    c.requires.formed.0
-
-pub passes-requires-clause-depot_lt_l : goal.passes-requires-clause-depot_lt_l
-passes-requires-clause-depot_lt_l c =
+pub passes-requires : goal.passes-requires
+passes-requires c =
     let whole = front c.append_stretch-end.result c.append_stretch-end.new.buffer _
     (built c.args.one.now c.args.other.now c.args.cut1 c.args.cut2 c.append_stretch-head.ensures.appended.filled
     c.append_stretch-end.ensures.appended.filled) in
-    (c.requires.formed.1, rw whole (visits_joined _ _ _ c.requires.two c.args.cut1 c.args.cut2 c.requires.cut1_in_bounds.0))
+    (c.requires.depot_lt_l, rw whole (visits_joined _ _ _ c.requires.two c.args.cut1 c.args.cut2 c.requires.cut1_in_bounds.0))
 
 pub returns : goal.returns
 unfolding passing

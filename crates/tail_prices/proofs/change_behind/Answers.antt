@@ -4,21 +4,13 @@ use Rattle.loads.proofs.Visits.{two_turned}
 use Rattle.tail_prices.proofs.Behind.{tail_visits, price_behind, same-change}
 use Rattle.tail_prices.proofs.change_behind.Goals as goal
 
-pub price_from-new1-requires-clause-formed : goal.price_from-new1-requires-clause-formed
-price_from-new1-requires-clause-formed c =
-    c.requires.formed.0
+pub price_from-new1-requires : goal.price_from-new1-requires
+price_from-new1-requires c =
+    (c.requires.depot_lt_l, c.requires.driven_by.0.placed, tail_visits _ _ _ c.requires.two.0 _ c.requires.two.2)
 
-pub price_from-new1-requires-clause-depot_lt_l : goal.price_from-new1-requires-clause-depot_lt_l
-price_from-new1-requires-clause-depot_lt_l c =
-    (c.requires.formed.1, c.requires.driven_by.0.placed, tail_visits _ _ _ c.requires.two.0 _ c.requires.two.2)
-
-pub price_from-new2-requires-clause-formed : goal.price_from-new2-requires-clause-formed
-price_from-new2-requires-clause-formed c =
-    c.requires.formed.0
-
-pub price_from-new2-requires-clause-depot_lt_l : goal.price_from-new2-requires-clause-depot_lt_l
-price_from-new2-requires-clause-depot_lt_l c =
-    (c.requires.formed.1, c.requires.driven_by.1.placed, tail_visits _ _ _ (two_turned _ _ _ c.requires.two.0) _ c.requires.two.1)
+pub price_from-new2-requires : goal.price_from-new2-requires
+price_from-new2-requires c =
+    (c.requires.depot_lt_l, c.requires.driven_by.1.placed, tail_visits _ _ _ (two_turned _ _ _ c.requires.two.0) _ c.requires.two.1)
 
 pub returns : goal.returns
 returns c =

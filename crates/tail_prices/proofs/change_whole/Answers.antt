@@ -3,10 +3,6 @@ use Rattle.loads.proofs.Visits.{two_turned}
 use Rattle.tail_prices.proofs.Behind.{same-change}
 use Rattle.tail_prices.proofs.change_whole.Goals as goal
 
-pub joined_cost-new1-requires-clause-formed : goal.joined_cost-new1-requires-clause-formed
-joined_cost-new1-requires-clause-formed c =
-    c.requires.formed
-
 pub joined_cost-new1-requires-clause-two : goal.joined_cost-new1-requires-clause-two
 joined_cost-new1-requires-clause-two c =
     c.requires.two.0
@@ -14,10 +10,6 @@ joined_cost-new1-requires-clause-two c =
 pub joined_cost-new1-requires-clause-cut1_in_bounds : goal.joined_cost-new1-requires-clause-cut1_in_bounds
 joined_cost-new1-requires-clause-cut1_in_bounds c =
     (c.requires.two.1, c.requires.two.2)
-
-pub joined_cost-new2-requires-clause-formed : goal.joined_cost-new2-requires-clause-formed
-joined_cost-new2-requires-clause-formed c =
-    c.requires.formed
 
 pub joined_cost-new2-requires-clause-two : goal.joined_cost-new2-requires-clause-two
 joined_cost-new2-requires-clause-two c =

@@ -5,16 +5,12 @@ use Rattle.edits.proofs.Cuts.{front}
 use Rattle.tail_candidates.proofs.Joined.{visits_joined, built}
 use Rattle.tail_prices.proofs.joined_cost.Goals as goal
 
-pub effective_cost-requires-clause-formed : goal.effective_cost-requires-clause-formed
-effective_cost-requires-clause-formed c =
-    c.requires.formed.0
-
-pub effective_cost-requires-clause-depot_lt_l : goal.effective_cost-requires-clause-depot_lt_l
-effective_cost-requires-clause-depot_lt_l c =
+pub effective_cost-requires : goal.effective_cost-requires
+effective_cost-requires c =
     let whole = front c.append_stretch-end.result c.append_stretch-end.new.buffer _
     (built c.args.one.now c.args.other.now c.args.cut1 c.args.cut2 c.append_stretch-head.ensures.appended.filled
     c.append_stretch-end.ensures.appended.filled) in
-    (c.requires.formed.1, rw whole (visits_joined _ _ _ c.requires.two c.args.cut1 c.args.cut2 c.requires.cut1_in_bounds.0))
+    (c.requires.depot_lt_l, rw whole (visits_joined _ _ _ c.requires.two c.args.cut1 c.args.cut2 c.requires.cut1_in_bounds.0))
 
 pub returns : goal.returns
 returns c =

@@ -32,10 +32,6 @@ overflow_add-head1 c =
     c.loop-last.invariant.1 c.boxes_at-head1.ensures in
     omega (arith, small.0, small.1)
 
-pub overflow_add-last : goal.overflow_add-last
-overflow_add-last c =
-    omega (arith, c.loop-last-test.true, c.requires.two.few)
-
 pub best_row-best-requires-clause-asked : goal.best_row-best-requires-clause-asked
 best_row-best-requires-clause-asked c =
     c.requires.asked
@@ -50,14 +46,6 @@ best_row-best-requires-clause-head1_value c = (
   c.load_of-load1.ensures.0,
   c.load_of-load2.ensures.0,
 )
-
-pub overflow_add-last-in-loop-last : goal.overflow_add-last-in-loop-last
-overflow_add-last-in-loop-last c =
-    omega (arith, c.loop-last-test.true, c.requires.two.few)
-
-pub loop-last-smaller : goal.loop-last-smaller
-loop-last-smaller c =
-    omega (arith, c.loop-last-test.true)
 
 pub loop-last-preserved : goal.loop-last-preserved
 loop-last-preserved c = (

@@ -47,7 +47,7 @@ overflow_add-new1 c =
     c.boxes_at-head2.ensures in
     -- the first head is part of its list
     let head = head_small (boxes_of c.args.demand.now) c.args.cut1 c.args.one.now c.args.head1 c.requires.head1_value.0 in
-    let most = load_small c.args.terms.l c.args.demand.now c.args.one.now c.requires.asked.loaded c.requires.two.0.one_below (omega (arith, c.requires.two.0.few)) in
+    let most = load_small c.args.columns.now.locations c.args.demand.now c.args.one.now c.requires.asked.loaded c.requires.two.0.one_below (omega (arith, c.requires.two.0.few)) in
     omega (arith, small.1, head, most, c.requires.head1_value.2)
 
 pub overflow_sub-new2 : goal.overflow_sub-new2
@@ -62,7 +62,7 @@ overflow_add-new2 c =
     -- the second head is part of the list
     let small = sum_small _ _ _ c.requires.asked.loaded two.other_below (omega (arith, two.few)) _ _ _ c.loop-last-test.true c.loop-last.invariant.1
     c.boxes_at-head2.ensures in
-    let most = load_small c.args.terms.l c.args.demand.now c.args.one.now c.requires.asked.loaded c.requires.two.0.one_below (omega (arith, c.requires.two.0.few)) in
+    let most = load_small c.args.columns.now.locations c.args.demand.now c.args.one.now c.requires.asked.loaded c.requires.two.0.one_below (omega (arith, c.requires.two.0.few)) in
     omega (arith, small.0, small.1, most, c.requires.head1_value.1)
 
 pub consider-found-requires-clause-asked : goal.consider-found-requires-clause-asked
@@ -90,14 +90,6 @@ consider-found-requires-clause-load1_value c =
       load_joined boxes one other c.args.cut1 cut2 _ _ _ loads.0 head2 loads.2,
       load_joined boxes other one cut2 c.args.cut1 _ _ _ head2 loads.0 loads.1,
     )
-
-pub overflow_add-last : goal.overflow_add-last
-overflow_add-last c =
-    omega (arith, c.loop-last-test.true, c.requires.two.0.few)
-
-pub loop-last-smaller : goal.loop-last-smaller
-loop-last-smaller c =
-    omega (arith, c.loop-last-test.true)
 
 pub loop-last-preserved : goal.loop-last-preserved
 loop-last-preserved c = (

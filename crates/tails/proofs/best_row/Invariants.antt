@@ -6,20 +6,16 @@ use mathlib.Core.Path.{◌≡◌}
 use Prim.Native.Nat.{suc, ◌-◌, ◌≤◌}
 use lib.ListN.{length, take}
 use Rattle.edits.specs.Total.{total}
-use Rattle.labels.specs.Columns.{columns}
 use Rattle.descent.specs.Order.{range, scan}
 use Rattle.loads.specs.Loads.{boxes_of}
 use Rattle.tail_candidates.specs.Candidate.{better}
 use Rattle.tails.specs.Best.{best_row}
+use Rattle.labels.specs.Lent.{lent}
 use Rattle.tails.proofs.best_row.Given as goal
 
 abbrev pub invariant-loop-last : goal.invariant-loop-last
 invariant-loop-last l =
-    let c = columns l.terms.l l.flags l.service l.ready l.due l.penalty l.distances l.times in
+    let c = lent l.columns in
     (l.last ≤ length l.other)
     × (l.head2 ≡ total (boxes_of l.demand) (take l.last l.other))
     × (scan (better c l.demand l.terms l.one l.other l.cut1) (range (suc l.last) (suc (length l.other))) l.found ≡ best_row c l.demand l.terms l.one l.other l.cut1 l.initial.found)
-
-abbrev pub decreases-loop-last : goal.decreases-loop-last
-decreases-loop-last l =
-    length l.other - l.last

@@ -2,15 +2,16 @@
 use mathlib.Core.Path.{◌≡◌}
 use Prim.Native.Nat.{◌+◌, ◌-◌, ◌*◌}
 use lib.ListN.{length}
-use Rattle.labels.specs.Columns.{columns, Visits}
+use Rattle.labels.specs.Columns.{Visits}
 use Rattle.three_opt.proofs.Places.{cuts_from}
 use Rattle.three_opt.proofs.Going.{Sweeping}
+use Rattle.labels.specs.Lent.{lent}
 use Rattle.three_opt.proofs.descend.Given as goal
 
 abbrev pub invariant-loop-place : goal.invariant-loop-place
 invariant-loop-place l =
-    Sweeping (columns l.setup.l l.flags l.service l.ready l.due l.penalty l.distances l.times) l.setup.limits l.setup.depot l.limit l.initial.list l.moves l.list l.place
-    × Visits l.setup.l l.list × (length l.list ≡ length l.initial.list) × (length l.buffer ≡ length l.initial.buffer)
+    Sweeping (lent l.columns) l.setup.limits l.setup.depot l.limit l.initial.list l.moves l.list l.place
+    × Visits l.columns.locations l.list × (length l.list ≡ length l.initial.list) × (length l.buffer ≡ length l.initial.buffer)
 
 abbrev pub decreases-loop-place : goal.decreases-loop-place
 decreases-loop-place l =

@@ -11,12 +11,12 @@ returns-then-list-lt4 c =
 
 pub is_symmetric-symmetric-requires : goal.is_symmetric-symmetric-requires
 is_symmetric-symmetric-requires c =
-    c.requires.formed.tables.of_distances
+    c.args.columns.now.formed.tables.of_distances
 
 pub descend-requires-clause-prepared : goal.descend-requires-clause-prepared
 descend-requires-clause-prepared c =
     record {
-      formed = c.requires.formed;
+      formed = c.args.columns.now.formed;
       depot_there = c.requires.depot_lt_l.0;
       floor = c.gain_floor-floor.ensures.answer ∙ ap gain_floor c.scale.ensures;
       marked = record { right = c.is_symmetric-symmetric.ensures; plain = c.requires.distances_value };

@@ -32,27 +32,27 @@ returns-in_default c =
 
 pub overflow_add-place : goal.overflow_add-place
 overflow_add-place c =
-    let turn = left-turned _ c.next_move-found.ensures c.in-At.is in
+    let turn = left-turned _ c.next_move-found.ensures c.in-Some.is in
     omega (arith, turn.there, c.loop-place.invariant.2.few)
 
 pub reverse-requires-clause-from_le_to : goal.reverse-requires-clause-from_le_to
 reverse-requires-clause-from_le_to c =
-    let turn = left-turned _ c.next_move-found.ensures c.in-At.is in
+    let turn = left-turned _ c.next_move-found.ensures c.in-Some.is in
     omega (arith, turn.ordered)
 
 pub reverse-requires-clause-to_in_bounds : goal.reverse-requires-clause-to_in_bounds
 reverse-requires-clause-to_in_bounds c =
-    let turn = left-turned _ c.next_move-found.ensures c.in-At.is in
+    let turn = left-turned _ c.next_move-found.ensures c.in-Some.is in
     omega (arith, turn.there, turn.same_length)
 
 pub returns-then-limit-moves : goal.returns-then-limit-moves
 returns-then-limit-moves c =
-    stops _ _ _ _ _ _ _ _ _ c.next_move-found.ensures c.loop-place.invariant.4 _ c.in-At.is c.if-limit-moves.true _
+    stops _ _ _ _ _ _ _ _ _ c.next_move-found.ensures c.loop-place.invariant.4 _ c.in-Some.is c.if-limit-moves.true _
     c.reverse.ensures
 
 pub place_after-ahead-requires : goal.place_after-ahead-requires
 place_after-ahead-requires c =
-    let turn = left-turned _ c.next_move-found.ensures c.in-At.is in
+    let turn = left-turned _ c.next_move-found.ensures c.in-Some.is in
     (turn.ordered, rw c.loop-place.invariant.0 turn.there)
 
 pub overflow_add-moves : goal.overflow_add-moves
@@ -65,10 +65,10 @@ loop-place-smaller c =
 
 pub loop-place-preserved : goal.loop-place-preserved
 loop-place-preserved c =
-    let turn = left-turned _ c.next_move-found.ensures c.in-At.is in (
+    let turn = left-turned _ c.next_move-found.ensures c.in-Some.is in (
       c.loop-place.invariant.0 ∙ sym turn.same_length,
       turn.same_length ∙ c.loop-place.invariant.1,
       rw turn.becomes (turned-visits _ _ _ turn.ordered c.loop-place.invariant.2),
       rw (c.place_after-ahead.ensures, c.loop-place.invariant.0, turn.same_length) (still_in _ _ turn.ordered turn.there),
-      rw (c.place_after-ahead.ensures, c.loop-place.invariant.0) (goes _ _ _ _ _ _ _ _ _ c.next_move-found.ensures c.loop-place.invariant.4 _ c.in-At.is c.if-limit-moves.false),
+      rw (c.place_after-ahead.ensures, c.loop-place.invariant.0) (goes _ _ _ _ _ _ _ _ _ c.next_move-found.ensures c.loop-place.invariant.4 _ c.in-Some.is c.if-limit-moves.false),
     )

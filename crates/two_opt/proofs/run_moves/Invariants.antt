@@ -3,15 +3,16 @@
 use Prim.Native.Nat.{◌-◌}
 use mathlib.Core.Path.{◌≡◌}
 use lib.ListN.{length}
-use Rattle.labels.specs.Columns.{columns, Visits}
+use Rattle.labels.specs.Columns.{Visits}
 use Rattle.reversals.specs.Reversals.{InSweep}
 use Rattle.two_opt.proofs.Going.{Turning}
+use Rattle.labels.specs.Lent.{lent}
 use Rattle.two_opt.proofs.run_moves.Given as goal
 
 abbrev pub invariant-loop-place : goal.invariant-loop-place
 invariant-loop-place l =
-    (l.n ≡ length l.list) × (length l.list ≡ length l.initial.list) × Visits l.terms.l l.list × InSweep (length l.list) l.ahead
-    × Turning (columns l.terms.l l.flags l.service l.ready l.due l.penalty l.distances l.times) l.terms l.limit l.initial.list l.moves l.list l.ahead
+    (l.n ≡ length l.list) × (length l.list ≡ length l.initial.list) × Visits l.columns.locations l.list × InSweep (length l.list) l.ahead
+    × Turning (lent l.columns) l.terms l.limit l.initial.list l.moves l.list l.ahead
 
 abbrev pub decreases-loop-place : goal.decreases-loop-place
 decreases-loop-place l =

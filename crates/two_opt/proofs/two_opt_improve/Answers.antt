@@ -5,12 +5,12 @@ use Rattle.two_opt.proofs.two_opt_improve.Goals as goal
 
 pub is_symmetric-symmetric-requires : goal.is_symmetric-symmetric-requires
 is_symmetric-symmetric-requires c =
-    c.requires.formed.tables.of_distances
+    c.args.columns.now.formed.tables.of_distances
 
 pub run_moves-requires : goal.run_moves-requires
 run_moves-requires c = (
   record {
-    formed = c.requires.formed;
+    formed = c.args.columns.now.formed;
     depot_there = c.requires.depot_lt_l.0;
     plain = c.requires.distances_value;
     floor = rw (c.gain_floor-floor.ensures.answer, c.scale.ensures);

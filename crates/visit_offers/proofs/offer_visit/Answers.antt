@@ -8,16 +8,12 @@ pub offset_bounds-giver-position : goal.offset_bounds-giver-position
 offset_bounds-giver-position c =
     omega (arith, c.requires.visits.1, c.requires.visits.0.few)
 
-pub bounds-giver-position : goal.bounds-giver-position
-bounds-giver-position c =
-    c.requires.visits.1
-
 pub overflow_mul-cell : goal.overflow_mul-cell
 overflow_mul-cell c =
     let below = c.requires.visits.0.below _ c.requires.visits.1 in
     omega (
       arith,
-      c.wide-visit.ensures,
+      c.from-visit.ensures,
       below,
       c.requires.prepared.formed.tables.of_distances.few,
       c.requires.figures_len.0,
@@ -30,7 +26,7 @@ overflow_add-cell c =
     let below = c.requires.visits.0.below _ c.requires.visits.1 in
     omega (
       arith,
-      c.wide-visit.ensures,
+      c.from-visit.ensures,
       below,
       c.requires.prepared.formed.tables.of_distances.few,
       c.requires.figures_len.0,
@@ -43,7 +39,7 @@ offset_bounds-figures-cell c =
     let below = c.requires.visits.0.below _ c.requires.visits.1 in
     omega (
       arith,
-      c.wide-visit.ensures,
+      c.from-visit.ensures,
       below,
       c.requires.prepared.formed.tables.of_distances.few,
       c.requires.figures_len.0,
@@ -56,7 +52,7 @@ bounds-figures-cell c =
     let below = c.requires.visits.0.below _ c.requires.visits.1 in
     omega (
       arith,
-      c.wide-visit.ensures,
+      c.from-visit.ensures,
       below,
       c.requires.prepared.formed.tables.of_distances.few,
       c.requires.figures_len.0,
@@ -69,7 +65,7 @@ offset_bounds-places-cell c =
     let below = c.requires.visits.0.below _ c.requires.visits.1 in
     omega (
       arith,
-      c.wide-visit.ensures,
+      c.from-visit.ensures,
       below,
       c.requires.prepared.formed.tables.of_distances.few,
       c.requires.figures_len.0,
@@ -82,7 +78,7 @@ bounds-places-cell c =
     let below = c.requires.visits.0.below _ c.requires.visits.1 in
     omega (
       arith,
-      c.wide-visit.ensures,
+      c.from-visit.ensures,
       below,
       c.requires.prepared.formed.tables.of_distances.few,
       c.requires.figures_len.0,
@@ -90,28 +86,12 @@ bounds-places-cell c =
       c.requires.figures_len.2,
     )
 
-pub try_visit-tried-requires-clause-prepared : goal.try_visit-tried-requires-clause-prepared
-try_visit-tried-requires-clause-prepared c =
-    c.requires.prepared
-
-pub try_visit-tried-requires-clause-loaded : goal.try_visit-tried-requires-clause-loaded
-try_visit-tried-requires-clause-loaded c =
-    c.requires.loaded
-
-pub try_visit-tried-requires-clause-visits : goal.try_visit-tried-requires-clause-visits
-try_visit-tried-requires-clause-visits c =
-    c.requires.visits
-
-pub try_visit-tried-requires-clause-visits_2 : goal.try_visit-tried-requires-clause-visits_2
-try_visit-tried-requires-clause-visits_2 c =
-    c.requires.visits_2
-
 pub offset_bounds-figures-cell-2 : goal.offset_bounds-figures-cell-2
 offset_bounds-figures-cell-2 c =
     let below = c.requires.visits.0.below _ c.requires.visits.1 in
     omega (
       arith,
-      c.wide-visit.ensures,
+      c.from-visit.ensures,
       below,
       c.requires.prepared.formed.tables.of_distances.few,
       c.requires.figures_len.0,
@@ -124,7 +104,7 @@ bounds-figures-cell-2 c =
     let below = c.requires.visits.0.below _ c.requires.visits.1 in
     omega (
       arith,
-      c.wide-visit.ensures,
+      c.from-visit.ensures,
       below,
       c.requires.prepared.formed.tables.of_distances.few,
       c.requires.figures_len.0,
@@ -137,7 +117,7 @@ offset_bounds-places-cell-2 c =
     let below = c.requires.visits.0.below _ c.requires.visits.1 in
     omega (
       arith,
-      c.wide-visit.ensures,
+      c.from-visit.ensures,
       below,
       c.requires.prepared.formed.tables.of_distances.few,
       c.requires.figures_len.0,
@@ -150,7 +130,7 @@ bounds-places-cell-2 c =
     let below = c.requires.visits.0.below _ c.requires.visits.1 in
     omega (
       arith,
-      c.wide-visit.ensures,
+      c.from-visit.ensures,
       below,
       c.requires.prepared.formed.tables.of_distances.few,
       c.requires.figures_len.0,
@@ -161,4 +141,4 @@ bounds-places-cell-2 c =
 pub returns : goal.returns
 returns c =
     stored_as (tried _ _ c.args.setup _ _ _ _ _ _ _ _) c.args.figures.now c.args.places.now _ _ c.args.to _
-    c.wide-visit.ensures c.try_visit-tried.ensures
+    c.from-visit.ensures c.try_visit-tried.ensures

@@ -7,19 +7,15 @@ pub offset_bounds-giver-position : goal.offset_bounds-giver-position
 offset_bounds-giver-position c =
     omega (arith, c.requires.visits.1, c.requires.visits.0.few)
 
-pub bounds-giver-position : goal.bounds-giver-position
-bounds-giver-position c =
-    c.requires.visits.1
-
 pub boxes_of-requires-clause-visit_in_bounds : goal.boxes_of-requires-clause-visit_in_bounds
 boxes_of-requires-clause-visit_in_bounds c =
     let below = c.requires.visits.0.below _ c.requires.visits.1 in
-    omega (arith, c.wide.ensures, below, c.requires.loaded.0.column)
+    omega (arith, c.from.ensures, below, c.requires.loaded.0.column)
 
 pub boxes_of-requires-clause-pos_value : goal.boxes_of-requires-clause-pos_value
 boxes_of-requires-clause-pos_value c =
     let below = c.requires.visits.0.below _ c.requires.visits.1 in
-    rw c.wide.ensures (c.requires.loaded.0.in_range _ below)
+    rw c.from.ensures (c.requires.loaded.0.in_range _ below)
 
 pub overflow_add-load : goal.overflow_add-load
 overflow_add-load c =
@@ -27,7 +23,7 @@ overflow_add-load c =
 
 pub returns-then-load-boxes_of : goal.returns-then-load-boxes_of
 returns-then-load-boxes_of c =
-    tried_full _ _ c.args.setup _ _ _ _ _ _ _ _ _ _ _ c.wide.ensures c.boxes_of.ensures.0 c.if-load-boxes_of.true
+    tried_full _ _ c.args.setup _ _ _ _ _ _ _ _ _ _ _ c.from.ensures c.boxes_of.ensures.0 c.if-load-boxes_of.true
 
 pub removal_delta-removal-requires : goal.removal_delta-removal-requires
 removal_delta-removal-requires c = (
@@ -38,16 +34,8 @@ removal_delta-removal-requires c = (
 
 pub returns-then-is_ruled_out : goal.returns-then-is_ruled_out
 returns-then-is_ruled_out c =
-    tried_ruled _ _ c.args.setup _ _ _ _ _ _ _ _ _ _ _ c.wide.ensures c.boxes_of.ensures.0 c.if-load-boxes_of.false _ _
+    tried_ruled _ _ c.args.setup _ _ _ _ _ _ _ _ _ _ _ c.from.ensures c.boxes_of.ensures.0 c.if-load-boxes_of.false _ _
     c.removal_delta-removal.ensures c.is_ruled_out.ensures c.if-is_ruled_out.true
-
-pub best_place-requires-clause-prepared : goal.best_place-requires-clause-prepared
-best_place-requires-clause-prepared c =
-    c.requires.prepared
-
-pub best_place-requires-clause-in_bounds : goal.best_place-requires-clause-in_bounds
-best_place-requires-clause-in_bounds c =
-    c.requires.loaded.1
 
 pub best_place-requires-clause-visits : goal.best_place-requires-clause-visits
 best_place-requires-clause-visits c =
@@ -55,6 +43,6 @@ best_place-requires-clause-visits c =
 
 pub returns : goal.returns
 returns c =
-    tried_places _ _ c.args.setup _ _ _ _ _ _ _ _ _ _ _ c.wide.ensures c.boxes_of.ensures.0 c.if-load-boxes_of.false _ _
+    tried_places _ _ c.args.setup _ _ _ _ _ _ _ _ _ _ _ c.from.ensures c.boxes_of.ensures.0 c.if-load-boxes_of.false _ _
     c.removal_delta-removal.ensures c.is_ruled_out.ensures c.if-is_ruled_out.false _ c.best_place.ensures.best_value
     c.best_place.ensures.least_value

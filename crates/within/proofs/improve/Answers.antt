@@ -2,22 +2,14 @@
 use Rattle.within.specs.Within.{ran_by}
 use Rattle.within.proofs.improve.Goals as goal
 
-pub improve-requires-clause-formed : goal.improve-requires-clause-formed
-improve-requires-clause-formed c =
-    c.requires.formed
-
-pub improve-requires-clause-depot_lt_l : goal.improve-requires-clause-depot_lt_l
-improve-requires-clause-depot_lt_l c =
+pub improve-requires : goal.improve-requires
+improve-requires c =
     c.requires.depot_lt_l
 
 pub returns-then-has_soft_windows : goal.returns-then-has_soft_windows
 unfolding ran_by
 returns-then-has_soft_windows c =
     rw (← c.has_soft_windows.ensures, c.if-has_soft_windows.true) c.improve.ensures
-
-pub improve_hard-requires-clause-formed : goal.improve_hard-requires-clause-formed
-improve_hard-requires-clause-formed c =
-    c.requires.formed
 
 pub improve_hard-requires-clause-depot_lt_l : goal.improve_hard-requires-clause-depot_lt_l
 improve_hard-requires-clause-depot_lt_l c =

@@ -2,10 +2,6 @@
 use Rattle.within.specs.Within.{hard_ran}
 use Rattle.within.proofs.improve_hard.Goals as goal
 
-pub two_opt_improve-requires-clause-formed : goal.two_opt_improve-requires-clause-formed
-two_opt_improve-requires-clause-formed c =
-    c.requires.formed
-
 pub two_opt_improve-requires-clause-depot_lt_l : goal.two_opt_improve-requires-clause-depot_lt_l
 two_opt_improve-requires-clause-depot_lt_l c =
     c.requires.depot_lt_l
@@ -14,17 +10,9 @@ pub two_opt_improve-requires-clause-distances_value : goal.two_opt_improve-requi
 two_opt_improve-requires-clause-distances_value c =
     c.requires.distances_value
 
-pub or_opt_improve-requires-clause-formed : goal.or_opt_improve-requires-clause-formed
-or_opt_improve-requires-clause-formed c =
-    c.requires.formed
-
-pub or_opt_improve-requires-clause-depot_lt_l : goal.or_opt_improve-requires-clause-depot_lt_l
-or_opt_improve-requires-clause-depot_lt_l c =
+pub or_opt_improve-requires : goal.or_opt_improve-requires
+or_opt_improve-requires c =
     c.requires.depot_lt_l
-
-pub three_opt_improve-requires-clause-formed : goal.three_opt_improve-requires-clause-formed
-three_opt_improve-requires-clause-formed c =
-    c.requires.formed
 
 pub three_opt_improve-requires-clause-depot_lt_l : goal.three_opt_improve-requires-clause-depot_lt_l
 three_opt_improve-requires-clause-depot_lt_l c =

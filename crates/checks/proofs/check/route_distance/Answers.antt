@@ -1,27 +1,32 @@
 -- `route_distance`: an input that is not refused has its list in the table and its tables in shape.
-use mathlib.Core.Path.{sym, ◌∙◌}
-use Rattle.refusals.specs.Answered.{refused_by, answered}
-use Rattle.checks.specs.Answer.{distance_answer}
+use Rattle.std.specs.Prelude.{Ok}
+use Rattle.std.proofs.Common.{refl, sym, ap, ◌∙◌}
+use Rattle.day.specs.Day.{Day}
+use Rattle.lists.specs.Table.{list_of}
+use Rattle.evaluation.specs.Distance.{route_distance}
+use Rattle.refusals.specs.Answered.{handed_on, answered}
 use Rattle.refusals.proofs.NotRefused.{listed, drivable}
+use Rattle.checks.specs.Answer.{distance_answer}
 use Rattle.checks.proofs.check.route_distance.Goals as goal
 
-pub returns-then-refused-ne0 : goal.returns-then-refused-ne0
+pub returns-in_err-refusal_of : goal.returns-in_err-refusal_of
 unfolding distance_answer
-returns-then-refused-ne0 c =
-    record { answer = refused_by _ _ c.refusal_of-refused.result _ c.if-refused-ne0.true c.refusal_of-refused.ensures.answer }
+returns-in_err-refusal_of c =
+    record { answer = handed_on _ _ _ _ c.from_residual.ensures.1 c.in_err-refusal_of.ensures.answer }
 
 pub list_of-requires : goal.list_of-requires
 list_of-requires c =
-    listed _ _ _ _ _ (sym c.refusal_of-refused.ensures.answer ∙ c.if-refused-ne0.false)
+    listed _ _ _ _ _ (sym c.in_ok-refusal_of.ensures.answer)
 
-pub route_distance-requires : goal.route_distance-requires
-route_distance-requires c =
-    drivable _ _ _ _ _ (sym c.refusal_of-refused.ensures.answer ∙ c.if-refused-ne0.false) _ c.list_of.ensures
+pub route_distance-distance-requires : goal.route_distance-distance-requires
+route_distance-distance-requires c =
+    rw (ap (λ (d : Day). d.l) c.day.view_is, ap (λ (d : Day). d.distances) c.day.view_is)
+    (drivable _ _ _ _ _ (sym c.in_ok-refusal_of.ensures.answer) _ c.list_of.ensures)
 
 pub returns : goal.returns
 unfolding distance_answer
 returns c =
+    let of_day = ap (λ (d : Day). route_distance d.l d.distances c.args.van.depot (list_of c.args.visits.now c.args.lengths.now c.args.list)) c.day.view_is in
     record {
-      answer = answered _ _ c.refusal_of-refused.result _ _ c.if-refused-ne0.false c.refusal_of-refused.ensures.answer
-          (rw (c.route_distance.ensures, c.list_of.ensures));
+      answer = answered _ _ 0 _ _ refl c.in_ok-refusal_of.ensures.answer (ap Ok (rw c.list_of.ensures at c.route_distance-distance.ensures ∙ of_day));
     }

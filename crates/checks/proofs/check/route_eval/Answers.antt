@@ -1,32 +1,33 @@
 -- `route_eval`: an input that is not refused has its list in the table and its columns in shape.
-use mathlib.Core.Path.{sym, ◌∙◌}
-use Rattle.refusals.specs.Answered.{refused_by, answered}
+use Rattle.std.specs.Prelude.{Ok}
+use Rattle.std.proofs.Common.{refl, sym, ap}
+use Rattle.labels.specs.Columns.{Columns}
+use Rattle.refusals.specs.Answered.{handed_on, answered}
+use Rattle.refusals.proofs.NotRefused.{listed, shaped_day, checkable}
 use Rattle.checks.specs.Answer.{eval_answer}
-use Rattle.refusals.proofs.NotRefused.{listed, checkable}
 use Rattle.checks.proofs.check.route_eval.Goals as goal
 
-pub returns-then-refused-ne0 : goal.returns-then-refused-ne0
+pub returns-in_err-refusal_of : goal.returns-in_err-refusal_of
 unfolding eval_answer
-returns-then-refused-ne0 c =
-    record { answer = refused_by _ _ c.refusal_of-refused.result _ c.if-refused-ne0.true c.refusal_of-refused.ensures.answer }
+returns-in_err-refusal_of c =
+    record { answer = handed_on _ _ _ _ c.from_residual.ensures.1 c.in_err-refusal_of.ensures.answer }
 
 pub list_of-visited-requires : goal.list_of-visited-requires
 list_of-visited-requires c =
-    listed _ _ _ _ _ (sym c.refusal_of-refused.ensures.answer ∙ c.if-refused-ne0.false)
+    listed _ _ _ _ _ (sym c.in_ok-refusal_of.ensures.answer)
 
-pub route_eval-requires-clause-formed : goal.route_eval-requires-clause-formed
-route_eval-requires-clause-formed c =
-    (checkable _ _ _ _ _ (sym c.refusal_of-refused.ensures.answer ∙ c.if-refused-ne0.false) _ c.list_of-visited.ensures).0
+pub of-columns-requires : goal.of-columns-requires
+of-columns-requires c =
+    record { shaped = shaped_day _ _ _ _ _ (sym c.in_ok-refusal_of.ensures.answer) }
 
-pub route_eval-requires-clause-depot_lt_l : goal.route_eval-requires-clause-depot_lt_l
-route_eval-requires-clause-depot_lt_l c =
-    (checkable _ _ _ _ _ (sym c.refusal_of-refused.ensures.answer ∙ c.if-refused-ne0.false) _ c.list_of-visited.ensures).1
+pub route_eval-evaluation-requires : goal.route_eval-evaluation-requires
+route_eval-evaluation-requires c =
+    rw (ap (λ (k : Columns). k.l) c.of-columns.ensures) (checkable _ _ _ _ _ (sym c.in_ok-refusal_of.ensures.answer) _ c.list_of-visited.ensures).1
 
 pub returns : goal.returns
 unfolding eval_answer
 returns c =
     record {
-      answer = answered _ _ c.refusal_of-refused.result _ _ c.if-refused-ne0.false
-          c.refusal_of-refused.ensures.answer (rw
-          (c.evaluated_as.ensures, c.route_eval.ensures, c.list_of-visited.ensures, c.of-limits.ensures));
+      answer = answered _ _ 0 _ _ refl c.in_ok-refusal_of.ensures.answer
+          (ap Ok (rw (c.of-columns.ensures, c.list_of-visited.ensures, c.of.ensures) at c.route_eval-evaluation.ensures));
     }

@@ -1,13 +1,8 @@
 -- `prefix_loads`: before each visit the table holds the loads up to it, and no running sum can wrap.
-use Prim.Native.Nat.{◌-◌}
 use native.Mathlib.Omega.{arith}
 use Rattle.loads.proofs.Boxes.{sum_small}
 use Rattle.cross_kinds.proofs.Fitting.{filling_starts, filling_turns, filling_ends}
 use Rattle.cross_kinds.proofs.load.prefix_loads.Goals as goal
-
-pub bounds-loads-0 : goal.bounds-loads-0
-bounds-loads-0 c =
-    omega (arith, c.requires.2)
 
 pub loop-k-init : goal.loop-k-init
 loop-k-init c =
@@ -22,22 +17,6 @@ overflow_add-load c =
     let small = sum_small _ _ _ c.requires.0 c.requires.1.below c.requires.1.few _ _ _ c.loop-k-test.true
     c.loop-k.invariant.is_load c.boxes_at-load.ensures in
     omega (arith, small.0, small.1)
-
-pub overflow_add-k : goal.overflow_add-k
-overflow_add-k c =
-    omega (arith, c.loop-k-test.true, c.requires.1.few)
-
-pub offset_bounds-loads-k : goal.offset_bounds-loads-k
-offset_bounds-loads-k c =
-    omega (arith, c.loop-k-test.true, c.requires.1.few)
-
-pub bounds-loads-k : goal.bounds-loads-k
-bounds-loads-k c =
-    omega (arith, c.loop-k-test.true, c.loop-k.invariant.same_length, c.requires.1.few)
-
-pub loop-k-smaller : goal.loop-k-smaller
-loop-k-smaller c =
-    omega (arith, c.loop-k-test.true)
 
 pub loop-k-preserved : goal.loop-k-preserved
 loop-k-preserved c =

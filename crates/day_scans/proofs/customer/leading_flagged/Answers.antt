@@ -1,28 +1,16 @@
--- `leading_flagged`: the flags passed all count, and the count of the rest is still to come.
-use borrow.Author.Rules.{rules}
-use native.Mathlib.Omega.{arith}
-use Rattle.tests.specs.All.{no, yes}
-use Rattle.day.specs.Customer.{count_stops, count_grows, count_ends}
-use mathlib.Core.Path.{ap}
-use mathlib.Core.Bool.{not}
+-- `leading_flagged`: the chain counts the flags before the first that isn't set.
+use Rattle.std.proofs.Common.{rules, tests, ◌∙◌}
+use Rattle.std.proofs.lemmas.Iterator.{YieldsList-from_slice}
+use Rattle.std.proofs.lemmas.Iterator.Search.{YieldsList-from_take_while}
+use Rattle.std.proofs.lemmas.Iterator.Consumers.{count_from_yields_List}
+use Rattle.std.proofs.lemmas.List.Folds.{length-prefix_len}
+use Rattle.day.specs.Day.{bit0}
+use Rattle.day_scans.proofs.Flags.{prefix_is_leading}
 use Rattle.day_scans.proofs.customer.leading_flagged.Goals as goal
-
-pub loop-count-init : goal.loop-count-init
-loop-count-init c =
-    (search rules, omega arith)
-
-pub returns-then-not-flag0 : goal.returns-then-not-flag0
-returns-then-not-flag0 c =
-    count_stops _ _ c.loop-count.invariant.1 c.loop-count-test.true (no _ _
-    c.flag0.ensures (ap not c.if-not-flag0.true))
-
-pub loop-count-preserved : goal.loop-count-preserved
-loop-count-preserved c = (
-  search rules,
-  count_grows _ _ c.loop-count.invariant.1 c.loop-count-test.true (yes _ _
-      c.flag0.ensures (ap not c.if-not-flag0.false)),
-)
 
 pub returns : goal.returns
 returns c =
-    count_ends _ _ c.loop-count.invariant.1 c.loop-count-test.false
+    count_from_yields_List c.take_while.result _ c.count.ensures.ran
+    (YieldsList-from_take_while _ bit0 (YieldsList-from_slice c.args.flags.now cc) c.take_while.ensures.closure c.take_while.ensures.done
+    (λ x b q k. search (rules, tests)))
+    ∙ length-prefix_len bit0 c.args.flags.now ∙ prefix_is_leading c.args.flags.now

@@ -11,10 +11,6 @@ pub loop-from-init : goal.loop-from-init
 loop-from-init c =
     (search rules, all_none _)
 
-pub row_mirrored-requires : goal.row_mirrored-requires
-row_mirrored-requires c =
-    (c.requires, c.loop-from-test.true)
-
 pub returns-then-not-row_mirrored : goal.returns-then-not-row_mirrored
 unfolding symmetric
 returns-then-not-row_mirrored c =

@@ -1,5 +1,5 @@
 -- `is_symmetric`: the rows passed are mirrored.
-use Prim.Native.Nat.{◌-◌, ◌≤◌}
+use Prim.Native.Nat.{◌≤◌}
 use mathlib.Core.Path.{◌≡◌}
 use mathlib.Core.Bool.{true}
 use Rattle.tests.specs.All.{all_below}
@@ -9,7 +9,3 @@ use Rattle.day_scans.proofs.matrix.is_symmetric.Given as goal
 abbrev pub invariant-loop-from : goal.invariant-loop-from
 invariant-loop-from l =
     (l.from ≤ l.l) × (all_below (mirrored l.l l.distances) l.from ≡ true)
-
-abbrev pub decreases-loop-from : goal.decreases-loop-from
-decreases-loop-from l =
-    l.l - l.from

@@ -5,20 +5,11 @@ use lib.Ieee.{ne}
 use Rattle.tests.specs.All.{all_none, all_more, all_fails, all_end}
 use Rattle.day.specs.Matrix.{mirrored}
 use borrow.Author.Tests.{not-true, not-false}
-use native.Mathlib.Omega.{arith}
 use Rattle.day_scans.proofs.matrix.row_mirrored.Goals as goal
 
 pub loop-to-init : goal.loop-to-init
 loop-to-init c =
     (search rules, all_none _)
-
-pub get-requires : goal.get-requires
-get-requires c =
-    (c.requires.0, c.requires.1, omega arith)
-
-pub get-requires-in-loop-to : goal.get-requires-in-loop-to
-get-requires-in-loop-to c =
-    (c.requires.0, omega arith, c.requires.1)
 
 pub returns-then-get : goal.returns-then-get
 unfolding mirrored ne

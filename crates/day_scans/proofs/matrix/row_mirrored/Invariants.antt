@@ -1,5 +1,5 @@
 -- `row_mirrored`: the entries passed equal their mirrors.
-use Prim.Native.Nat.{◌-◌, ◌≤◌}
+use Prim.Native.Nat.{◌≤◌}
 use mathlib.Core.Path.{◌≡◌}
 use mathlib.Core.Bool.{true}
 use lib.Ieee.{eq}
@@ -10,7 +10,3 @@ use Rattle.day_scans.proofs.matrix.row_mirrored.Given as goal
 abbrev pub invariant-loop-to : goal.invariant-loop-to
 invariant-loop-to l =
     (l.to ≤ l.from) × (all_below (λ k. eq (leg l.l l.distances l.from k) (leg l.l l.distances k l.from)) l.to ≡ true)
-
-abbrev pub decreases-loop-to : goal.decreases-loop-to
-decreases-loop-to l =
-    l.from - l.to

@@ -1,17 +1,8 @@
 -- `scale`: the largest so far and the rest of the table make the largest of all, also where entries are passed over.
 use mathlib.Core.Path.{sym, ◌∙◌}
-use native.Mathlib.Omega.{arith}
 use lib.Ieee.{of_bits}
 use Rattle.day.specs.Matrix.{scale_of, largest_turn, largest_end}
 use Rattle.day_scans.proofs.matrix.scale.Goals as goal
-
-pub loop-i-init : goal.loop-i-init
-loop-i-init c =
-    (c.next_larger-i.ensures.lower_bound.1, c.next_larger-i.ensures.distances_value)
-
-pub loop-i-smaller : goal.loop-i-smaller
-loop-i-smaller c =
-    omega (arith, c.next_larger-i-in-loop-i.ensures.lower_bound.0, c.next_larger-i-in-loop-i.ensures.lower_bound.1, c.loop-i-test.true)
 
 pub loop-i-preserved : goal.loop-i-preserved
 loop-i-preserved c =

@@ -1,15 +1,15 @@
 -- `clocked_feasible`: one arm for each case of the break; the limits are asked of the clock's end.
 use mathlib.Core.Path.{ap, ◌∙◌}
-use Rattle.day.specs.declared.vehicle.Rest.TheVariants.{NoBreak}
+use Rattle.std.specs.Prelude.{None}
 use Rattle.evaluation.specs.Route.{outcome, allowed, feasible, feasible_by}
 use Rattle.evaluation.proofs.clocked.clocked_feasible.Goals as goal
 
-pub returns-in-NoBreak : goal.returns-in-NoBreak
+pub returns-in-None : goal.returns-in-None
 unfolding outcome
-returns-in-NoBreak c =
-    c.unbroken_feasible.ensures ∙ feasible_by _ _ _ _ NoBreak c.in-NoBreak.is
+returns-in-None c =
+    c.unbroken_feasible.ensures ∙ feasible_by _ _ _ _ None c.in-None.is
 
-pub returns-in-Break : goal.returns-in-Break
+pub returns-in-Some : goal.returns-in-Some
 unfolding feasible
-returns-in-Break c =
+returns-in-Some c =
     c.is_allowed.ensures ∙ ap (allowed _) c.outcome_of-outcome.ensures

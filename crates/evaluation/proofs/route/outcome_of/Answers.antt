@@ -2,12 +2,12 @@
 use Rattle.evaluation.specs.Route.{outcome}
 use Rattle.evaluation.proofs.route.outcome_of.Goals as goal
 
-pub returns-in-NoBreak : goal.returns-in-NoBreak
+pub returns-in-None : goal.returns-in-None
 unfolding outcome
-returns-in-NoBreak c =
-    rw c.in-NoBreak.is c.unbroken_schedule.ensures
+returns-in-None c =
+    rw c.in-None.is c.unbroken_schedule.ensures
 
-pub returns-in-Break : goal.returns-in-Break
+pub returns-in-Some : goal.returns-in-Some
 unfolding outcome
-returns-in-Break c =
-    rw c.in-Break.is c.schedule.ensures
+returns-in-Some c =
+    rw c.in-Some.is c.schedule.ensures

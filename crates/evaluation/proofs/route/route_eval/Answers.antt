@@ -1,15 +1,15 @@
 -- `route_eval`: one arm for each case of the break; the clock's end is evaluated.
 use mathlib.Core.Path.{ap, ◌∙◌}
-use Rattle.day.specs.declared.vehicle.Rest.TheVariants.{NoBreak}
+use Rattle.std.specs.Prelude.{None}
 use Rattle.evaluation.specs.Route.{outcome, evaluated, eval, eval_by}
 use Rattle.evaluation.proofs.route.route_eval.Goals as goal
 
-pub returns-in-NoBreak : goal.returns-in-NoBreak
+pub returns-in-None : goal.returns-in-None
 unfolding outcome
-returns-in-NoBreak c =
-    c.unbroken_eval.ensures ∙ eval_by _ _ _ _ NoBreak c.in-NoBreak.is
+returns-in-None c =
+    c.unbroken_eval.ensures ∙ eval_by _ _ _ _ None c.in-None.is
 
-pub returns-in-Break : goal.returns-in-Break
+pub returns-in-Some : goal.returns-in-Some
 unfolding eval
-returns-in-Break c =
+returns-in-Some c =
     c.evaluate.ensures ∙ ap (evaluated _) c.outcome_of-outcome.ensures

@@ -1,15 +1,11 @@
 -- `unclocked_distance`: what is driven and the rest of the list make the whole distance; a visit with a window ends it.
-use Prim.Native.Nat.{◌-◌, ◌≤◌, ◌<◌}
+use Prim.Native.Nat.{◌≤◌, ◌<◌}
 use mathlib.Core.Path.{◌≡◌}
 use lib.ListN.{length, drop}
 use Rattle.evaluation.specs.Unclocked.{onward_unclocked, unclocked}
 use Rattle.evaluation.proofs.unclocked.unclocked_distance.Given as goal
 
-abbrev pub invariant-loop-i : goal.invariant-loop-i
-invariant-loop-i l =
-    (l.i ≤ length l.list) × (l.place < l.l)
-    × (onward_unclocked l.l l.flags l.distances l.depot (drop l.i l.list) l.distance l.place ≡ unclocked l.l l.flags l.distances l.depot l.list)
-
-abbrev pub decreases-loop-i : goal.decreases-loop-i
-decreases-loop-i l =
-    length l.list - l.i
+abbrev pub invariant-loop-visit : goal.invariant-loop-visit
+invariant-loop-visit l =
+    (l.visit-index ≤ length l.list) × (l.place < l.l)
+    × (onward_unclocked l.l l.flags l.distances l.depot (drop l.visit-index l.list) l.distance l.place ≡ unclocked l.l l.flags l.distances l.depot l.list)

@@ -1,6 +1,0 @@
--- `planner_two_opt_improve`: the entry's outcome, and its answer written out.
-use Rattle.planner_c.proofs.improve.planner_two_opt_improve.Goals as goal
-
-pub returns : goal.returns
-returns c =
-    rw (← c.two_opt_improve-answer.ensures.answer.0) (c.write_improved.ensures.0, c.write_improved.ensures.1, c.write_improved.ensures.2, c.write_improved.ensures.3, c.two_opt_improve-answer.ensures.answer.1, c.two_opt_improve-answer.ensures.answer.2, c.two_opt_improve-answer.ensures.answer.3)

@@ -1,9 +1,0 @@
--- `replay::score::of_runs` is safe and ends: the runs left fall.
-use Rattle.std.proofs.Common.{◌-◌}
-use Rattle.replay.proofs.score.of_runs.Given as goal
-
-abbrev pub invariant-loop-i : goal.invariant-loop-i
-invariant-loop-i l = Unit
-
-abbrev pub decreases-loop-i : goal.decreases-loop-i
-decreases-loop-i l = l.count - l.i
