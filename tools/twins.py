@@ -211,18 +211,21 @@ def types_in(path, where):
     return found
 
 
+def blocks_after(word, raw):
+    """Each block that a keyword leads: where the keyword stands, and the block's braces."""
+    toks = [(None, t, None) for t in raw]
+    for i, t in enumerate(raw):
+        if t == word:
+            j = raw.index('{', i)
+            yield i, j, closing(toks, j)
+
+
 def loop_kind(f):
     """The kind of each counting loop `while i < n { .. i += k; }` of a function."""
     raw = [t for _, t, _ in f.body]
     kinds = []
-    for i, t in enumerate(raw):
-        if t != 'while':
-            continue
-        j = i
-        while raw[j] != '{':
-            j += 1
+    for i, j, end in blocks_after('while', raw):
         head = raw[i + 1:j]
-        end = closing([(None, x, None) for x in raw], j)
         inside, after = raw[j + 1:end], raw[end + 1:end + 3]
         text = ' '.join(inside)
         tail = ' '.join(raw[end + 1:])
@@ -274,13 +277,7 @@ def switches_in(f):
     raw = [t for _, t, _ in f.body]
     toks = [(None, t, None) for t in raw]
     found = []
-    for i, t in enumerate(raw):
-        if t != 'match':
-            continue
-        j = i
-        while raw[j] != '{':
-            j += 1
-        end = closing(toks, j)
+    for i, j, end in blocks_after('match', raw):
         called, k = [], j + 1
         while k < end:
             if raw[k] == '=>':
