@@ -4,12 +4,10 @@
 #![tactic(auto)]
 
 ghost use Rattle.std.specs.Prelude.{◌≡◌, ◌<◌};
-ghost use Rattle.day.specs.Matrix.{Tables, travel};
 ghost use Rattle.labels.specs.Columns.{Visits};
 ghost use Rattle.labels.specs.Lent.{lent};
 ghost use Rattle.break_clock.specs.Schedule.{begun, pushed, any_left_of, ended, end_of, finished, scheduled};
 
-use day::matrix::travel_time;
 use day::vehicle::VehicleBreak;
 use labels::columns::Columns;
 use labels::label::{Label, Taken, at_start, earlier, serve_next, serve_next_rested};
@@ -113,25 +111,14 @@ impl BreakClock {
         self.before.is_some() || self.after.is_some()
     }
 
-    // The list of this distance, ended by the return to the depot. The break is left out where the van is back by its earliest.
+    // The list of this distance, ended by the return to the depot, whose travel time is `back`. The break is left out where the van is back by its earliest.
     #[tactic(auto, unfolding(crate::specs::Schedule::finished, crate::specs::Schedule::end_before))]
-    pub fn finish(
-        self,
-        l: usize,
-        distances: &[f64],
-        times: &[f64],
-        distance: f64,
-        depot: usize,
-    ) -> Option<Scheduled>
-        requires tables { Tables l distances.now times.now }
-        requires prev_lt_l { (self.prev < l) × (depot < l) }
-        ensures { result ≡ finished self distance (travel l distances.now times.now self.prev depot) }
+    pub fn finish(self, distance: f64, back: f64) -> Option<Scheduled>
+        ensures { result ≡ finished self distance back }
     {
         let rest = self.rest;
         let before = self.before;
         let after = self.after;
-        let prev = self.prev;
-        let back = travel_time(l, distances, times, prev, depot);
         if let Some(label) = before {
             if label.time + back <= rest.earliest {
                 return end_with(label, None, distance, back);
@@ -156,7 +143,7 @@ pub fn schedule(
     let mut distance = 0.0;
     let mut place = depot;
     for visit in list {
-        let visit = *visit as usize;
+        let visit = usize::from(*visit);
         distance = distance + columns.distance(place, visit);
         clock = clock.push(columns, visit);
         if !clock.any_left() {
@@ -165,11 +152,6 @@ pub fn schedule(
         place = visit;
     }
     distance = distance + columns.distance(place, depot);
-    clock.finish(
-        columns.locations,
-        columns.distances,
-        columns.times,
-        distance,
-        depot,
-    )
+    let back = columns.travel_time(clock.prev, depot);
+    clock.finish(distance, back)
 }

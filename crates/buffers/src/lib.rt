@@ -11,9 +11,11 @@ pub fn append(buffer: &mut [u16], count: usize, part: &[u16]) -> usize
     requires { count + length part.now ≤ length buffer.old }
     ensures { Appended count part.now buffer.old result buffer.new }
 {
-    let end = count + part.len();
-    buffer[count..end].copy_from_slice(part);
-    end
+    // A loop: `copy_from_slice` would want memmove from outside, where the library wants memcpy and memset alone.
+    for i in 0..part.len() {
+        buffer[count + i] = part[i];
+    }
+    count + part.len()
 }
 
 // Appends `part` in the opposite order.

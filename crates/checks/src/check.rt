@@ -4,6 +4,7 @@ ghost use Rattle.checks.specs.Answer.{distance_answer, feasible_answer, eval_ans
 
 use break_clock::Scheduled;
 use day::day::Day;
+use day::matrix::Matrix;
 use day::refusal::Refusal;
 use day::vehicle::{RouteLimits, Van};
 use evaluation::route::RouteEval;
@@ -22,9 +23,12 @@ pub fn route_distance(
     ensures answer { result ≡ distance_answer day.now van visits.now lengths.now list }
 {
     refusal_of(day, van, visits, lengths, list)?;
+    let distances = Matrix {
+        size: day.locations,
+        entries: day.distances,
+    };
     let distance = evaluation::distance::route_distance(
-        day.locations,
-        day.distances,
+        &distances,
         van.depot,
         list_of(visits, lengths, list),
     );

@@ -3,6 +3,7 @@ ghost use Rattle.std.specs.Prelude.{◌≡◌};
 ghost use Rattle.checks.specs.Answer.{table_answer};
 
 use day::day::Day;
+use day::matrix::Matrix;
 use day::refusal::Refusal;
 use day::vehicle::Van;
 use day_scans::customer::num_depots;
@@ -30,10 +31,14 @@ pub fn table_of(day: &Day, van: Van) -> Result<Table, Refusal>
 {
     day_and_van_refusal(day, van)?;
     let largest = scale(day.distances);
+    let distances = Matrix {
+        size: day.locations,
+        entries: day.distances,
+    };
     Ok(Table {
         scale: largest,
         floor: gain_floor(largest),
-        symmetric: is_symmetric(day.locations, day.distances),
+        symmetric: is_symmetric(&distances),
         fixed: van.fixed_cost_in_distance(),
         depots: num_depots(day.flags),
     })

@@ -20,7 +20,7 @@ use Rattle.descent.specs.Order.{range, scan}
 use Rattle.descent.proofs.Loops.{scan_turn, scan_done}
 use Rattle.cross_moves.specs.CrossDepot.{cuts}
 use Rattle.cross_moves.specs.declared.pair.Pair.{Pair}
-use Rattle.cross_kinds.specs.Kinds.{move_at, row_of, rows_in}
+use Rattle.cross_kinds.specs.Kinds.{move_at, row_of, rows_in, width_of}
 use Rattle.cross_kinds.specs.declared.kind.Kind.{Kind}
 use Rattle.cross_kinds.specs.declared.kind.Kind.TheVariants.{Relocation, Swap, Tails}
 use Rattle.cross_choices.specs.Scan.{better}
@@ -28,7 +28,7 @@ use Rattle.cross_choices.specs.Rows.{all_shut, lesser_of, delta_at, least_of, ch
 use Rattle.cross_choices.specs.declared.Choice.{Choice}
 use Rattle.cross_choices.specs.declared.Least.{Least}
 use Rattle.cross_choices.proofs.Deciding.{Known, known_starts, nothing_yet, stands_on, told, Tabled, row_told, row_lost}
-use Rattle.cross_blocks.specs.Blocks.{width_of, Block, entries_in, side_of, MarkedBlock, CostedBlock}
+use Rattle.cross_blocks.specs.Blocks.{Block, entries_in, side_of, MarkedBlock, CostedBlock}
 use Rattle.cross_blocks.proofs.Tables.{next_row, row_ends, same_as_own}
 
 -- ---- a loop in two parts

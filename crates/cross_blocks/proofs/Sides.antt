@@ -11,14 +11,14 @@ use borrow.Rule.Slice.PartMut.{mid_len}
 use Rattle.labels.specs.Columns.{Columns}
 use Rattle.day.specs.declared.vehicle.Van.{Van}
 use Rattle.cross_rows.specs.Row.{Rowed, Costed}
-use Rattle.cross_kinds.specs.Kinds.{row_of, rows_in}
+use Rattle.cross_kinds.specs.Kinds.{row_of, rows_in, width_of}
 use Rattle.cross_choices.specs.Rows.{same_as, Extended}
 use Rattle.cross_choices.proofs.Deciding.{extended_costs}
 use Rattle.cross_kinds.specs.declared.kind.Kind.{Kind}
 use Rattle.cross_kinds.specs.declared.kind.Kind.TheVariants.{Relocation, Swap, Tails}
 use Rattle.cross_kinds.specs.declared.kind.Row.{Row}
 use Rattle.cross_kinds.proofs.Along.{rows_few, row_within, row_turned, distinct_few}
-use Rattle.cross_blocks.specs.Blocks.{width_of, Block, entries_in, side_of, cost_in, CostedRow}
+use Rattle.cross_blocks.specs.Blocks.{Block, entries_in, side_of, cost_in, CostedRow}
 use Rattle.cross_blocks.proofs.Tables.{row_ends, same_as_few, lent_entry}
 use Rattle.cross_blocks.proofs.Blocks.{row_wide, count_wide, block_ends}
 

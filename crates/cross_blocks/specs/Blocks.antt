@@ -5,17 +5,10 @@ use Rattle.day.specs.declared.vehicle.Van.{Van}
 use Rattle.labels.specs.Columns.{Columns}
 use Rattle.cross_moves.specs.CrossDepot.{holds}
 use Rattle.cross_rows.specs.Row.{changed, cost_unless}
-use Rattle.cross_kinds.specs.Kinds.{tested_in, row_of, rows_in}
+use Rattle.cross_kinds.specs.Kinds.{tested_in, row_of, turned_row, rows_in, width_of}
 use Rattle.cross_kinds.specs.declared.kind.Kind.{Kind}
-use Rattle.cross_kinds.specs.declared.kind.Kind.TheVariants.{Relocation, Swap, Tails}
 use Rattle.cross_kinds.specs.declared.kind.Row.{Row}
 use Rattle.cross_choices.specs.Rows.{mark_of, same_as}
-
--- how many entries a row has: as many as its moves, but for the last cuts of tails, which are one less
-unfoldable pub width_of : Kind → ℕ → ℕ
-width_of Relocation n2 = n2 + 1
-width_of Swap n2 = n2
-width_of Tails n2 = n2 + 1
 
 -- what a caller shows of a block
 pub record Block (kind : Kind) (n1 n2 k width rows : ℕ) : Type 0 where
@@ -42,12 +35,7 @@ mark_at demand van1 van2 X Y kind k j =
 -- row k seen from a list of n visits that is the first one; or, turned, the second, of which every move makes another list
 unfoldable pub side_of : Kind → Bool → ℕ → ℕ → ℕ → Row
 side_of kind false n m k = row_of kind n m k
-side_of kind true n m k = record {
-  own = (row_of kind m n k).others;
-  others = (row_of kind m n k).own;
-  count = (row_of kind m n k).count;
-  distinct = (row_of kind m n k).count;
-}
+side_of kind true n m k = turned_row (row_of kind m n k)
 
 -- what the list of move j costs; where moves make the same list, by the mark of the first
 abbrev pub cost_in : Columns → Van → List ℕ → List ℕ → Row → (ℕ → Float) → ℕ → Float

@@ -75,13 +75,8 @@ pub fn broken_candidate(
     let depot = van.depot;
     let distance = end.distance + columns.distance(end.place, depot);
     let clock = end.clock();
-    let outcome = clock.finish(
-        columns.locations,
-        columns.distances,
-        columns.times,
-        distance,
-        depot,
-    );
+    let back = columns.travel_time(clock.prev, depot);
+    let outcome = clock.finish(distance, back);
     Priced {
         head: kept,
         cost: end_cost(van, limits, outcome),

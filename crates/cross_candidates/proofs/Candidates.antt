@@ -23,6 +23,7 @@ use Rattle.break_clock.specs.declared.Scheduled.{Scheduled}
 use Rattle.heads.specs.declared.Head.{Head}
 use Rattle.heads.proofs.Heads.{walk_further}
 use Rattle.kept_heads.specs.Kept.{place_before, head_of, walked, Kept}
+use Rattle.kept_heads.specs.declared.KeptHeads.{KeptHeads}
 use Rattle.cross_moves.specs.CrossDepot.{price_of, priced_as, amount, replaced}
 use Rattle.cross_moves.proofs.Stretch.{length-changed, priced_some}
 use Rattle.cross_head_prices.specs.Prices.{price_on}
@@ -65,18 +66,18 @@ module _ (c : Columns) (van : Van) (limits : RouteLimits) (unbroken-van : Unbrok
     length_whole : length whole ≡ from + (to2 - from2) + (length list - to)
     length_whole = length-changed list other from to from2 to2 ordered within within2
 
-    module _ (heads : List Float) (reached : ℕ) (kept : Kept c van.depot list heads reached) where
+    module _ (heads : KeptHeads) (kept : Kept c van.depot list heads) where
       -- the walk up to the visit that can't be served
       abbrev lost : Tour (Option Label)
-      lost = walked c van.depot list (reached + 1)
+      lost = walked c van.depot list (heads.reached + 1)
 
-      head_lost : reached < from → (walk c (tick c) start (take from list)).clock ≡ None
+      head_lost : heads.reached < from → (walk c (tick c) start (take from list)).clock ≡ None
       head_lost h =
-          ap (λ (t : Tour (Option Label)). t.clock) (walk_further c start list (reached + 1) from lost (omega (arith, h)) refl)
-          ∙ lost_on c lost (slice (reached + 1) from list) (kept.lost (omega (arith, h, ordered, within)))
+          ap (λ (t : Tour (Option Label)). t.clock) (walk_further c start list (heads.reached + 1) from lost (omega (arith, h)) refl)
+          ∙ lost_on c lost (slice (heads.reached + 1) from list) (kept.lost (omega (arith, h, ordered, within)))
 
       -- the head can't be served
-      pub cost_lost : reached < from → inf false ≡ amount (priced_as c van whole)
+      pub cost_lost : heads.reached < from → inf false ≡ amount (priced_as c van whole)
       unfolding amount price_of evaluated
       cost_lost h =
           let part-lost = lost_on c (walk c (tick c) start (take from list)) part (head_lost h) in
@@ -86,7 +87,7 @@ module _ (c : Columns) (van : Van) (limits : RouteLimits) (unbroken-van : Unbrok
           ∙ ap amount (priced_walk (λ e. omega (arith, e, h, length_whole)))
 
       -- from the head on
-      pub price_on_lem : (head : Head) (price : Option Float) → head ≡ head_of heads van.depot list from → from ≤ reached →
+      pub price_on_lem : (head : Head) (price : Option Float) → head ≡ head_of heads van.depot list from → from ≤ heads.reached →
           from + (to2 - from2) + (length list - to) ≢ 0 → price ≡ price_on c van limits head part (drop to list) → price ≡ priced_as c van whole
       unfolding price_on
       price_on_lem head price e h o is =

@@ -30,7 +30,7 @@ use Rattle.cross_kinds.specs.declared.kind.Kind.{Kind}
 use Rattle.cross_kinds.specs.declared.kind.Kind.TheVariants.{Relocation, Swap, Tails}
 use Rattle.cross_choices.specs.declared.Choice.{Choice}
 use Rattle.cross_choices.specs.declared.Least.{Least}
-use Rattle.cross_kinds.proofs.Fitting.{holds_anywhere}
+use Rattle.cross_moves.proofs.Fitting.{holds_anywhere}
 use Rattle.cross_choices.proofs.Numbers.{first_lost, second_lost}
 use Rattle.cross_kinds.proofs.Along.{row_stretches, move_tested}
 

@@ -14,6 +14,8 @@ use Rattle.fleet.specs.Fleet.{Fleet, Driven}
 use Rattle.cross_moves.specs.CrossDepot.{Plan, allowed, is_tested, replaced, relocation, exchange, cuts, pair_of, same_depot}
 use Rattle.cross_moves.specs.declared.pair.Pair.{Pair}
 use Rattle.cross_moves.specs.declared.pair.Move.{Move}
+use Rattle.cross_moves.specs.declared.side.Side.{Side}
+use Rattle.day.specs.declared.vehicle.Van.{Van}
 use Rattle.kept_heads.specs.Kept.{Kept}
 use Rattle.loads.specs.Loads.{Two, Loaded}
 use Rattle.cross_choices.specs.declared.Choice.{Choice}
@@ -30,20 +32,19 @@ pub record Paired (l : ℕ) (pair : Pair) : Type 0 where
   pub driven1 : Driven l pair.van1
   pub driven2 : Driven l pair.van2
 
--- of two lists whose loads and heads are worked out
-pub record Ready (c : Columns) (demand : List ℤ) (pair : Pair) (X Y loads1 loads2 : List ℕ) (heads1 heads2 : List Float) (reached1 reached2 : ℕ) : Type 0 where
-  pub asked : Asked c demand
-  pub paired : Paired c.l pair
-  pub two : Two c.l X Y
-  pub prefixed1 : Prefixed demand X loads1
-  pub prefixed2 : Prefixed demand Y loads2
-  pub kept1 : Kept c pair.van1.depot X heads1 reached1
-  pub kept2 : Kept c pair.van2.depot Y heads2 reached2
+-- of one of two lists, whose loads and heads are worked out
+pub record Sided (c : Columns) (demand : List ℤ) (van : Van) (side : Side) : Type 0 where
+  pub is_van : side.van ≡ van
+  pub driven : Driven c.l side.van
+  pub prefixed : Prefixed demand side.list.now side.loads.now.sums
+  pub kept : Kept c side.van.depot side.list.now side.heads.now
 
--- of the tables of a row
-pub record Roomy (costs1 costs2 : List Float) : Type 0 where
-  pub costs1_long : length costs1 ≡ 64
-  pub costs2_long : length costs2 ≡ 64
+-- of both
+pub record Ready (c : Columns) (demand : List ℤ) (pair : Pair) (one other : Side) : Type 0 where
+  pub asked : Asked c demand
+  pub two : Two c.l one.list.now other.list.now
+  pub first : Sided c demand pair.van1 one
+  pub second : Sided c demand pair.van2 other
 
 -- what a move makes of the first list
 abbrev pub made1 : List ℕ → List ℕ → Move → List ℕ

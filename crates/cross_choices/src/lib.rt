@@ -10,11 +10,10 @@ ghost use Rattle.loads.specs.Loads.{Two, Loaded};
 ghost use Rattle.cross_rows.specs.Row.{Rowed};
 ghost use Rattle.cross_choices.specs.Rows.{mark_of, Marked, all_shut, Extended, lesser_of, least_of, chosen_by, chosen_by_block};
 
-use cross_kinds::kind::{Kind, move_of};
-use cross_kinds::load::fits;
+use cross_kinds::kind::{Kind, Rows};
 use cross_moves::pair::{Move, Pair};
-use cross_rows::{Stretch, end_at, start_at};
-use day::vehicle::Van;
+use cross_moves::side::Side;
+use cross_rows::Stretch;
 use numbers::infinite;
 
 // The best move so far, with its delta and what its two lists cost. `found` is 1 where there is one, a whole word as in `Move`; else it is 0, and the delta is
@@ -29,6 +28,7 @@ pub struct Choice {
 }
 
 // The first least delta of a row so far, and which move has it; at first what it has to be below, and the number of moves.
+// No Option, and no type in common with `Choice`, for speed: the loop over a row carries two words.
 #[derive(Clone, Copy)]
 pub struct Least {
     pub at: usize,
@@ -38,6 +38,7 @@ pub struct Least {
 // ---- which moves of a row are open
 
 // 0 where both loads are within their vans' capacities, infinite where one is not.
+#[tactic(auto, unfolding(crate::specs::Rows::mark_of))]
 fn mark(tested: bool, first: bool, second: bool) -> f64
     ensures { result ≡ mark_of tested first second }
 {
@@ -51,41 +52,34 @@ fn mark(tested: bool, first: bool, second: bool) -> f64
 pub fn mark_row(
     l: usize,
     demand: &[i32],
-    van1: Van,
-    van2: Van,
-    one: &[u16],
-    other: &[u16],
-    loads1: &[usize],
-    loads2: &[usize],
+    one: &Side,
+    other: &Side,
     tested: bool,
     own: Stretch,
     others: Stretch,
     count: usize,
     marks: &mut [f64],
 )
-    requires loaded { Loaded l demand.now × (Driven l van1 × Driven l van2) × Two l one.now other.now }
-    requires prefixed { Prefixed demand.now one.now loads1.now × Prefixed demand.now other.now loads2.now }
-    requires rowed { Rowed (length one.now) (length other.now) own others count × (count ≤ length marks.old) }
-    ensures { Marked demand.now van1 van2 one.now other.now tested own others count marks.new }
+    requires loaded { Loaded l demand.now × (Driven l one.now.van × Driven l other.now.van) × Two l one.now.list.now other.now.list.now }
+    requires prefixed { Prefixed demand.now one.now.list.now one.now.loads.now.sums
+        × Prefixed demand.now other.now.list.now other.now.loads.now.sums }
+    requires rowed { Rowed (length one.now.list.now) (length other.now.list.now) own others count × (count ≤ length marks.old) }
+    ensures { Marked demand.now one.now.van other.now.van one.now.list.now other.now.list.now tested own others count marks.new }
 {
     for j in 0..count {
-        let from1 = start_at(own, j);
-        let to1 = end_at(own, j);
-        let from2 = start_at(others, j);
-        let to2 = end_at(others, j);
-        let first = fits(
-            l, demand, van1, one, loads1, from1, to1, other, loads2, from2, to2,
-        );
-        let second = fits(
-            l, demand, van2, other, loads2, from2, to2, one, loads1, from1, to1,
-        );
+        let from1 = own.start_at(j);
+        let to1 = own.end_at(j);
+        let from2 = others.start_at(j);
+        let to2 = others.end_at(j);
+        let first = one.fits(l, demand, from1, to1, other, from2, to2);
+        let second = other.fits(l, demand, from2, to2, one, from1, to1);
         marks[j] = mark(tested, first, second);
     }
 }
 
 // Whether none of the first `count` moves is open.
-pub fn is_shut(marks: &[f64], count: usize) -> bool
-    requires { (length marks.now ≡ 64) × (count ≤ 64) }
+pub fn is_shut(marks: &[f64; 64], count: usize) -> bool
+    requires { count ≤ 64 }
     ensures { result ≡ all_shut marks.now count }
 {
     (0..count).all(|k| !(marks[k] < infinite()))
@@ -104,6 +98,7 @@ pub fn extend(costs: &mut [f64], from: usize, count: usize)
 }
 
 // The lesser of the least so far and the delta of move j.
+#[tactic(auto, unfolding(crate::specs::Rows::lesser_of))]
 fn lesser(least: Least, j: usize, delta: f64) -> Least
     ensures { result ≡ lesser_of j delta least }
 {
@@ -114,8 +109,14 @@ fn lesser(least: Least, j: usize, delta: f64) -> Least
 }
 
 // The first least delta of a row that is below `most`.
-pub fn least_of(before: f64, count: usize, costs1: &[f64], costs2: &[f64], most: f64) -> Least
-    requires { (length costs1.now ≡ 64) × (length costs2.now ≡ 64) × (count ≤ 64) }
+pub fn least_of(
+    before: f64,
+    count: usize,
+    costs1: &[f64; 64],
+    costs2: &[f64; 64],
+    most: f64,
+) -> Least
+    requires { count ≤ 64 }
     ensures { result ≡ least_of before count costs1.now costs2.now most }
 {
     let mut least = Least {
@@ -128,29 +129,29 @@ pub fn least_of(before: f64, count: usize, costs1: &[f64], costs2: &[f64], most:
     least
 }
 
-// The move that has the least delta of its rows, or the best so far where none is less. The tables have rows of `width` moves, from row k on.
+// The move that has the least delta of its rows, or the best so far where none is less.
 pub fn choose_of_block(
-    kind: Kind,
-    pair: Pair,
+    rows: Rows,
+    pair: &Pair,
     n1: usize,
     n2: usize,
-    k: usize,
-    width: usize,
     count: usize,
-    costs1: &[f64],
-    costs2: &[f64],
+    costs1: &[f64; 64],
+    costs2: &[f64; 64],
     least: Least,
     best: Choice,
 ) -> Choice
-    requires k_bound { (k ≤ 63) × (least.at ≤ count) × (count ≤ 64) × (count ≤ 64 * width) }
-    requires costs1_len { (length costs1.now ≡ 64) × (length costs2.now ≡ 64) }
-    ensures { result ≡ chosen_by_block kind pair n1 n2 k width count costs1.now costs2.now least best }
+    requires { (rows.first ≤ 63) × (least.at ≤ count) × (count ≤ 64) × (count ≤ 64 * rows.width) }
+    ensures { result ≡ chosen_by_block rows.kind pair.now n1 n2 rows.first rows.width count costs1.now costs2.now least best }
 {
     let at = least.at;
     if at == count {
         return best;
     }
-    let chosen = move_of(kind, pair, n1, n2, k + at / width, at % width);
+    let width = rows.width;
+    let chosen = rows
+        .kind
+        .at(pair, n1, n2, rows.first + at / width, at % width);
     Choice {
         found: 1,
         chosen,
@@ -163,20 +164,24 @@ pub fn choose_of_block(
 // The move that has the least delta of its row, or the best so far where none is less.
 pub fn choose(
     kind: Kind,
-    pair: Pair,
+    pair: &Pair,
     n1: usize,
     n2: usize,
     k: usize,
     count: usize,
-    costs1: &[f64],
-    costs2: &[f64],
+    costs1: &[f64; 64],
+    costs2: &[f64; 64],
     least: Least,
     best: Choice,
 ) -> Choice
-    requires { (k ≤ 63) × (least.at ≤ count) × (count ≤ 64) × (length costs1.now ≡ 64) × (length costs2.now ≡ 64) }
-    ensures { result ≡ chosen_by kind pair n1 n2 k count costs1.now costs2.now least best }
+    requires { (k ≤ 63) × (least.at ≤ count) × (count ≤ 64) }
+    ensures { result ≡ chosen_by kind pair.now n1 n2 k count costs1.now costs2.now least best }
 {
-    choose_of_block(
-        kind, pair, n1, n2, k, 64, count, costs1, costs2, least, best,
-    )
+    let row = Rows {
+        kind,
+        first: k,
+        width: 64,
+        count: 1,
+    };
+    choose_of_block(row, pair, n1, n2, count, costs1, costs2, least, best)
 }

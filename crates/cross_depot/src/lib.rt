@@ -14,7 +14,9 @@ ghost use Rattle.cross_choices.specs.Scan.{Asked};
 ghost use Rattle.cross_runs.specs.Tables.{Handed, crossed_of};
 ghost use Rattle.labels.specs.Lent.{lent};
 
+use cross_pairs::Room;
 use cross_runs::{Crossed, descend, ended_with};
+use cross_search::terms::Terms;
 use cross_starts::start;
 use day_scans::matrix::scale;
 use engine::Ended;
@@ -45,25 +47,14 @@ fn descend_from(
         × SameVisits visits.old visits.new }
 {
     start(fleet, ids, prices, costs);
-    let mut deltas = [0.0; 256];
-    let mut sums = [0usize; 128];
-    let mut heads = [0.0; 512];
-    let mut tried_costs = [0.0; 64];
-    descend(
+    let terms = Terms {
         columns,
         demand,
         fleet,
-        gain_floor(scale(columns.distances)),
-        visits,
-        lengths,
-        ids,
-        costs,
-        limit,
-        &mut deltas,
-        &mut sums,
-        &mut heads,
-        &mut tried_costs,
-    )
+        floor: gain_floor(scale(columns.distances)),
+    };
+    let mut room = Room::new();
+    descend(&terms, visits, lengths, ids, costs, limit, &mut room)
 }
 
 // Moves visits between lists of different depots, from the prices that are lent on, by at most `limit` moves; fewer than two lists, or lists without a van,

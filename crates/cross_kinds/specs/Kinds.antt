@@ -40,3 +40,13 @@ unfoldable pub rows_in : Kind → ℕ → ℕ
 rows_in Relocation n = n
 rows_in Swap n = n
 rows_in Tails n = n + 1
+
+-- how many entries a row has in the tables: as many as its moves, but for the last cuts of tails, which are one less
+unfoldable pub width_of : Kind → ℕ → ℕ
+width_of Relocation n2 = n2 + 1
+width_of Swap n2 = n2
+width_of Tails n2 = n2 + 1
+
+-- a row seen from the second list, of which every move makes another one
+abbrev pub turned_row : Row → Row
+turned_row row = record { own = row.others; others = row.own; count = row.count; distinct = row.count }

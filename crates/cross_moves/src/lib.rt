@@ -4,3 +4,5 @@
 #![tactic(auto)]
 
 pub mod pair; // two lists, and a move between them
+pub mod plan; // all lists, as a search is lent them
+pub mod side; // a list of the two, with what is worked out of it

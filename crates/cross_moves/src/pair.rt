@@ -31,6 +31,7 @@ pub struct Move {
 }
 
 // Lists a and b, with their vans and what they cost together.
+#[tactic(auto, unfolding(crate::specs::CrossDepot::pair_of))]
 pub fn pair_at(fleet: &Fleet, ids: &[u32], costs: &[f64], a: usize, b: usize) -> Pair
     requires fitted { Fitted fleet.now }
     requires nonzero { (0 < length fleet.now.ids) × (length fleet.now.ids ≤ 16) }
@@ -49,9 +50,11 @@ pub fn pair_at(fleet: &Fleet, ids: &[u32], costs: &[f64], a: usize, b: usize) ->
     }
 }
 
-// Whether both vans start from one depot.
-pub fn is_same_depot(pair: Pair) -> bool
-    ensures { result ≡ same_depot pair }
-{
-    pair.van1.depot == pair.van2.depot
+impl Pair {
+    // Whether both vans start from one depot.
+    pub fn is_same_depot(&self) -> bool
+        ensures { result ≡ same_depot self.now }
+    {
+        self.van1.depot == self.van2.depot
+    }
 }

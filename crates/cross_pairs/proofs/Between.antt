@@ -1,59 +1,30 @@
 -- The kinds of moves one after another are the definition's relocations, swaps and tail exchanges. Assumes nothing.
 use mathlib.Core.Path.{◌≡◌, refl, ap, ◌∙◌}
 use mathlib.Core.Bool.{Bool, true, false, cond}
-use mathlib.Core.List.{List, ◌++◌}
-use Prim.Native.Nat.{ℕ, ◌+◌, ◌≤◌}
+use mathlib.Core.List.{List, [], ◌∷◌}
+use Prim.Native.Nat.{ℕ, zero, suc, ◌≤◌, ◌<◌}
 use native.Mathlib.Omega.{arith}
-use borrow.Rule.Slice.PartMut.{put_mid, post_of, take_put}
 use lib.Dec.{ltb}
 use lib.IntN.{ℤ}
-use lib.ListN.{length, take, drop, length-append, length-drop}
-use lib.Seq.{take_at, drop_at, length-take-le}
-use lib.Ieee.{Float}
+use lib.ListN.{length, get_or}
 use Rattle.descent.specs.Order.{range, scan}
 use Rattle.labels.specs.Columns.{Columns}
 use Rattle.cross_moves.specs.declared.pair.Pair.{Pair}
-use Rattle.kept_heads.specs.Kept.{Kept}
 use Rattle.cross_kinds.specs.Kinds.{move_at, row_of, rows_in}
-use Rattle.cross_choices.specs.Scan.{Roomy, try_relocation, try_exchange, relocate_row, exchange_row}
+use Rattle.cross_choices.specs.Scan.{try_relocation, try_exchange, relocate_row, exchange_row}
 use Rattle.cross_choices.specs.Scan.{best_relocation, best_swap, best_tails, best_exchange, best_between}
 use Rattle.cross_choices.specs.Rows.{best_of_row, best_of_kind}
 use Rattle.cross_kinds.specs.declared.kind.Kind.TheVariants.{Relocation, Swap, Tails}
 use Rattle.cross_choices.specs.declared.Choice.{Choice}
 use Rattle.cross_pairs.specs.Kinds.{kind_at, kinds_of}
 
--- the tables of a row keep their lengths
-pub roomy_kept : {costs1 costs2 costs1' costs2' : List Float} → Roomy costs1 costs2 → length costs1' ≡ length costs1 → length costs2' ≡ length costs2
-    → Roomy costs1' costs2'
-roomy_kept roomy a b = record { costs1_long = a ∙ roomy.costs1_long; costs2_long = b ∙ roomy.costs2_long }
-
--- a table written in two parts of n entries, and each part read again
-module _ {A : Type 0} (n : ℕ) (xs first second : List A) (few : n + n ≤ length xs) where
-  -- as many as are lent
-  pub lent_long : length (take n xs) ≡ n
-  lent_long = length-take-le n xs (omega (arith, few))
-
-  pub lent_long2 : length first ≡ n → length (take n (drop n (put_mid 0 n xs first))) ≡ n
-  lent_long2 long =
-      ap (λ (ys : List A). length (take n ys)) (drop_at first (post_of 0 n xs) n long)
-      ∙ length-take-le n (post_of 0 n xs) (omega (arith, length-drop n xs, few))
-
-  module _ (long1 : length first ≡ n) (long2 : length second ≡ n) where
-    first_long : n ≤ length (put_mid 0 n xs first)
-    first_long = simp length-append (omega (arith, long1))
-
-    pub first_part : take n (put_mid n n (put_mid 0 n xs first) second) ≡ first
-    first_part = take_put n n (put_mid 0 n xs first) second first_long ∙ take_at first (post_of 0 n xs) n long1
-
-    pub second_part : take n (drop n (put_mid n n (put_mid 0 n xs first) second)) ≡ second
-    second_part =
-        ap (take n) (drop_at (take n (put_mid 0 n xs first)) (second ++ post_of n n (put_mid 0 n xs first)) n
-        (length-take-le n (put_mid 0 n xs first) first_long))
-        ∙ take_at second (post_of n n (put_mid 0 n xs first)) n long2
-
-pub kept_part : {c : Columns} {depot : ℕ} {list : List ℕ} {reached : ℕ} {xs ys : List Float} → xs ≡ ys → Kept c depot list ys reached
-    → Kept c depot list xs reached
-kept_part e kept = rw e kept
+-- the table of kinds is in that order
+pub kinds_listed : (n : ℕ) → n < 3 → get_or (Relocation ∷ Swap ∷ Tails ∷ []) n Relocation ≡ kind_at n
+unfolding kind_at
+kinds_listed zero h = refl
+kinds_listed (suc zero) h = refl
+kinds_listed (suc (suc zero)) h = refl
+kinds_listed (suc (suc (suc n))) h = absurd (omega (arith, h))
 
 pub kinds_few : (one other : ℕ) → kinds_of one other ≤ 3
 unfolding kinds_of

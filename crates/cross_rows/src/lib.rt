@@ -15,7 +15,8 @@ ghost use Rattle.labels.specs.Lent.{lent};
 use broken_heads::broken_start;
 use cross_broken_prices::broken_candidate;
 use cross_candidates::candidate_cost;
-use day::vehicle::{RouteLimits, Van, VehicleBreak};
+use cross_moves::side::Side;
+use day::vehicle::{RouteLimits, VehicleBreak};
 use labels::columns::Columns;
 use numbers::infinite;
 
@@ -28,30 +29,29 @@ pub struct Stretch {
     pub to_step: usize,
 }
 
-// Where the stretch of candidate j begins.
-pub fn start_at(stretch: Stretch, j: usize) -> usize
-    requires { from_at stretch j ≤ 63 }
-    ensures { result ≡ from_at stretch j }
-{
-    stretch.from + j * stretch.from_step
-}
+impl Stretch {
+    // Where the stretch of candidate j begins.
+    pub fn start_at(self, j: usize) -> usize
+        requires { from_at self j ≤ 63 }
+        ensures { result ≡ from_at self j }
+    {
+        self.from + j * self.from_step
+    }
 
-// Where the stretch of candidate j ends.
-pub fn end_at(stretch: Stretch, j: usize) -> usize
-    requires { to_at stretch j ≤ 63 }
-    ensures { result ≡ to_at stretch j }
-{
-    stretch.to + j * stretch.to_step
+    // Where the stretch of candidate j ends.
+    pub fn end_at(self, j: usize) -> usize
+        requires { to_at self j ≤ 63 }
+        ensures { result ≡ to_at self j }
+    {
+        self.to + j * self.to_step
+    }
 }
 
 // The costs of a row with no break to take.
 fn unbroken_row(
     columns: &Columns,
-    van: Van,
     limits: RouteLimits,
-    heads: &[f64],
-    reached: usize,
-    list: &[u16],
+    side: &Side,
     own: Stretch,
     other: &[u16],
     others: Stretch,
@@ -59,26 +59,23 @@ fn unbroken_row(
     count: usize,
     costs: &mut [f64],
 )
-    requires driven { Driven columns.now.locations van × Two columns.now.locations list.now other.now }
-    requires unbroken { Unbroken van limits × Kept (lent columns.now) van.depot list.now heads.now reached }
-    requires rowed { Rowed (length list.now) (length other.now) own others count × (count ≤ length skip.now) × (count ≤ length costs.old) }
-    ensures { Costed (lent columns.now) van list.now own other.now others skip.now count costs.new }
+    requires driven { Driven columns.now.locations side.now.van × Two columns.now.locations side.now.list.now other.now }
+    requires unbroken { Unbroken side.now.van limits × Kept (lent columns.now) side.now.van.depot side.now.list.now side.now.heads.now }
+    requires rowed { Rowed (length side.now.list.now) (length other.now) own others count × (count ≤ length skip.now) × (count ≤ length costs.old) }
+    ensures { Costed (lent columns.now) side.now.van side.now.list.now own other.now others skip.now count costs.new }
 {
     for j in 0..count {
         let mut cost = infinite();
         if skip[j] < infinite() {
             cost = candidate_cost(
                 columns,
-                van,
                 limits,
-                heads,
-                reached,
-                list,
-                start_at(own, j),
-                end_at(own, j),
+                side,
+                own.start_at(j),
+                own.end_at(j),
                 other,
-                start_at(others, j),
-                end_at(others, j),
+                others.start_at(j),
+                others.end_at(j),
             );
         }
         costs[j] = cost;
@@ -88,10 +85,9 @@ fn unbroken_row(
 // The costs of a row with a break to take. The head goes on to where the stretch of each candidate that is asked for begins.
 fn broken_row(
     columns: &Columns,
-    van: Van,
     limits: RouteLimits,
     rest: VehicleBreak,
-    list: &[u16],
+    side: &Side,
     own: Stretch,
     other: &[u16],
     others: Stretch,
@@ -99,11 +95,13 @@ fn broken_row(
     count: usize,
     costs: &mut [f64],
 )
-    requires driven { Driven columns.now.locations van × Two columns.now.locations list.now other.now }
-    requires broken { Broken van limits rest }
-    requires rowed { Rowed (length list.now) (length other.now) own others count × (count ≤ length skip.now) × (count ≤ length costs.old) }
-    ensures { Costed (lent columns.now) van list.now own other.now others skip.now count costs.new }
+    requires driven { Driven columns.now.locations side.now.van × Two columns.now.locations side.now.list.now other.now }
+    requires broken { Broken side.now.van limits rest }
+    requires rowed { Rowed (length side.now.list.now) (length other.now) own others count × (count ≤ length skip.now) × (count ≤ length costs.old) }
+    ensures { Costed (lent columns.now) side.now.van side.now.list.now own other.now others skip.now count costs.new }
 {
+    let van = side.van;
+    let list = side.list;
     let mut head = broken_start(rest, van.depot);
     let mut driven = 0;
     for j in 0..count {
@@ -112,7 +110,7 @@ fn broken_row(
         if !asked {
             continue;
         }
-        let from = start_at(own, j);
+        let from = own.start_at(j);
         let priced = broken_candidate(
             columns,
             van,
@@ -122,10 +120,10 @@ fn broken_row(
             driven,
             list,
             from,
-            end_at(own, j),
+            own.end_at(j),
             other,
-            start_at(others, j),
-            end_at(others, j),
+            others.start_at(j),
+            others.end_at(j),
         );
         head = priced.head;
         driven = from;
@@ -133,13 +131,10 @@ fn broken_row(
     }
 }
 
-// What each candidate of a row costs, infinite where the van doesn't allow its list or its mark in `skip` is infinite; `heads` has those of the list.
+// What each candidate of a row costs, infinite where the van doesn't allow its list or its mark in `skip` is infinite.
 pub fn row_costs(
     columns: &Columns,
-    van: Van,
-    heads: &[f64],
-    reached: usize,
-    list: &[u16],
+    side: &Side,
     own: Stretch,
     other: &[u16],
     others: Stretch,
@@ -147,20 +142,20 @@ pub fn row_costs(
     count: usize,
     costs: &mut [f64],
 )
-    requires driven { Driven columns.now.locations van × Two columns.now.locations list.now other.now }
-    requires kept { Kept (lent columns.now) van.depot list.now heads.now reached
-        × Rowed (length list.now) (length other.now) own others count }
+    requires driven { Driven columns.now.locations side.now.van × Two columns.now.locations side.now.list.now other.now }
+    requires kept { Kept (lent columns.now) side.now.van.depot side.now.list.now side.now.heads.now
+        × Rowed (length side.now.list.now) (length other.now) own others count }
     requires count_in_bounds { (count ≤ length skip.now) × (count ≤ length costs.old) }
-    ensures { Costed (lent columns.now) van list.now own other.now others skip.now count costs.new }
+    ensures { Costed (lent columns.now) side.now.van side.now.list.now own other.now others skip.now count costs.new }
 {
-    let limits = RouteLimits::of(van);
+    let limits = RouteLimits::of(side.van);
     let rest = limits.rest;
     match rest {
         None => unbroken_row(
-            columns, van, limits, heads, reached, list, own, other, others, skip, count, costs,
+            columns, limits, side, own, other, others, skip, count, costs,
         ),
         Some(pause) => broken_row(
-            columns, van, limits, pause, list, own, other, others, skip, count, costs,
+            columns, limits, pause, side, own, other, others, skip, count, costs,
         ),
     }
 }

@@ -24,7 +24,10 @@ use Rattle.cross_moves.specs.CrossDepot.{Plan, pair_of, same_depot, exchanged_by
 use Rattle.cross_moves.specs.declared.pair.Move.{Move}
 use Rattle.cross_choices.specs.Scan.{nothing, best_between, best_of_pair}
 use Rattle.cross_choices.specs.declared.Choice.{Choice}
-use Rattle.cross_deltas.specs.Deltas.{is_old, kept_of, least_of, Sunk, Kept}
+use Rattle.cross_deltas.specs.Deltas.{is_old, kept_of, known, noted, moved_on, least_of, Sunk, Kept, KeptIn}
+use Rattle.cross_deltas.specs.declared.KeptDeltas.{KeptDeltas}
+use Rattle.std.specs.Prelude.{Option, Some, None}
+use Rattle.std.proofs.lemmas.Option.{cond_some}
 use Rattle.cross_deltas.proofs.Kept.{kept_none}
 use Rattle.cross_search.proofs.Joining.{pair_skipped}
 
@@ -232,3 +235,44 @@ module _ (c : Columns) (demand : List ℤ) (fleet : Fleet) (visits lengths ids :
         pair_skipped c demand fleet (plan_of visits lengths ids costs) floor a b best sunk (get_or deltas (16 * a + b) nan) known not-less,
         kept_entry c demand fleet (plan_of visits lengths ids costs) floor kept one other a b deltas known,
       )
+
+-- ---- the table of a run
+
+module _ (c : Columns) (demand : List ℤ) (fleet : Fleet) (visits lengths ids : List ℕ) (costs : List Float) (floor : Float) (t : KeptDeltas) where
+  abbrev In : ℕ → KeptDeltas → Type 0
+  In = KeptIn c demand fleet (plan_of visits lengths ids costs) floor
+
+  pub table_at : (k place : ℕ) → k ≡ place → In k t → In place t
+  table_at k place e h = subst (λ z. In z t) e h
+
+  pub noted_turn : (few : length lengths ≤ 16) (a b : ℕ) → a < length lengths → b < length lengths → In (16 * a + b) t → (after : KeptDeltas)
+      → after ≡ noted t a b (least_of c demand fleet (plan_of visits lengths ids costs) floor a b) → In (16 * a + (b + 1)) after
+  noted_turn few a b a-there b_there kept after is = subst (In (16 * a + (b + 1))) (sym is) (record {
+    long = length-set t.deltas (16 * a + b) _ ∙ kept.long;
+    right = table_turn c demand fleet visits lengths ids costs floor t.kept t.one t.other few a b a-there b_there t.deltas kept.long kept.right _ refl;
+  })
+
+  pub noted_row : (few : length lengths ≤ 16) (a k : ℕ) → length lengths ≤ k → In (16 * a + k) t → In (16 * (a + 1)) t
+  noted_row few a k all kept = record {
+    long = kept.long;
+    right = table_row c demand fleet visits lengths ids costs floor t.kept t.one t.other few a k t.deltas all kept.right;
+  }
+
+  pub noted_whole : (a : ℕ) → length lengths ≤ a → In (16 * a) t → In (16 * length lengths) t
+  noted_whole a all kept = record {
+    long = kept.long;
+    right = table_whole c demand fleet visits lengths ids costs floor t.kept t.one t.other a t.deltas all kept.right;
+  }
+
+  -- a pair left out: what is known of it isn't below the best
+  pub known_left : (a b : ℕ) (best : Choice) → Sunk floor best → a < length lengths → b < length lengths → In (16 * a + b) t → (least : Float)
+      → known t a b ≡ Some least → lt least best.delta ≡ false
+      → (best ≡ best_of_pair c demand fleet (plan_of visits lengths ids costs) a b best)
+      × (t ≡ noted t a b (least_of c demand fleet (plan_of visits lengths ids costs) floor a b))
+  unfolding known
+  known_left a b best sunk a-there b_there kept least is not-less =
+      let parts = cond_some _ _ _ is in
+      let old = and_parts _ _ parts.0 in
+      let left = pair_left c demand fleet visits lengths ids costs floor t.kept t.one t.other a b best sunk a-there b_there t.deltas kept.right old.0 old.1
+      (ap (λ x. lt x best.delta) parts.1 ∙ not-less) in
+      (left.0, λ k. record { deltas = left.1 k; kept = t.kept; one = t.one; other = t.other })

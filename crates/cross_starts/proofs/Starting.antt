@@ -1,4 +1,4 @@
--- The columns of the start, filled in place from the first list on: each entry so far is its definition, and the rest is as it was. Assumes nothing.
+-- The columns of the start, filled in from the first list on: each entry so far is its definition, and the rest is as it was. Assumes nothing.
 use mathlib.Core.Path.{◌≡◌, refl, sym, ap, ◌∙◌}
 use mathlib.Core.List.{List, [], ◌∷◌, ◌++◌, map, append-nil}
 use Prim.Native.Nat.{ℕ, zero, suc, ◌+◌, ◌≤◌, ◌<◌}
@@ -7,7 +7,11 @@ use native.Mathlib.Omega.{arith}
 use lib.ListN.{length, get_or, set, take, drop, length-map, length-set, drop_of_length-le}
 use lib.Seq.{take_all, drop-cons, set_at, get_or_at, length-take-le, append_snoc}
 use lib.Ieee.{Float, nan}
-use Rattle.fleet.specs.Fleet.{Fleet}
+use Rattle.std.proofs.lemmas.List.{get_or-map}
+use Rattle.day.specs.Vehicle.{route_cost}
+use Rattle.day.specs.declared.vehicle.Van.{Van}
+use Rattle.fleet.specs.Fleet.{Fleet, fleet_vehicle}
+use Rattle.fleet.proofs.Numbered.{found_again}
 use Rattle.cross_moves.specs.CrossDepot.{starting_cost, found_ids, starting_costs}
 
 -- ---- a column in the place of which another is written
@@ -94,7 +98,16 @@ module _ (fleet : Fleet) where
     costing_ends i w h =
         sym (take_all i now (omega (arith, w.same_length))) ∙ w.now_is ∙ (λ t. starting_costs fleet (take_all i ids h t) (take_all i prices (omega arith) t))
 
--- the costs are those of the ids found
-pub start_is : (fleet : Fleet) (ids ids' : List ℕ) (prices costs : List Float) → ids' ≡ found_ids fleet ids → costs ≡ starting_costs fleet ids' prices
-    → (ids' ≡ found_ids fleet ids) × (costs ≡ starting_costs fleet (found_ids fleet ids) prices)
-start_is fleet ids ids' prices costs found is = (found, is ∙ ap (λ z. starting_costs fleet z prices) found)
+-- the van of the id that is put in is the van that was found
+pub cost_found : (fleet : Fleet) (ids now : List ℕ) (prices : List Float) (i : ℕ) → Mapping (λ id. (fleet_vehicle fleet id).id) ids now i → i < length ids
+    → (van : Van) → van ≡ fleet_vehicle fleet (get_or now i 0) → (cost : Float) → cost ≡ route_cost van (get_or prices i nan)
+    → cost ≡ starting_cost fleet (get_or (found_ids fleet ids) i 0) (get_or prices i nan)
+cost_found fleet ids now prices i w h van is cost costs =
+    let here : van ≡ fleet_vehicle fleet (get_or ids i 0) = is ∙ ap (fleet_vehicle fleet) (mapping_at _ ids now i w 0 h) in
+    let entry : get_or (found_ids fleet ids) i 0 ≡ (fleet_vehicle fleet (get_or ids i 0)).id = get_or-map _ ids i 0 0 h in
+    costs ∙ ap (λ (v : Van). route_cost v (get_or prices i nan))
+    (here ∙ sym (found_again fleet (get_or ids i 0)) ∙ sym (ap (fleet_vehicle fleet) entry))
+
+-- as many ids are found
+pub many_found : (fleet : Fleet) (ids : List ℕ) → length (found_ids fleet ids) ≡ length ids
+many_found fleet ids = length-map ids _

@@ -1,7 +1,5 @@
 -- The first n entries of a table, lent and given back; a move made in the first n lists of the tables. Assumes nothing.
-use mathlib.Core.Path.{◌≡◌, refl, sym, ap, ◌∙◌}
-use mathlib.Core.Logic.{◌⊎◌, inl, inr}
-use mathlib.Core.Bool.{Bool, true, false, true≢false}
+use mathlib.Core.Path.{◌≡◌, sym, ap, ◌∙◌}
 use mathlib.Core.List.{List, ◌∷◌, ◌++◌}
 use Prim.Native.Nat.{ℕ, zero, suc, ◌+◌, ◌-◌, ◌≤◌}
 use native.Mathlib.Nat.{sub-zero}
@@ -12,12 +10,8 @@ use lib.Seq.{take_at, drop_at, length-take-le}
 use lib.Ieee.{Float}
 use Rattle.cross_moves.specs.CrossDepot.{plan_of}
 use Rattle.cross_moves.specs.declared.pair.Move.{Move}
-use Rattle.cross_choices.specs.Scan.{is_found}
-use Rattle.cross_choices.specs.declared.Choice.{Choice}
 use Rattle.cross_changes.specs.Tables.{Made}
-use Rattle.cross_deltas.specs.Deltas.{kept_of}
-use Rattle.cross_steps.specs.Tables.{MadeIn, AsWas, MadeFound}
-use Rattle.cross_steps.specs.declared.Turn.{Turn}
+use Rattle.cross_steps.specs.Tables.{MadeIn}
 
 -- the first n, lent
 pub part : {A : Type 0} (n : ℕ) (xs : List A) → take (n - 0) (drop 0 xs) ≡ take n xs
@@ -67,36 +61,3 @@ made_in n m cost1 cost2 visits lengths ids costs visits' L I C kept few even-ids
 pub nones : {A : Type 0} (x : A) (a b : ℕ) → replicate a x ++ replicate b x ≡ replicate (a + b) x
 nones x zero b = let e : 0 + b ≡ b = omega arith in rw e
 nones x (suc a) b = let e : suc a + b ≡ suc (a + b) = omega arith in rw e (ap (λ z. x ∷ z) (nones x a b))
-
--- ---- a choice's move, if there is one and room for it
-
-module _ (n : ℕ) (visits lengths ids : List ℕ) (costs : List Float) (room : Bool) (best : Choice) where
-  -- what is answered where none is made
-  abbrev idle : Turn
-  idle = record { found = best.found; made = 0; left = n; kept = 0; one = best.chosen.one; other = best.chosen.other }
-
-  as_was : AsWas n visits lengths ids costs visits lengths ids costs idle
-  as_was = record { not_made = refl; same_visits = refl; same_lengths = refl; same_ids = refl; same_costs = refl; all_left = refl }
-
-  pub none_made : (is_found best ≡ false) ⊎ (room ≡ false) → MadeFound n visits lengths ids costs visits lengths ids costs idle room best
-  none_made h = record {
-    found_is = refl;
-    settled = λ _. as_was;
-    stopped = λ _ _. as_was;
-    moving = λ found free. against h found free;
-  }
-    where
-      against : {A : Type 0} → (is_found best ≡ false) ⊎ (room ≡ false) → is_found best ≡ true → room ≡ true → A
-      against (inl none) found free = absurd (true≢false (sym found ∙ none))
-      against (inr none) found free = absurd (true≢false (sym free ∙ none))
-
-  pub one_made : is_found best ≡ true → room ≡ true → (visits' lengths' ids' : List ℕ) (costs' : List Float) (left kept : ℕ)
-      → MadeIn n best.chosen best.cost1 best.cost2 visits lengths ids costs visits' lengths' ids' costs' left → kept ≡ kept_of n left
-      → MadeFound n visits lengths ids costs visits' lengths' ids' costs'
-      (record { found = best.found; made = 1; left = left; kept = kept; one = best.chosen.one; other = best.chosen.other }) room best
-  one_made found free visits' lengths' ids' costs' left kept done is = record {
-    found_is = refl;
-    settled = λ none. absurd (true≢false (sym found ∙ none));
-    stopped = λ _ none. absurd (true≢false (sym free ∙ none));
-    moving = λ _ _. record { is_made = refl; made = done; kept_is = is; one_is = refl; other_is = refl };
-  }

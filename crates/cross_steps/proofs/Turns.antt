@@ -26,10 +26,12 @@ use Rattle.cross_moves.specs.declared.pair.Move.{Move}
 use Rattle.cross_choices.specs.Scan.{nothing, is_found, move_of, best_of}
 use Rattle.cross_choices.specs.declared.Choice.{Choice}
 use Rattle.cross_changes.specs.Tables.{Made}
-use Rattle.cross_deltas.specs.Deltas.{Kept}
+use Rattle.cross_deltas.specs.Deltas.{KeptIn}
+use Rattle.cross_deltas.specs.declared.KeptDeltas.{KeptDeltas}
 use Rattle.cross_search.proofs.Keeping.{kept_moved}
-use Rattle.cross_steps.specs.Tables.{plan_in, Live, Chosen, MadeIn, MadeFound, has_found, step_from, Moved, Turned}
+use Rattle.cross_steps.specs.Tables.{plan_in, Live, Chosen, MadeIn, MadeBest, MadeFound, step_from, Moved, Turned}
 use Rattle.cross_steps.specs.declared.Turn.{Turn}
+use Rattle.cross_steps.specs.declared.Turn.TheVariants.{NoGain, NoRoom, Left}
 use Rattle.cross_steps.proofs.Parts.{part, cut_at, nones}
 use Rattle.cross_steps.proofs.Sound.{choice_is}
 
@@ -158,11 +160,10 @@ module _ (l : ℕ) (visits lengths ids : List ℕ) (costs : List Float) (n : ℕ
 -- ---- the turn
 
 -- the table of the first n, lent
-pub kept_part : (c : Columns) (demand : List ℤ) (fleet : Fleet) (visits lengths ids : List ℕ) (costs : List Float) (floor : Float) (n kept one other k : ℕ)
-    (deltas : List Float) → Kept c demand fleet (plan_in n visits lengths ids costs) floor kept one other k deltas
-    → Kept c demand fleet (plan_of visits (take (n - 0) (drop 0 lengths)) (take (n - 0) (drop 0 ids)) (take (n - 0) (drop 0 costs))) floor kept one other k
-    deltas
-kept_part c demand fleet visits lengths ids costs floor n kept one other k deltas h = rw (part n lengths, part n ids, part n costs) h
+pub kept_part : (c : Columns) (demand : List ℤ) (fleet : Fleet) (visits lengths ids : List ℕ) (costs : List Float) (floor : Float) (n k : ℕ)
+    (deltas : KeptDeltas) → KeptIn c demand fleet (plan_in n visits lengths ids costs) floor k deltas
+    → KeptIn c demand fleet (plan_of visits (take (n - 0) (drop 0 lengths)) (take (n - 0) (drop 0 ids)) (take (n - 0) (drop 0 costs))) floor k deltas
+kept_part c demand fleet visits lengths ids costs floor n k deltas h = rw (part n lengths, part n ids, part n costs) h
 
 -- the search of the first n, lent
 pub chosen_in : (c : Columns) (demand : List ℤ) (fleet : Fleet) (l n : ℕ) (visits lengths ids : List ℕ) (costs : List Float)
@@ -177,45 +178,37 @@ module _ (c : Columns) (demand : List ℤ) (fleet : Fleet) (floor : Float) (l n 
     (live : Live l visits lengths ids costs n) (enough : floor ≡ gain_floor (scale_of c.distances)) (best : Choice)
     (is : best ≡ best_of c demand fleet (plan_of visits (take (n - 0) (drop 0 lengths)) (take (n - 0) (drop 0 ids)) (take (n - 0) (drop 0 costs)))
     (nothing floor))
-    (visits' lengths' ids' : List ℕ) (costs' : List Float) (deltas : List Float) (kept one other : ℕ)
-    (right : Kept c demand fleet (plan_of visits (take (n - 0) (drop 0 lengths)) (take (n - 0) (drop 0 ids)) (take (n - 0) (drop 0 costs))) floor kept one other
+    (visits' lengths' ids' : List ℕ) (costs' : List Float) (deltas deltas' : KeptDeltas)
+    (right : KeptIn c demand fleet (plan_of visits (take (n - 0) (drop 0 lengths)) (take (n - 0) (drop 0 ids)) (take (n - 0) (drop 0 costs))) floor
     (16 * length (take (n - 0) (drop 0 lengths))) deltas)
-    (r : Turn) (out : MadeFound n visits lengths ids costs visits' lengths' ids' costs' r room best)
     (long-lengths : length lengths' ≡ length lengths) (long-ids : length ids' ≡ length ids) (long-costs : length costs' ≡ length costs) where
   chosen : Chosen c demand fleet visits (take n lengths) (take n ids) (take n costs) best
   chosen = chosen_in c demand fleet l n visits lengths ids costs live floor enough best is
 
-  -- the turn found what the search found
-  as_found : (b : Bool) → has_found r ≡ b → is_found best ≡ b
-  as_found b e = ap (λ k. eqb k 1) (sym out.found_is) ∙ e
-
-  moved_on : is_found best ≡ true → room ≡ true → Moved c demand fleet floor l n visits lengths ids costs visits' lengths' ids' costs' deltas r
-  moved_on e free =
-      let now = out.moving e free in
-      let on = made_on l visits lengths ids costs n live _ _ _ visits' lengths' ids' costs' r.left now.made long-lengths long-ids long-costs in
+  moved_to : (left : ℕ) → is_found best ≡ true → MadeBest n visits lengths ids costs visits' lengths' ids' costs' deltas deltas' best left
+      → Moved c demand fleet floor l n visits lengths ids costs visits' lengths' ids' costs' deltas' left
+  moved_to left e now =
+      let on = made_on l visits lengths ids costs n live _ _ _ visits' lengths' ids' costs' left now.made long-lengths long-ids long-costs in
       let many = lists-now l visits lengths ids costs n live in
       let few-lists = live.held.laid.few in
       record {
-        is_made = now.is_made;
         leads = a_next c demand fleet visits (take n lengths) (take n ids) (take n costs) best chosen e
             ∙ ap (λ (q : Plan). some (record { now = q; ahead = [] })) (sym on.1);
         live = on.0;
         same = now.made.made.same;
-        kept = rw (now.one_is, now.other_is) (kept_moved c demand fleet (plan_in n visits lengths ids costs) floor
-            best.chosen best.cost1 best.cost2
-            (many_ids l visits lengths ids costs n live ∙ sym many) (many_costs l visits lengths ids costs n live ∙ sym many) n r.left kept one other
-            deltas _ on.1 many (omega (arith, many_lengths l visits lengths ids costs n live, few-lists))
-            (lists-now l visits' lengths' ids' costs' r.left on.0)
-            (rw (part n lengths, part n ids, part n costs, many_lengths l visits lengths ids costs n live) at right) r.kept now.kept_is);
+        kept = rw now.deltas_are (record {
+          long = right.long;
+          right = kept_moved c demand fleet (plan_in n visits lengths ids costs) floor
+              best.chosen best.cost1 best.cost2
+              (many_ids l visits lengths ids costs n live ∙ sym many) (many_costs l visits lengths ids costs n live ∙ sym many) n left
+              deltas.kept deltas.one deltas.other deltas.deltas _ on.1 many (omega (arith, many_lengths l visits lengths ids costs n live, few-lists))
+              (lists-now l visits' lengths' ids' costs' left on.0)
+              (rw (part n lengths, part n ids, part n costs, many_lengths l visits lengths ids costs n live) at right.right) _ refl;
+        });
       }
 
-  pub turned : Turned c demand fleet floor l n visits lengths ids costs visits' lengths' ids' costs' deltas r room
-  turned = record {
-    settled = λ e. (
-      no_next c demand fleet visits (take n lengths) (take n ids) (take n costs) best chosen (as_found false e),
-      out.settled (as_found false e),
-    );
-    leads_on = λ e. (_, a_next c demand fleet visits (take n lengths) (take n ids) (take n costs) best chosen (as_found true e));
-    stopped = λ e free. out.stopped (as_found true e) free;
-    moving = λ e free. moved_on (as_found true e) free;
-  }
+  pub turned : (r : Turn) → MadeFound n visits lengths ids costs visits' lengths' ids' costs' deltas deltas' room best r
+      → Turned c demand fleet floor l n visits lengths ids costs visits' lengths' ids' costs' deltas' room r
+  turned NoGain out = (no_next c demand fleet visits (take n lengths) (take n ids) (take n costs) best chosen out.0, out.1)
+  turned NoRoom out = ((_, a_next c demand fleet visits (take n lengths) (take n ids) (take n costs) best chosen out.0), out.1, out.2)
+  turned (Left left) out = (out.1, moved_to left out.0 out.2)

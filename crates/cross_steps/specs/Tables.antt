@@ -1,5 +1,5 @@
 -- What a turn of a run makes of the tables: for the contracts of its functions. Assumes nothing.
-use Rattle.std.specs.Prelude.{◌≡◌, Bool, true, false, List, [], ℕ, ◌-◌, ◌≤◌, eqb, ℤ, length, take, drop, replicate, Float}
+use Rattle.std.specs.Prelude.{◌≡◌, Bool, true, false, List, [], ℕ, ◌-◌, ◌≤◌, ℤ, length, take, drop, replicate, Float}
 use Rattle.std.proofs.Math.Option.{Option, none, some}
 use Rattle.edits.specs.Total.{SameVisits}
 use Rattle.labels.specs.Columns.{Columns}
@@ -11,8 +11,10 @@ use Rattle.cross_moves.specs.declared.pair.Move.{Move}
 use Rattle.cross_changes.specs.Tables.{Makes, Made}
 use Rattle.cross_choices.specs.Scan.{is_found, move_of}
 use Rattle.cross_choices.specs.declared.Choice.{Choice}
-use Rattle.cross_deltas.specs.Deltas.{Kept, kept_of}
+use Rattle.cross_deltas.specs.Deltas.{KeptIn, kept_of, moved_on}
+use Rattle.cross_deltas.specs.declared.KeptDeltas.{KeptDeltas}
 use Rattle.cross_steps.specs.declared.Turn.{Turn}
+use Rattle.cross_steps.specs.declared.Turn.TheVariants.{NoGain, NoRoom, Left}
 
 -- ---- the tables of a run
 
@@ -31,14 +33,6 @@ pub record Live (l : ℕ) (visits lengths ids : List ℕ) (costs : List Float) (
 
 -- ---- a move
 
--- a turn found a move
-abbrev pub has_found : Turn → Bool
-has_found r = eqb r.found 1
-
--- and made it
-abbrev pub was_made : Turn → Bool
-was_made r = eqb r.made 1
-
 -- of the choice of a search: it is the definition's, and where there is a move it can be made, and its costs are those of its two lists
 pub record Chosen (c : Columns) (demand : List ℤ) (fleet : Fleet) (visits lengths ids : List ℕ) (costs : List Float) (r : Choice) : Type 0 where
   pub taken_is : move_of r ≡ taken (search_of c demand fleet) (judge_of c demand fleet) (plan_of visits lengths ids costs) tt
@@ -54,30 +48,25 @@ pub record MadeIn (n : ℕ) (m : Move) (cost1 cost2 : Float) (visits lengths ids
   pub other_ids : drop n ids' ≡ drop n ids
   pub other_costs : drop n costs' ≡ drop n costs
 
-module _ (n : ℕ) (visits lengths ids : List ℕ) (costs : List Float) (visits' lengths' ids' : List ℕ) (costs' : List Float) (r : Turn) where
+module _ (n : ℕ) (visits lengths ids : List ℕ) (costs : List Float) (visits' lengths' ids' : List ℕ) (costs' : List Float) where
   -- nothing was made
   pub record AsWas : Type 0 where
-    pub not_made : was_made r ≡ false
     pub same_visits : visits' ≡ visits
     pub same_lengths : lengths' ≡ lengths
     pub same_ids : ids' ≡ ids
     pub same_costs : costs' ≡ costs
-    pub all_left : r.left ≡ n
 
-  -- a choice's move was made
-  pub record MadeBest (best : Choice) : Type 0 where
-    pub is_made : was_made r ≡ true
-    pub made : MadeIn n best.chosen best.cost1 best.cost2 visits lengths ids costs visits' lengths' ids' costs' r.left
-    pub kept_is : r.kept ≡ kept_of n r.left
-    pub one_is : r.one ≡ best.chosen.one
-    pub other_is : r.other ≡ best.chosen.other
+  module _ (deltas deltas' : KeptDeltas) where
+    -- a choice's move was made, and so many lists are left
+    pub record MadeBest (best : Choice) (left : ℕ) : Type 0 where
+      pub made : MadeIn n best.chosen best.cost1 best.cost2 visits lengths ids costs visits' lengths' ids' costs' left
+      pub deltas_are : deltas' ≡ moved_on deltas (kept_of n left) best.chosen.one best.chosen.other
 
-  -- a choice's move was made if there is one and room for it
-  pub record MadeFound (room : Bool) (best : Choice) : Type 0 where
-    pub found_is : r.found ≡ best.found
-    pub settled : is_found best ≡ false → AsWas
-    pub stopped : is_found best ≡ true → room ≡ false → AsWas
-    pub moving : is_found best ≡ true → room ≡ true → MadeBest best
+    -- a choice's move was made if there is one and room for it
+    abbrev pub MadeFound : Bool → Choice → Turn → Type 0
+    MadeFound room best NoGain = (is_found best ≡ false) × AsWas
+    MadeFound room best NoRoom = (is_found best ≡ true) × (room ≡ false) × AsWas
+    MadeFound room best (Left left) = (is_found best ≡ true) × (room ≡ true) × MadeBest best left
 
 -- ---- a turn
 
@@ -87,18 +76,17 @@ module _ (c : Columns) (demand : List ℤ) (fleet : Fleet) where
   step_from p = next (search_of c demand fleet) (judge_of c demand fleet) (record { now = p; ahead = [] })
 
   module _ (floor : Float) (l n : ℕ) (visits lengths ids : List ℕ) (costs : List Float) (visits' lengths' ids' : List ℕ) (costs' : List Float)
-      (deltas : List Float) (r : Turn) where
+      (deltas : KeptDeltas) where
     -- a move was made: the tables hold the plan that the step leads to, and the table of least deltas has the pairs that it left as they were
-    pub record Moved : Type 0 where
-      pub is_made : was_made r ≡ true
-      pub leads : step_from (plan_in n visits lengths ids costs) ≡ some (record { now = plan_in r.left visits' lengths' ids' costs'; ahead = [] })
-      pub live : Live l visits' lengths' ids' costs' r.left
+    pub record Moved (left : ℕ) : Type 0 where
+      pub leads : step_from (plan_in n visits lengths ids costs) ≡ some (record { now = plan_in left visits' lengths' ids' costs'; ahead = [] })
+      pub live : Live l visits' lengths' ids' costs' left
       pub same : SameVisits visits visits'
-      pub kept : Kept c demand fleet (plan_in r.left visits' lengths' ids' costs') floor r.kept r.one r.other 0 deltas
+      pub kept : KeptIn c demand fleet (plan_in left visits' lengths' ids' costs') floor 0 deltas
 
-    -- a turn finds a move if the step leads on, and makes it if there is room
-    pub record Turned (room : Bool) : Type 0 where
-      pub settled : has_found r ≡ false → (step_from (plan_in n visits lengths ids costs) ≡ none) × AsWas n visits lengths ids costs visits' lengths' ids' costs' r
-      pub leads_on : has_found r ≡ true → (s : Sweep Plan Unit) × (step_from (plan_in n visits lengths ids costs) ≡ some s)
-      pub stopped : has_found r ≡ true → room ≡ false → AsWas n visits lengths ids costs visits' lengths' ids' costs' r
-      pub moving : has_found r ≡ true → room ≡ true → Moved
+    -- no move gains if the step leads nowhere, and one that gains is made if there is room
+    abbrev pub Turned : Bool → Turn → Type 0
+    Turned room NoGain = (step_from (plan_in n visits lengths ids costs) ≡ none) × AsWas n visits lengths ids costs visits' lengths' ids' costs'
+    Turned room NoRoom = ((s : Sweep Plan Unit) × (step_from (plan_in n visits lengths ids costs) ≡ some s)) × (room ≡ false)
+        × AsWas n visits lengths ids costs visits' lengths' ids' costs'
+    Turned room (Left left) = (room ≡ true) × Moved left

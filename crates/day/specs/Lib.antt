@@ -1,5 +1,6 @@
 pub mod Day
 pub mod Matrix
+pub mod Legs
 pub mod Customer
 pub mod Vehicle
 pub mod Refusal

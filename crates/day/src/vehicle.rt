@@ -3,7 +3,6 @@ ghost use Rattle.std.specs.Prelude.{◌≡◌};
 ghost use Rattle.day.specs.Vehicle.{route_cost, fixed_cost_in_distance, limits_of, rest_of, keeps, allows, is_unlimited};
 
 use crate::flags::{flag0, flag1, flag2};
-use tests::both;
 
 // A van as it is lent. Flags: bit 0 distance limit, bit 1 duration limit, bit 2 break.
 #[repr(C)]
@@ -88,15 +87,11 @@ impl RouteLimits {
     }
 
     // Whether a list of this distance that is back at this time keeps both limits.
+    #[tactic(auto, unfolding(crate::specs::Vehicle::allows))]
     pub fn allow(self, distance: f64, duration: f64) -> bool
         ensures { result ≡ allows self distance duration }
     {
-        let max_distance = self.max_distance;
-        let max_duration = self.max_duration;
-        both(
-            keeps_limit(max_distance, distance),
-            keeps_limit(max_duration, duration),
-        )
+        keeps_limit(self.max_distance, distance) && keeps_limit(self.max_duration, duration)
     }
 
     // Whether nothing is set: no limit, no break.

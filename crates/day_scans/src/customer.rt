@@ -3,7 +3,6 @@ ghost use Rattle.std.specs.Prelude.{◌≡◌};
 ghost use Rattle.day.specs.Customer.{leading, num_depots, has_time_windows, has_soft_windows, is_soft};
 
 use day::flags::{flag0, flag1, flag2};
-use tests::both;
 
 // How many flagged locations lead the table.
 fn leading_flagged(flags: &[u8]) -> usize
@@ -34,7 +33,7 @@ pub fn has_time_windows(flags: &[u8]) -> bool
 fn is_soft(f: u8) -> bool
     ensures { result ≡ is_soft f }
 {
-    both(flag1(f), flag2(f))
+    flag1(f) && flag2(f)
 }
 
 // Whether a location has a soft window.

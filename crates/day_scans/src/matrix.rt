@@ -4,9 +4,9 @@ ghost use Rattle.std.specs.Float.{nan};
 ghost use Rattle.std.specs.Float.Ieee.{lt};
 ghost use Rattle.numbers.specs.Total.{largest};
 ghost use Rattle.tests.specs.All.{all_four};
-ghost use Rattle.day.specs.Matrix.{scale_of, mirrored, symmetric, Square};
+ghost use Rattle.day.specs.Matrix.{scale_of, mirrored, symmetric};
 
-use day::matrix::get;
+use day::matrix::Matrix;
 use numbers::larger_of;
 
 // Whether none of the four entries from a position on is larger than `most`.
@@ -64,12 +64,12 @@ pub fn scale(distances: &[f64]) -> f64
 }
 
 // Whether a row's entries left of the diagonal equal their mirrors.
-fn row_mirrored(l: usize, distances: &[f64], from: usize) -> bool
-    requires { Square l distances.now × (from < l) }
-    ensures { result ≡ mirrored l distances.now from }
+fn row_mirrored(distances: &Matrix, from: usize) -> bool
+    requires { from < distances.now.size }
+    ensures { result ≡ mirrored distances.now.size distances.now.entries.now from }
 {
     for to in 0..from {
-        if get(l, distances, from, to) != get(l, distances, to, from) {
+        if distances.get(from, to) != distances.get(to, from) {
             return false;
         }
     }
@@ -77,12 +77,11 @@ fn row_mirrored(l: usize, distances: &[f64], from: usize) -> bool
 }
 
 // Whether each entry equals its mirror. It stops at the first row that differs.
-pub fn is_symmetric(l: usize, distances: &[f64]) -> bool
-    requires { Square l distances.now }
-    ensures { result ≡ symmetric l distances.now }
+pub fn is_symmetric(distances: &Matrix) -> bool
+    ensures { result ≡ symmetric distances.now.size distances.now.entries.now }
 {
-    for from in 0..l {
-        if !row_mirrored(l, distances, from) {
+    for from in 0..distances.size {
+        if !row_mirrored(distances, from) {
             return false;
         }
     }

@@ -3,19 +3,18 @@
 #![tactic(auto)]
 
 ghost use Rattle.std.specs.Prelude.{◌≡◌, ◌<◌, length};
-ghost use Rattle.day.specs.Matrix.{leg, Square};
+ghost use Rattle.day.specs.Legs.{leg_of};
 ghost use Rattle.deltas.specs.Changes.{Placed, turned_if, plus_if, through, through_if, pattern_change};
 ghost use Rattle.deltas.specs.Deltas.{Listed, Marked, cut_at};
 
-use day::matrix::get;
+use day::matrix::Matrix;
 use deltas::{Cut, Ends};
 use deltas_within::reversal_delta;
 use stops::{around, ends_of};
 
 // 3-opt: the list cut behind its visits i, j and k.
 pub fn cut_at(
-    l: usize,
-    distances: &[f64],
+    matrix: &Matrix,
     symmetric: bool,
     depot: usize,
     list: &[u16],
@@ -23,15 +22,15 @@ pub fn cut_at(
     j: usize,
     k: usize,
 ) -> Cut
-    requires square { Square l distances.now × Marked l distances.now symmetric × Listed l depot list.now }
+    requires listed { Marked matrix.now.size matrix.now.entries.now symmetric × Listed matrix.now.size depot list.now }
     requires i_lt_j { (i < j) × (j < k) × (k < length list.now) }
-    ensures { result ≡ cut_at (leg l distances.now) depot list.now i j k }
+    ensures { result ≡ cut_at (leg_of matrix.now) depot list.now i j k }
 {
     let stops = around(depot, list, i + 1, k + 1);
     let b = ends_of(depot, list, i + 1, j + 1);
     let c = ends_of(depot, list, j + 1, k + 1);
-    let b_inside = reversal_delta(l, distances, symmetric, list, i + 1, j);
-    let c_inside = reversal_delta(l, distances, symmetric, list, j + 1, k);
+    let b_inside = reversal_delta(matrix, symmetric, list, i + 1, j);
+    let c_inside = reversal_delta(matrix, symmetric, list, j + 1, k);
     Cut {
         around: stops,
         b,
@@ -42,31 +41,24 @@ pub fn cut_at(
 }
 
 // The three legs by way of one piece and another.
-fn through(l: usize, distances: &[f64], around: Ends, one: Ends, other: Ends) -> f64
-    requires { Square l distances.now × Placed l around × Placed l one × Placed l other }
-    ensures { result ≡ through (leg l distances.now) around one other }
+fn through(matrix: &Matrix, around: Ends, one: Ends, other: Ends) -> f64
+    requires { Placed matrix.now.size around × Placed matrix.now.size one × Placed matrix.now.size other }
+    ensures { result ≡ through (leg_of matrix.now) around one other }
 {
-    get(l, distances, around.from, one.from)
-        + get(l, distances, one.to, other.from)
-        + get(l, distances, other.to, around.to)
+    matrix.get(around.from, one.from)
+        + matrix.get(one.to, other.from)
+        + matrix.get(other.to, around.to)
 }
 
 // The same in order, or exchanged.
-fn through_if(
-    l: usize,
-    distances: &[f64],
-    exchanged: bool,
-    around: Ends,
-    one: Ends,
-    other: Ends,
-) -> f64
-    requires { Square l distances.now × Placed l around × Placed l one × Placed l other }
-    ensures { result ≡ through_if (leg l distances.now) exchanged around one other }
+fn through_if(matrix: &Matrix, exchanged: bool, around: Ends, one: Ends, other: Ends) -> f64
+    requires { Placed matrix.now.size around × Placed matrix.now.size one × Placed matrix.now.size other }
+    ensures { result ≡ through_if (leg_of matrix.now) exchanged around one other }
 {
     if exchanged {
-        return through(l, distances, around, other, one);
+        return through(matrix, around, other, one);
     }
-    through(l, distances, around, one, other)
+    through(matrix, around, one, other)
 }
 
 // The ends of a piece as it is, or turned round.
@@ -92,25 +84,25 @@ fn plus_if(turned: bool, sum: f64, inside: f64) -> f64
     sum
 }
 
-// 3-opt: B and C exchanged or not, B turned or not, C turned or not, against the list as it is.
+// 3-opt: B and C exchanged or not, B turned or not, C turned or not, against the list as it is. Three bools, not layouts' `Way`: that lies above, where lists are
+// laid out.
 pub fn pattern_change(
-    l: usize,
-    distances: &[f64],
+    matrix: &Matrix,
     cut: Cut,
     exchanged: bool,
     b_turned: bool,
     c_turned: bool,
 ) -> f64
-    requires { Square l distances.now × Placed l cut.around × Placed l cut.b × Placed l cut.c }
-    ensures { result ≡ pattern_change (leg l distances.now) cut exchanged b_turned c_turned }
+    requires { Placed matrix.now.size cut.around × Placed matrix.now.size cut.b × Placed matrix.now.size cut.c }
+    ensures { result ≡ pattern_change (leg_of matrix.now) cut exchanged b_turned c_turned }
 {
     let stops = cut.around;
     let b = cut.b;
     let c = cut.c;
     let new_b = turned_if(b_turned, b);
     let new_c = turned_if(c_turned, c);
-    let legs = through_if(l, distances, exchanged, stops, new_b, new_c);
+    let legs = through_if(matrix, exchanged, stops, new_b, new_c);
     let with_b = plus_if(b_turned, legs, cut.b_inside);
     let cost = plus_if(c_turned, with_b, cut.c_inside);
-    cost - through(l, distances, stops, b, c)
+    cost - through(matrix, stops, b, c)
 }

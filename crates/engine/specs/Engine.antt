@@ -1,5 +1,7 @@
 -- What every engine shares: when a candidate passes, what it is judged by, and how a run's end is answered. For the engines' contracts. Assumes nothing.
-use Rattle.std.specs.Prelude.{ℕ, List, Bool, not, ◌||◌, Float}
+use Rattle.std.specs.Prelude.{◌≡◌, ℕ, List, Bool, not, ◌||◌, Float, Option, Some, None}
+use Rattle.std.proofs.Math.Option as maybe
+use Rattle.std.proofs.Math.Option.{none, some}
 use Rattle.day.specs.declared.vehicle.RouteLimits.{RouteLimits}
 use Rattle.labels.specs.Columns.{Columns}
 use Rattle.evaluation.specs.Route.{feasible, checks_needed}
@@ -25,3 +27,16 @@ map_of l distances depot fixed = record { l = l; distances = distances; depot = 
 unfoldable pub ended_as : Word → ℕ → Ended
 ended_as settled moves = Settled moves
 ended_as stopped moves = Stopped moves
+
+-- what a search for the next move answers: the definition has none, and the run stands where it stood; or a move that can be made, that leaves what was before it
+-- was found, and leads where the definition's does
+unfoldable pub Leads : {State Move : Type 0} → maybe.Option State → State → State → (Move → Type 0) → (Move → State) → (Move → State) → Option Move → Type 0
+Leads next old new apt before after None = (next ≡ none) × (new ≡ old)
+Leads next old new apt before after (Some move) = apt move × (before move ≡ old) × (next ≡ some (after move))
+
+-- what stays the same over a run on one list: the day's columns, the run's constants, which list was lent, and how many visits it has
+pub record OneList (Terms : Type 0) : Type 0 where
+  pub columns : Columns
+  pub terms : Terms
+  pub list : ℕ
+  pub visits : ℕ

@@ -1,3 +1,4 @@
 pub mod Route
 pub mod Unclocked
 pub mod Distance
+pub mod Drive

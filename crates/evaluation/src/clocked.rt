@@ -1,39 +1,14 @@
-// Whether a list passes, by its clock. How late the van is at a soft window isn't asked, so that the compiler leaves the lateness of each label out.
+// Whether a list passes, by its clock. How late the van is at a soft window isn't asked, so that the compiler leaves it out of the drive.
 ghost use Rattle.std.specs.Prelude.{◌≡◌, ◌<◌};
 ghost use Rattle.labels.specs.Columns.{Visits};
 ghost use Rattle.labels.specs.Lent.{lent};
-ghost use Rattle.evaluation.specs.Route.{unbroken, allowed, feasible};
+ghost use Rattle.evaluation.specs.Route.{allowed, feasible};
 
+use crate::drive::Drive;
 use crate::route::outcome_of;
 use break_clock::Scheduled;
 use day::vehicle::RouteLimits;
 use labels::columns::Columns;
-use labels::label::{at_start, serve};
-
-// Whether a list with no break to take passes.
-fn unbroken_feasible(columns: &Columns, limits: RouteLimits, depot: usize, list: &[u16]) -> bool
-    requires { (depot < columns.now.locations) × Visits columns.now.locations list.now }
-    ensures { result ≡ allowed limits (unbroken (lent columns.now) depot list.now) }
-{
-    let mut label = at_start();
-    let mut distance = 0.0;
-    let mut place = depot;
-    for visit in list {
-        let visit = *visit as usize;
-        distance = distance + columns.distance(place, visit);
-        let travel = columns.travel_time(place, visit);
-        let stop = columns.stop(visit);
-        let reached = serve(label, travel, stop);
-        let Some(next) = reached else {
-            return false;
-        };
-        label = next;
-        place = visit;
-    }
-    distance = distance + columns.distance(place, depot);
-    let back = columns.travel_time(place, depot);
-    limits.allow(distance, label.time + back)
-}
 
 // Whether a list that ends so passes.
 #[tactic(auto, unfolding(crate::specs::Route::allowed))]
@@ -49,8 +24,12 @@ pub fn clocked_feasible(columns: &Columns, limits: RouteLimits, depot: usize, li
     ensures { result ≡ feasible (lent columns.now) limits depot list.now }
 {
     let rest = limits.rest;
+    // Asked here and in route_eval, and not once in outcome_of: what a drive answers would go through memory beside the break's call (PROOFS, Speed).
     match rest {
-        None => unbroken_feasible(columns, limits, depot, list),
+        None => {
+            let driven = Drive::begin(depot).home(columns, depot, list);
+            is_allowed(limits, driven)
+        }
         Some(_) => {
             let outcome = outcome_of(columns, rest, depot, list);
             is_allowed(limits, outcome)

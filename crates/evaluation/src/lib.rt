@@ -5,6 +5,7 @@
 #![tactic(auto)]
 
 pub mod unclocked; // the distance of a list that needs no clock
+pub mod drive; // a list driven with no break to take
 pub mod clocked; // whether a list passes, by its clock
 pub mod route; // the check, the evaluation and the price of a list
 pub mod distance; // the distance of a list

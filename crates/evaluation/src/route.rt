@@ -2,15 +2,15 @@
 ghost use Rattle.std.specs.Prelude.{◌≡◌, ◌<◌};
 ghost use Rattle.labels.specs.Columns.{Visits};
 ghost use Rattle.labels.specs.Lent.{lent};
-ghost use Rattle.evaluation.specs.Route.{unbroken, outcome, evaluated, feasible, eval, priced_distance, cost_of, effective_cost, checks_needed};
+ghost use Rattle.evaluation.specs.Route.{outcome, evaluated, feasible, eval, priced_distance, cost_of, effective_cost, checks_needed};
 
 use crate::clocked::clocked_feasible;
+use crate::drive::Drive;
 use crate::unclocked::{is_clockless, unclocked_distance};
-use break_clock::{Scheduled, end_with, schedule};
+use break_clock::{Scheduled, schedule};
 use day::vehicle::{RouteLimits, VehicleBreak};
 use day_scans::customer::has_time_windows;
 use labels::columns::Columns;
-use labels::label::{at_start, serve};
 use numbers::infinite;
 
 // What a list that passes comes to.
@@ -35,31 +35,6 @@ impl RouteEval {
     }
 }
 
-// The clock of a list with no break to take: one label. None where a hard window can't be kept.
-fn unbroken_schedule(columns: &Columns, depot: usize, list: &[u16]) -> Option<Scheduled>
-    requires { (depot < columns.now.locations) × Visits columns.now.locations list.now }
-    ensures { result ≡ unbroken (lent columns.now) depot list.now }
-{
-    let mut label = at_start();
-    let mut distance = 0.0;
-    let mut place = depot;
-    for visit in list {
-        let visit = *visit as usize;
-        distance = distance + columns.distance(place, visit);
-        let travel = columns.travel_time(place, visit);
-        let stop = columns.stop(visit);
-        let reached = serve(label, travel, stop);
-        let Some(next) = reached else {
-            return None;
-        };
-        label = next;
-        place = visit;
-    }
-    distance = distance + columns.distance(place, depot);
-    let back = columns.travel_time(place, depot);
-    end_with(label, None, distance, back)
-}
-
 // The clock of a list, with the break where there is one.
 pub fn outcome_of(
     columns: &Columns,
@@ -71,7 +46,7 @@ pub fn outcome_of(
     ensures { result ≡ outcome (lent columns.now) rest depot list.now }
 {
     match rest {
-        None => unbroken_schedule(columns, depot, list),
+        None => Drive::begin(depot).home(columns, depot, list),
         Some(pause) => schedule(columns, pause, depot, list),
     }
 }
@@ -96,48 +71,12 @@ pub fn route_feasible(columns: &Columns, limits: RouteLimits, depot: usize, list
     ensures { result ≡ feasible (lent columns.now) limits depot list.now }
 {
     if is_clockless(limits) {
-        let free = unclocked_distance(
-            columns.locations,
-            columns.flags,
-            columns.distances,
-            depot,
-            list,
-        );
+        let free = unclocked_distance(&columns.matrix(), columns.flags, depot, list);
         if let Some(distance) = free {
             return limits.allow(distance, 0.0);
         }
     }
     clocked_feasible(columns, limits, depot, list)
-}
-
-// What a list with no break to take comes to.
-fn unbroken_eval(
-    columns: &Columns,
-    limits: RouteLimits,
-    depot: usize,
-    list: &[u16],
-) -> Option<RouteEval>
-    requires { (depot < columns.now.locations) × Visits columns.now.locations list.now }
-    ensures { result ≡ evaluated limits (unbroken (lent columns.now) depot list.now) }
-{
-    let mut label = at_start();
-    let mut distance = 0.0;
-    let mut place = depot;
-    for visit in list {
-        let visit = *visit as usize;
-        distance = distance + columns.distance(place, visit);
-        let travel = columns.travel_time(place, visit);
-        let stop = columns.stop(visit);
-        let reached = serve(label, travel, stop);
-        let Some(next) = reached else {
-            return None;
-        };
-        label = next;
-        place = visit;
-    }
-    let whole = distance + columns.distance(place, depot);
-    let back = columns.travel_time(place, depot);
-    evaluate(limits, end_with(label, None, whole, back))
 }
 
 // The distance, duration and lateness of a list that passes. None where a hard window can't be kept, the break can't be placed, or a limit is broken.
@@ -151,8 +90,12 @@ pub fn route_eval(
     ensures { result ≡ eval (lent columns.now) limits depot list.now }
 {
     let rest = limits.rest;
+    // As in clocked_feasible.
     match rest {
-        None => unbroken_eval(columns, limits, depot, list),
+        None => {
+            let driven = Drive::begin(depot).home(columns, depot, list);
+            evaluate(limits, driven)
+        }
         Some(_) => {
             let outcome = outcome_of(columns, rest, depot, list);
             evaluate(limits, outcome)
@@ -167,6 +110,13 @@ fn cost_of(evaluation: Option<RouteEval>) -> f64
     evaluation.map_or(infinite(), |e| e.priced_distance())
 }
 
+// What a list costs that ends so: the priced distance, infinite where it fails.
+pub fn price(limits: RouteLimits, outcome: Option<Scheduled>) -> f64
+    ensures { result ≡ cost_of (evaluated limits outcome) }
+{
+    cost_of(evaluate(limits, outcome))
+}
+
 // What a search with soft windows minimises: the priced distance, infinite where the list fails.
 pub fn effective_cost(columns: &Columns, limits: RouteLimits, depot: usize, list: &[u16]) -> f64
     requires { (depot < columns.now.locations) × Visits columns.now.locations list.now }
@@ -174,7 +124,7 @@ pub fn effective_cost(columns: &Columns, limits: RouteLimits, depot: usize, list
 {
     let rest = limits.rest;
     let outcome = outcome_of(columns, rest, depot, list);
-    cost_of(evaluate(limits, outcome))
+    price(limits, outcome)
 }
 
 // Whether a search has to check its candidates at all: only where a location has a window or the van sets a limit.

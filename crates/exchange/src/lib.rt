@@ -1,76 +1,65 @@
 // Tail exchange between lists, in place (local_search/exchange.rs, where no window is soft). Potvin and Rousseau 1995, 2-opt*: two lists each keep a head
 // of one visit or more and exchange their tails; both loads and both lists pass.
 //
-// The next move is that of `exchange_sweeps`. After a move the sweep goes on with the next pair; a sweep with no move ends the run.
+// The run is that of `exchange_sweeps`, and the exchange of two lists that of `tails`. Nothing is kept beside the tables.
 
 #![tactic(auto)]
 
-ghost use Rattle.std.specs.Prelude.{◌≡◌, true, [], ◌∷◌, ◌<◌, pos, length};
+ghost use Rattle.std.specs.Prelude.{◌≡◌, true, [], ◌∷◌, ◌<◌, pos};
 ghost use Rattle.std.specs.Int.Signed.{le_z};
 ghost use Rattle.numbers.specs.Operations.{zero64};
 ghost use Rattle.lists.specs.Table.{lists};
 ghost use Rattle.list_changes.specs.Edits.{Edited};
 ghost use Rattle.descent.specs.Permitted.{tail_exchange};
-ghost use Rattle.descent.specs.Search.{run};
 ghost use Rattle.descent.specs.Engines.{run_of};
 ghost use Rattle.deltas.specs.Judged.{float_judge};
 ghost use Rattle.engine.specs.Engine.{checks_of, map_of, ended_as};
 ghost use Rattle.loads.specs.Loads.{boxes, Loaded, Held};
 ghost use Rattle.tail_candidates.specs.Candidate.{Asked};
-ghost use Rattle.exchange_sweeps.specs.Exchange.{next_of};
+ghost use Rattle.exchange.specs.Rules.{rules_of};
 ghost use Rattle.labels.specs.Lent.{lent};
 
 use day::vehicle::RouteLimits;
-use day_scans::matrix::scale;
 use engine::Ended;
-use evaluation::route::route_checks_needed;
-use exchange_sweeps::{Place, next_move, place_after};
+use exchange_sweeps::{Exchange, Place, TailSearch, run_moves};
 use labels::columns::Columns;
 use list_changes::exchange_tails;
-use loads::boxes_in;
-use numbers::gain_floor;
-use tail_candidates::Terms;
+use lists::list_of;
+use tail_candidates::{ByDistance, Cut, Terms, TwoLists};
+use tails::best_exchange;
 
-// Moves until none is left or the limit is used up. The run starts with nothing ahead, in front of a new sweep.
-fn run_moves(
-    columns: &Columns,
-    demand: &[i32],
+// A search where no window is soft: distances alone judge an exchange.
+#[derive(Drop)]
+pub struct Hard<'a> {
+    columns: &'a Columns<'a>,
+    demand: &'a [i32],
     terms: Terms,
-    visits: &mut [u16],
-    lengths: &mut [u16],
-    limit: u32,
-) -> Ended
-    requires asked { Asked (lent columns.now) demand.now terms }
-    requires held { Held columns.now.locations visits.old lengths.old }
-    ensures { let run = run (next_of (lent columns.now) demand.now terms)
-        limit (record { now = lists visits.old lengths.old; ahead = [] }) in Edited visits.old lengths.old visits.new lengths.new run.last.now
-        × (result ≡ ended_as run.word run.moves) }
-{
-    let n = lengths.len();
-    let mut moves = 0;
-    let mut ahead = Place {
-        one: n,
-        other: n + 1,
-    };
-    loop {
-        let found = next_move(columns, demand, terms, visits, lengths, ahead);
-        if found.cut1 == 0 {
-            return Ended::Settled(moves);
-        }
-        if limit <= moves {
-            return Ended::Stopped(moves);
-        }
-        let place = found.place;
-        exchange_tails(
-            visits,
-            lengths,
-            place.one,
-            place.other,
-            found.cut1,
-            found.cut2,
-        );
-        ahead = place_after(n, place);
-        moves += 1;
+    ghost asked: { Asked (lent columns.now) demand.now terms },
+}
+
+impl<'a> TailSearch for Hard<'a> {
+    ghost rules = { λ s. rules_of (lent s.columns.now) s.demand.now s.terms };
+
+    ghost Kept = { λ s ls. Unit {0} };
+
+    fn best_at(&self, visits: &[u16], lengths: &[u16], place: Place) -> Option<Cut> {
+        let one = list_of(visits, lengths, place.one);
+        let other = list_of(visits, lengths, place.other);
+        let two = TwoLists {
+            columns: self.columns,
+            demand: self.demand,
+            terms: self.terms,
+            one,
+            other,
+        };
+        let mut pair = ByDistance { two: &two };
+        best_exchange(&two, &mut pair).cut()
+    }
+
+    fn make(&mut self, visits: &mut [u16], lengths: &mut [u16], exchange: Exchange) {
+        let place = exchange.place;
+        let cut = exchange.cut;
+        exchange_tails(visits, lengths, place.one, place.other, cut.one, cut.other);
     }
 }
 
@@ -93,14 +82,11 @@ pub fn exchange_improve(
         in Edited visits.old lengths.old visits.new lengths.new run.last.now
         × (result ≡ ended_as run.word run.moves) }
 {
-    let floor = gain_floor(scale(columns.distances));
-    let needed = route_checks_needed(columns.flags, limits);
-    let terms = Terms {
-        depot,
-        limits,
-        capacity: boxes_in(capacity),
-        needed,
-        floor,
+    let terms = Terms::of(columns, limits, capacity, depot);
+    let mut search = Hard {
+        columns,
+        demand,
+        terms,
     };
-    run_moves(columns, demand, terms, visits, lengths, limit)
+    run_moves(&mut search, visits, lengths, limit)
 }

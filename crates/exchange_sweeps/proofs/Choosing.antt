@@ -2,31 +2,25 @@
 -- Assumes nothing.
 use mathlib.Core.Path.{◌≡◌, refl, sym, ap, ◌∙◌}
 use mathlib.Core.Bool.{Bool, true, false, cond, ◌&&◌}
-use mathlib.Core.Option.{Option, none}
+use mathlib.Core.Option.{Option as Maybe, none}
 use mathlib.Core.List.{List, [], ◌∷◌, ◌++◌, map}
 use Prim.Native.Nat.{ℕ, zero, suc, ◌-◌}
-use lib.IntN.{ℤ}
-use lib.ListN.{length}
 use lib.Ieee.{Float, lt, neg}
-use Rattle.numbers.specs.Floor.{gain_floor}
-use Rattle.day.specs.Matrix.{scale_of}
-use Rattle.labels.specs.Columns.{Columns}
-use Rattle.descent.specs.Order.{from_on, range, each, scan}
-use Rattle.descent.specs.Search.{ok, taken}
-use Rattle.descent.specs.Scan.{chosen, onward, figure, Counted}
-use Rattle.descent.specs.Across.{at, Pair, Tails}
-use Rattle.descent.proofs.Scanning.{onward_better, counted_better, onward_stays, onward_end}
+use Rattle.std.specs.Prelude.{Option}
 use Rattle.lists.specs.Table.{lists, list_of}
 use Rattle.lists.proofs.Tables.{at_lists}
-use Rattle.tail_candidates.specs.Candidate.{better_by}
-use Rattle.tails.specs.Best.{nothing, row_by, best_by, best_of}
-use Rattle.exchange_sweeps.specs.Exchange.{passes_of, judge_of, pair_at, moved_by, taken_at}
-use Rattle.tail_candidates.specs.declared.Terms.{Terms}
-use Rattle.exchange_sweeps.specs.declared.Place.{Place}
+use Rattle.descent.specs.Order.{from_on, range, each, scan}
+use Rattle.descent.specs.Scan.{onward, figure, Counted}
+use Rattle.descent.specs.Across.{at, Pair, Tails}
+use Rattle.descent.proofs.Scanning.{onward_better, counted_better, onward_stays, onward_end}
+use Rattle.tail_candidates.specs.Choice.{cut_of, nothing, better_by}
 use Rattle.tail_candidates.specs.declared.Choice.{Choice}
+use Rattle.tail_candidates.specs.declared.Cut.{Cut}
+use Rattle.tails.specs.Best.{row_by, best_by}
+use Rattle.exchange_sweeps.specs.Exchange.{Rules, pair_at, moved_by, taken_at}
+use Rattle.exchange_sweeps.specs.declared.Place.{Place}
 
--- ---- the exchanges of a pair, by what one changes and whether it passes
-
+-- the exchanges of a pair, by what one changes and whether it passes
 module _ (p : Pair) (delta : Tails → Float) (pass : Tails → Bool) (floor : Float) where
   abbrev tails : ℕ → ℕ → Tails
   tails i k = record { pair = p; cut1 = i; cut2 = k }
@@ -40,8 +34,8 @@ module _ (p : Pair) (delta : Tails → Float) (pass : Tails → Bool) (floor : F
   abbrev bound : Float
   bound = neg floor
 
-  abbrev moved : Choice → Option Tails
-  moved best = moved_by p best.cut1 best.cut2
+  abbrev moved : Choice → Maybe Tails
+  moved best = moved_by p (cut_of best.cut1 best.cut2)
 
   -- a best so far has the delta of its exchange, and counts
   record Known (best : Choice) : Type 0 where
@@ -55,7 +49,7 @@ module _ (p : Pair) (delta : Tails → Float) (pass : Tails → Bool) (floor : F
 
   one_more : (i k : ℕ) (best : Choice) (rest : List Tails) → Known best
       → Onward best (better_by change may_go (suc i) k best) (tails (suc i) k ∷ rest) rest
-  unfolding better_by moved_by lt figure
+  unfolding better_by moved_by cut_of lt figure
   one_more i k best rest known = go (lt (delta m) best.delta && pass m) refl
     where
       m : Tails
@@ -91,31 +85,23 @@ module _ (p : Pair) (delta : Tails → Float) (pass : Tails → Bool) (floor : F
       row.same ∙ rows_more (suc a) n n2 (row_by change may_go n2 (suc a) best) row.known
 
   known-nothing : Known (nothing floor)
-  unfolding moved_by figure Counted
+  unfolding moved_by cut_of figure Counted
   known-nothing = record { figured = refl; counted = tt }
 
   -- the best of all is the first least of all
   pub best_first : (n1 n2 : ℕ) → moved (best_by change may_go n1 n2 floor)
       ≡ onward delta pass bound none (each (range 1 (suc n1)) λ i. map (tails i) (range 1 (suc n2)))
-  unfolding best_by moved_by
+  unfolding best_by moved_by cut_of
   best_first n1 n2 = sym (rows_more 0 (suc n1 - 1) n2 (nothing floor) known-nothing)
 
--- ---- the exchanges of this engine
+-- by any rules, of two lists of the tables: where the best of two lists is what is taken there
+module _ (rules : Rules) (best_of : List ℕ → List ℕ → Choice) where
+  abbrev pub taken_of : List ℕ → List ℕ → Pair → Maybe Tails
+  taken_of X Y p = moved_by p (cut_of (best_of X Y).cut1 (best_of X Y).cut2)
 
-module _ (c : Columns) (demand : List ℤ) (t : Terms) (ls : List (List ℕ)) (p : Pair) where
-  -- the best of all is what is taken
-  best_taken : t.floor ≡ gain_floor (scale_of c.distances)
-      → moved_by p (best_of c demand t (at ls p.one) (at ls p.other)).cut1 (best_of c demand t (at ls p.one) (at ls p.other)).cut2
-      ≡ taken_at c demand t ls p
-  unfolding taken passes_of judge_of ok onward chosen
-  best_taken e =
-      rw e (best_first p ((judge_of c t).delta ls) (passes_of c demand t ls) (gain_floor (scale_of c.distances)) (length (at ls p.one))
-      (length (at ls p.other)))
-
--- so of two lists of the tables
-pub best_at : (c : Columns) (demand : List ℤ) (t : Terms) (visits lengths : List ℕ) (p : Place) (X₁ Y₁ : List ℕ) (best : Choice)
-    → t.floor ≡ gain_floor (scale_of c.distances) → X₁ ≡ list_of visits lengths p.one → Y₁ ≡ list_of visits lengths p.other
-    → best ≡ best_of c demand t X₁ Y₁ → moved_by (pair_at p) best.cut1 best.cut2 ≡ taken_at c demand t (lists visits lengths) (pair_at p)
-best_at c demand t visits lengths p X₁ Y₁ best floor e f q =
-    let ls = lists visits lengths in
-    rw (q, e, f, ← at_lists visits lengths p.one, ← at_lists visits lengths p.other) (best_taken c demand t ls (pair_at p) floor)
+  pub best_at : ((ls : List (List ℕ)) (p : Pair) → taken_of (at ls p.one) (at ls p.other) p ≡ taken_at rules ls p)
+      → (visits lengths : List ℕ) (p : Place) (X Y : List ℕ) (best : Choice) (found : Option Cut) → X ≡ list_of visits lengths p.one
+      → Y ≡ list_of visits lengths p.other → best ≡ best_of X Y → found ≡ cut_of best.cut1 best.cut2
+      → moved_by (pair_at p) found ≡ taken_at rules (lists visits lengths) (pair_at p)
+  best_at right visits lengths p X Y best found e f q is =
+      rw (is, q, e, f, ← at_lists visits lengths p.one, ← at_lists visits lengths p.other) (right (lists visits lengths) (pair_at p))

@@ -1,4 +1,4 @@
-pub mod Choosing
 pub mod Places
-pub mod Tables
 pub mod Moves
+pub mod Tables
+pub mod Choosing

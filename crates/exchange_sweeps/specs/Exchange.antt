@@ -1,47 +1,38 @@
--- Tail exchange as its functions state it: the exchange to take at a pair, the pairs of lists one after another, and where a move leads. For src/, `exchange`
--- and `soft_exchange`; the engine's own definition is `tail_exchange` of descent. Assumes nothing.
-use Rattle.std.specs.Prelude.{◌≡◌, Bool, cond, List, [], ◌∷◌, ◌++◌, map, ℕ, zero, suc, ◌+◌, ◌≤◌, ◌<◌, ltb, ℤ, length, Float}
-use Rattle.std.proofs.Math.Option.{Option, none, some}
-use Rattle.numbers.specs.Operations.{zero64}
-use Rattle.labels.specs.Columns.{Columns}
+-- Tail exchange as its functions state it: the exchange to take at a pair, the pairs of lists one after another, and where a move leads, whichever exchanges
+-- pass and however they are judged. For src/, `exchange` and `soft_exchange`, which give the rules. Assumes nothing.
+use Rattle.std.specs.Prelude.{Bool, cond, List, ◌++◌, map, ℕ, suc, ◌+◌, ◌≤◌, ◌<◌, ltb, length, Float, Option, Some, None}
+use Rattle.std.proofs.Math.Option.{Option as Maybe, none, some}
 use Rattle.list_changes.specs.Edits.{tails_exchanged, Cuts}
 use Rattle.descent.specs.Order.{range, each}
-use Rattle.descent.specs.Permitted.{tail_exchange}
 use Rattle.descent.specs.Search.{Search, Judge, Sweep, taken, first_move, next}
 use Rattle.descent.specs.Across.{Pair, Tails}
-use Rattle.descent.specs.Engines.{engine_search}
-use Rattle.deltas.specs.Judged.{float_judge}
-use Rattle.engine.specs.Engine.{map_of}
-use Rattle.tail_candidates.specs.Candidate.{checks_for}
 use Rattle.tails.specs.Best.{exchanging}
-use Rattle.tail_candidates.specs.declared.Terms.{Terms}
+use Rattle.tail_candidates.specs.declared.Cut.{Cut}
 use Rattle.exchange_sweeps.specs.declared.Place.{Place}
-use Rattle.exchange_sweeps.specs.declared.Found.{Found}
+use Rattle.exchange_sweeps.specs.declared.Exchange.{Exchange}
 
--- which exchanges pass on a day, with a van's terms
-unfoldable pub passes_of : Columns → List ℤ → Terms → List (List ℕ) → Tails → Bool
-passes_of c demand t = (engine_search tail_exchange (checks_for c demand t)).passes
+-- what a search goes by: the locations of its day, which exchanges pass, and how one is judged
+pub record Rules : Type 0 where
+  pub locations : ℕ
+  pub passes : List (List ℕ) → Tails → Bool
+  pub judge : Judge (List (List ℕ)) Tails Float
 
--- the engine's search
-abbrev pub search_of : Columns → List ℤ → Terms → Search (List (List ℕ)) Pair Tails
-search_of c demand t = exchanging (passes_of c demand t)
-
--- and how it judges a candidate; no delta reads the fixed cost
-unfoldable pub judge_of : Columns → Terms → Judge (List (List ℕ)) Tails Float
-judge_of c t = float_judge tail_exchange (map_of c.l c.distances t.depot zero64)
+-- the search by these rules
+abbrev pub search_of : Rules → Search (List (List ℕ)) Pair Tails
+search_of rules = exchanging rules.passes
 
 -- the pair of lists that a place is
 abbrev pub pair_at : Place → Pair
 pair_at p = record { one = p.one; other = p.other }
 
--- the exchange that two cuts of a pair are; a head of 0 visits says that there is none
-unfoldable pub moved_by : Pair → ℕ → ℕ → Option Tails
-moved_by p zero cut2 = none
-moved_by p (suc cut1) cut2 = some (record { pair = p; cut1 = suc cut1; cut2 = cut2 })
+-- the exchange that the cuts of a pair are
+unfoldable pub moved_by : Pair → Option Cut → Maybe Tails
+moved_by p None = none
+moved_by p (Some cut) = some (record { pair = p; cut1 = cut.one; cut2 = cut.other })
 
 -- the exchange to take at a pair
-abbrev pub taken_at : Columns → List ℤ → Terms → List (List ℕ) → Pair → Option Tails
-taken_at c demand t = taken (search_of c demand t) (judge_of c t)
+abbrev pub taken_at : Rules → List (List ℕ) → Pair → Maybe Tails
+taken_at rules = taken (search_of rules) rules.judge
 
 -- ---- the pairs of lists
 
@@ -65,23 +56,22 @@ pub record InSweep (n : ℕ) (p : Place) : Type 0 where
 -- ---- moves
 
 -- the first move at some pairs
-abbrev pub first_at : Columns → List ℤ → Terms → List (List ℕ) → List Pair → Option (Sweep (List (List ℕ)) Pair)
-first_at c demand t = first_move (search_of c demand t) (judge_of c t)
+abbrev pub first_at : Rules → List (List ℕ) → List Pair → Maybe (Sweep (List (List ℕ)) Pair)
+first_at rules = first_move (search_of rules) rules.judge
 
 -- the next move of a run
-abbrev pub next_of : Columns → List ℤ → Terms → Sweep (List (List ℕ)) Pair → Option (Sweep (List (List ℕ)) Pair)
-next_of c demand t = next (search_of c demand t) (judge_of c t)
+abbrev pub next_of : Rules → Sweep (List (List ℕ)) Pair → Maybe (Sweep (List (List ℕ)) Pair)
+next_of rules = next (search_of rules) rules.judge
 
--- where an exchange leads: the lists with the tails exchanged, and the pairs still ahead in this sweep
-unfoldable pub leads_by : List (List ℕ) → Place → ℕ → ℕ → Option (Sweep (List (List ℕ)) Pair)
-leads_by ls p zero cut2 = none
-leads_by ls p (suc cut1) cut2 =
-    some (record { now = tails_exchanged ls p.one p.other (suc cut1) cut2; ahead = from (length ls) (place_after (length ls) p) })
+-- the lists with an exchange made
+abbrev pub made_by : List (List ℕ) → Exchange → List (List ℕ)
+made_by ls e = tails_exchanged ls e.place.one e.place.other e.cut.one e.cut.other
 
--- so of what a search found
-abbrev pub leads : List (List ℕ) → Found → Option (Sweep (List (List ℕ)) Pair)
-leads ls f = leads_by ls f.place f.cut1 f.cut2
+-- where an exchange that was found leads: the lists with the tails exchanged, and the pairs still ahead in this sweep
+unfoldable pub leads : List (List ℕ) → Option Exchange → Maybe (Sweep (List (List ℕ)) Pair)
+leads ls None = none
+leads ls (Some e) = some (record { now = made_by ls e; ahead = from (length ls) (place_after (length ls) e.place) })
 
--- an exchange that was found can be made
-abbrev pub Apt : List ℕ → List ℕ → Found → Type 0
-Apt visits lengths f = (f.cut1 ≡ 0 → ⊥) → Cuts visits lengths f.place.one f.place.other f.cut1 f.cut2
+-- an exchange can be made
+abbrev pub Makeable : List ℕ → List ℕ → Exchange → Type 0
+Makeable visits lengths e = Cuts visits lengths e.place.one e.place.other e.cut.one e.cut.other

@@ -1,19 +1,19 @@
-// Tail exchange's next move (local_search/exchange.rs, where no window is soft): the pairs of lists r1 < r2 in turn, at each the best exchange of the two
-// (crate `tails`). The first that there is ends the search; behind the last pair comes a new sweep, once.
+// The sweeps of tail exchange (local_search/exchange.rs), where a window is soft or none is: the pairs of lists r1 < r2 in turn, at each the exchange that
+// the search takes there. The first that there is ends the search for a move; behind the last pair comes a new sweep, once. After a move the sweep goes on
+// with the next pair; a sweep with no move ends the run.
 
 #![tactic(auto)]
 
-ghost use Rattle.std.specs.Prelude.{◌≡◌, ◌<◌, length};
+ghost use Rattle.std.specs.Prelude.{◌≡◌, [], List, ◌<◌, ℕ, length, IfSome};
 ghost use Rattle.lists.specs.Table.{lists};
+ghost use Rattle.list_changes.specs.Edits.{Edited};
+ghost use Rattle.descent.specs.Search.{run};
+ghost use Rattle.engine.specs.Engine.{ended_as};
 ghost use Rattle.loads.specs.Loads.{Held};
-ghost use Rattle.tail_candidates.specs.Candidate.{Asked};
-ghost use Rattle.exchange_sweeps.specs.Exchange.{pair_at, moved_by, taken_at, from, place_after, InSweep, first_at, next_of, leads, Apt};
-ghost use Rattle.labels.specs.Lent.{lent};
+ghost use Rattle.exchange_sweeps.specs.Exchange.{Rules, pair_at, moved_by, taken_at, from, place_after, InSweep, first_at, next_of, made_by, leads, Makeable};
 
-use labels::columns::Columns;
-use lists::list_of;
-use tail_candidates::{Choice, Terms};
-use tails::best_exchange;
+use engine::Ended;
+use tail_candidates::Cut;
 
 // A place of a sweep: two lists by number.
 #[derive(Clone, Copy)]
@@ -22,34 +22,40 @@ pub struct Place {
     pub other: usize,
 }
 
-// An exchange at a place; `cut1` 0 is none.
+// An exchange at a place.
 #[derive(Clone, Copy)]
-pub struct Found {
+pub struct Exchange {
     pub place: Place,
-    pub cut1: usize,
-    pub cut2: usize,
+    pub cut: Cut,
 }
 
-// The exchange to take at a pair of lists.
-fn best_at(
-    columns: &Columns,
-    demand: &[i32],
-    terms: Terms,
-    visits: &[u16],
-    lengths: &[u16],
-    place: Place,
-) -> Choice
-    requires asked { Asked (lent columns.now) demand.now terms }
-    requires held { Held columns.now.locations visits.now lengths.now × (place.one < place.other) × (place.other < length lengths.now) }
-    ensures { moved_by (pair_at place) result.cut1 result.cut2 ≡ taken_at (lent columns.now)
-        demand.now terms (lists visits.now lengths.now) (pair_at place) }
-{
-    let one = list_of(visits, lengths, place.one);
-    let other = list_of(visits, lengths, place.other);
-    best_exchange(columns, demand, terms, one, other)
+// What differs between the engines: how exchanges are judged, and what is kept of the lists beside their tables.
+pub trait TailSearch {
+    ghost rules: { Self → Rules };
+
+    // What is kept beside the tables is right for these lists.
+    ghost Kept: { Self → List (List ℕ) → Type 0 };
+
+    // The exchange to take at a pair of lists.
+    fn best_at(&self, visits: &[u16], lengths: &[u16], place: Place) -> Option<Cut>
+        requires held { Held (rules self.now).locations visits.now lengths.now
+            × (place.one < place.other) × (place.other < length lengths.now) }
+        requires kept { Kept self.now (lists visits.now lengths.now) }
+        ensures { moved_by (pair_at place) result ≡ taken_at (rules self.now) (lists visits.now lengths.now) (pair_at place) };
+
+    // Makes an exchange, in both tables of the lists and in what is kept beside them.
+    fn make(&mut self, visits: &mut [u16], lengths: &mut [u16], exchange: Exchange)
+        requires held { Held (rules self.old).locations visits.old lengths.old }
+        requires makeable { Makeable visits.old lengths.old exchange }
+        requires kept { Kept self.old (lists visits.old lengths.old) }
+        ensures edited { Edited visits.old lengths.old visits.new lengths.new
+            (made_by (lists visits.old lengths.old) exchange) }
+        ensures rules { rules self.new ≡ rules self.old }
+        ensures kept { Kept self.new (lists visits.new lengths.new) };
 }
 
 // The place that follows in a sweep over n lists.
+#[tactic(auto, unfolding(crate::specs::Exchange::place_after))]
 pub fn place_after(n: usize, place: Place) -> Place
     requires { (place.one < place.other) × (place.other < n) }
     ensures { result ≡ place_after n place }
@@ -67,60 +73,75 @@ pub fn place_after(n: usize, place: Place) -> Place
 }
 
 // The first move from a place of the sweep on.
-fn first_move(
-    columns: &Columns,
-    demand: &[i32],
-    terms: Terms,
+fn first_move<S: TailSearch>(
+    search: &S,
     visits: &[u16],
     lengths: &[u16],
     start: Place,
-) -> Found
-    requires asked { Asked (lent columns.now) demand.now terms }
-    requires held { Held columns.now.locations visits.now lengths.now × InSweep (length lengths.now) start }
-    ensures { let ls = lists visits.now lengths.now in
-        (leads ls result ≡ first_at (lent columns.now) demand.now terms ls (from (length lengths.now) start))
-        × Apt visits.now lengths.now result }
+) -> Option<Exchange>
+    requires held { Held (S.rules search.now).locations visits.now lengths.now × InSweep (length lengths.now) start }
+    requires kept { S.Kept search.now (lists visits.now lengths.now) }
+    ensures leads { let ls = lists visits.now lengths.now in
+        leads ls result ≡ first_at (S.rules search.now) ls (from (length lengths.now) start) }
+    ensures makeable { IfSome result (Makeable visits.now lengths.now) }
 {
     let n = lengths.len();
     let mut place = start;
     while place.other < n {
-        let best = best_at(columns, demand, terms, visits, lengths, place);
-        if best.cut1 != 0 {
-            return Found {
-                place,
-                cut1: best.cut1,
-                cut2: best.cut2,
-            };
+        if let Some(cut) = search.best_at(visits, lengths, place) {
+            return Some(Exchange { place, cut });
         }
         place = place_after(n, place);
     }
-    Found {
-        place,
-        cut1: 0,
-        cut2: 0,
-    }
+    None
 }
 
 // The next move: the first ahead in this sweep or, where there is none, the first of a new sweep.
-pub fn next_move(
-    columns: &Columns,
-    demand: &[i32],
-    terms: Terms,
+pub fn next_move<S: TailSearch>(
+    search: &S,
     visits: &[u16],
     lengths: &[u16],
     ahead: Place,
-) -> Found
-    requires asked { Asked (lent columns.now) demand.now terms }
-    requires held { Held columns.now.locations visits.now lengths.now × InSweep (length lengths.now) ahead }
-    ensures { let ls = lists visits.now lengths.now in
-        (leads ls result ≡ next_of (lent columns.now)
-        demand.now terms (record { now = ls; ahead = from (length lengths.now) ahead }))
-        × Apt visits.now lengths.now result }
+) -> Option<Exchange>
+    requires held { Held (S.rules search.now).locations visits.now lengths.now × InSweep (length lengths.now) ahead }
+    requires kept { S.Kept search.now (lists visits.now lengths.now) }
+    ensures leads { let ls = lists visits.now lengths.now in
+        leads ls result ≡ next_of (S.rules search.now) (record { now = ls; ahead = from (length lengths.now) ahead }) }
+    ensures makeable { IfSome result (Makeable visits.now lengths.now) }
 {
-    let found = first_move(columns, demand, terms, visits, lengths, ahead);
-    if found.cut1 != 0 {
-        return found;
+    if let Some(exchange) = first_move(search, visits, lengths, ahead) {
+        return Some(exchange);
     }
     let start = Place { one: 0, other: 1 };
-    first_move(columns, demand, terms, visits, lengths, start)
+    first_move(search, visits, lengths, start)
+}
+
+// Moves until none is left or the limit is used up. The run starts with nothing ahead, in front of a new sweep.
+pub fn run_moves<S: TailSearch>(
+    search: &mut S,
+    visits: &mut [u16],
+    lengths: &mut [u16],
+    limit: u32,
+) -> Ended
+    requires held { Held (S.rules search.old).locations visits.old lengths.old }
+    requires kept { S.Kept search.old (lists visits.old lengths.old) }
+    ensures { let run = run (next_of (S.rules search.old)) limit (record { now = lists visits.old lengths.old; ahead = [] }) in
+        Edited visits.old lengths.old visits.new lengths.new run.last.now
+        × (result ≡ ended_as run.word run.moves) }
+{
+    let n = lengths.len();
+    let mut moves = 0;
+    let mut ahead = Place {
+        one: n,
+        other: n + 1,
+    };
+    while let Some(exchange) = next_move(search, visits, lengths, ahead) {
+        if limit <= moves {
+            return Ended::Stopped(moves);
+        }
+        search.make(visits, lengths, exchange);
+        ahead = place_after(n, exchange.place);
+        moves += 1;
+    }
+    Ended::Settled(moves)
 }

@@ -1,6 +1,6 @@
 // The refusals of a fleet, of document 01's table, in their order: 11 first, then every van for 6, then every van for 7.
 
-#![tactic(auto, unfolding(tests::specs::All::unless, crate::specs::Order::fleet_refusal))]
+#![tactic(auto, using(fleet::specs::Refusal::columns_fine), unfolding(tests::specs::All::unless, crate::specs::Order::fleet_refusal))]
 
 ghost use Rattle.std.specs.Prelude.{◌≡◌, ◌≤◌, length};
 ghost use Rattle.day.specs.Number.{number_of};

@@ -1,45 +1,20 @@
 -- A head driven once gives every list that shares it its price, because a walk over a list goes on from where its first part ended. Assumes nothing.
 use Prim.Native.Nat.{ℕ}
 use mathlib.Core.Path.{◌≡◌, refl, sym, ap, ◌∙◌}
-use mathlib.Core.Bool.{Bool, true, false, cond}
 use mathlib.Core.List.{List}
 use lib.ListN.{take, drop, take-append-drop}
-use lib.Ieee.{Float, inf}
 use Rattle.std.specs.Prelude.{Option, Some, None}
-use Rattle.numbers.specs.Operations.{◌⊕◌, zero64}
-use Rattle.day.specs.Vehicle.{allows}
+use Rattle.numbers.specs.Operations.{zero64}
 use Rattle.day.specs.declared.vehicle.VehicleBreak.{VehicleBreak}
 use Rattle.day.specs.declared.vehicle.RouteLimits.{RouteLimits}
 use Rattle.labels.specs.Columns.{Columns}
 use Rattle.labels.specs.Walk.{Tour, tour_of, walk, walk_on}
 use Rattle.labels.specs.Label.{at_start}
-use Rattle.break_clock.specs.Schedule.{ended}
-use Rattle.evaluation.specs.Route.{tick, home, unbroken, outcome, evaluated, eval, priced_distance, cost_of, effective_cost}
+use Rattle.evaluation.specs.Route.{tick, home, unbroken, outcome, evaluated, eval, cost_of, effective_cost}
 use Rattle.labels.specs.declared.label.Label.{Label}
 use Rattle.heads.specs.Head.{tour_at, Driven}
 use Rattle.heads.specs.declared.Head.{Head}
-use Rattle.head_prices.specs.Prices.{ended_cost, cost_from, price_by, price_from}
-
--- the price of an end
-pub end_costs : (limits : RouteLimits) (label : Label) (distance back : Float) →
-    ended_cost limits label distance back ≡ cost_of (evaluated limits (ended label None distance back))
-unfolding ended_cost cost_of evaluated ended priced_distance
-end_costs limits label distance back = go (allows limits distance (label.time ⊕ back))
-  where
-    go : (b : Bool) → cond b (distance ⊕ label.lateness_cost) (inf false)
-        ≡ cost_of (cond b (Some (record {
-          distance = distance;
-          duration = label.time ⊕ back;
-          lateness = label.lateness;
-          lateness_cost = label.lateness_cost;
-        })) None)
-    go true = refl
-    go false = refl
-
--- a list that can't be served costs infinity
-pub missed_costs : (limits : RouteLimits) → inf false ≡ cost_of (evaluated limits None)
-unfolding cost_of evaluated
-missed_costs limits = refl
+use Rattle.head_prices.specs.Prices.{cost_from, price_by, price_from}
 
 module _ (c : Columns) (limits : RouteLimits) (depot : ℕ) (head : Head) (others : List ℕ) (rest : Option VehicleBreak) where
   pub price_unbroken : rest ≡ None → cost_from c limits depot head others ≡ price_by rest c limits depot head others

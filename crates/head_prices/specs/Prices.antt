@@ -1,20 +1,12 @@
 -- What a list costs from its head on. For the searches that price many lists with one head. Assumes nothing.
-use Rattle.std.specs.Prelude.{ℕ, false, cond, List, Float, Option, Some, None}
-use Rattle.std.specs.Float.{inf}
-use Rattle.numbers.specs.Operations.{◌⊕◌}
-use Rattle.day.specs.Vehicle.{allows}
+use Rattle.std.specs.Prelude.{ℕ, List, Float, Option, Some, None}
 use Rattle.day.specs.declared.vehicle.VehicleBreak.{VehicleBreak}
 use Rattle.day.specs.declared.vehicle.RouteLimits.{RouteLimits}
 use Rattle.labels.specs.Columns.{Columns}
 use Rattle.labels.specs.Walk.{walk}
-use Rattle.labels.specs.declared.label.Label.{Label}
 use Rattle.evaluation.specs.Route.{tick, home, evaluated, cost_of, effective_cost}
 use Rattle.heads.specs.Head.{tour_at}
 use Rattle.heads.specs.declared.Head.{Head}
-
--- what a list costs that ends with this label
-unfoldable pub ended_cost : RouteLimits → Label → Float → Float → Float
-ended_cost limits label distance back = cond (allows limits distance (label.time ⊕ back)) (distance ⊕ label.lateness_cost) (inf false)
 
 -- what a list costs with no break to take, the visits behind its head given
 unfoldable pub cost_from : Columns → RouteLimits → ℕ → Head → List ℕ → Float

@@ -53,7 +53,9 @@ fn nearest_start(head: Head, depot: usize, to: usize) -> Head
     head
 }
 
-// Drives on from a start over the visits of a list, from one up to another. Ends before a visit that can't be served.
+// Drives on from a start over the visits of a list, from one up to another. Ends before a visit that can't be served. Called for a visit or two by the
+// searches, it is compiled into them. It is no `Drive::home`, which answers nothing where a visit can't be served, and doesn't say how far it came.
+#[inline(always)]
 pub fn drive(columns: &Columns, start: Head, list: &[u16], from: usize, to: usize) -> Head
     requires { (start.place < columns.now.locations) × Visits columns.now.locations list.now × (from ≤ to) × (to ≤ length list.now) }
     ensures { Drove (lent columns.now) start list.now from to result }
@@ -62,7 +64,7 @@ pub fn drive(columns: &Columns, start: Head, list: &[u16], from: usize, to: usiz
     let mut distance = start.distance;
     let mut place = start.place;
     for i in from..to {
-        let visit = list[i] as usize;
+        let visit = usize::from(list[i]);
         let leg = columns.distance(place, visit);
         let travel = columns.travel_time(place, visit);
         let stop = columns.stop(visit);

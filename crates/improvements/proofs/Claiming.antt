@@ -18,8 +18,7 @@ use Rattle.descent.specs.Claim.{Claim}
 use Rattle.deltas.specs.Judged.{roads_of}
 use Rattle.deltas.proofs.Exact.{float_demand_3}
 use Rattle.two_opt.proofs.Claimed.{lent_one}
-use Rattle.neighbours.specs.declared.Neighbourhood.{Neighbourhood}
-use Rattle.neighbours.specs.declared.Neighbourhood.TheVariants.{Reverse, Relocate, Reconnect}
+use Rattle.neighbours.specs.Neighbours.{Neighbourhood, Reverse, Relocate, Reconnect}
 use Rattle.within.specs.Within.{Ran, hard_ran}
 use Rattle.within.proofs.Kept.{ran_hard}
 use Rattle.refusals.specs.Refusal.{refusal, Fine, visits_fine}

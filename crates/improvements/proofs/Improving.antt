@@ -22,7 +22,7 @@ use Rattle.labels.specs.Columns.{Columns, Visits, columns_of}
 use Rattle.evaluation.specs.Distance.{route_distance}
 use Rattle.descent.specs.Search.{Word, settled, stopped}
 use Rattle.engine.specs.Engine.{ended_as}
-use Rattle.neighbours.specs.declared.Neighbourhood.{Neighbourhood}
+use Rattle.neighbours.specs.Neighbours.{Neighbourhood}
 use Rattle.within.specs.Within.{ran_by}
 use Rattle.within.proofs.Kept.{ran_same}
 use Rattle.refusals.specs.Refusal.{refusal, Fine, visits_fine}

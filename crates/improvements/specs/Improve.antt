@@ -11,7 +11,7 @@ use Rattle.evaluation.specs.Distance.{route_distance}
 use Rattle.descent.specs.Search.{Word, settled, stopped}
 use Rattle.engine.specs.declared.Ended.{Ended}
 use Rattle.engine.specs.declared.Ended.TheVariants as ended
-use Rattle.neighbours.specs.declared.Neighbourhood.{Neighbourhood}
+use Rattle.neighbours.specs.Neighbours.{Neighbourhood}
 use Rattle.within.specs.Within.{Ran, ran_by}
 use Rattle.claims.specs.Demand3.{Report}
 use Rattle.refusals.specs.Refusal.{refusal}

@@ -12,7 +12,7 @@ ghost use Rattle.labels.specs.Columns.{Visits};
 ghost use Rattle.labels.specs.Lent.{lent};
 ghost use Rattle.evaluation.specs.Distance.{route_distance};
 ghost use Rattle.descent.specs.Permitted.{two_opt, or_opt, three_opt, n_minus_length};
-ghost use Rattle.neighbours.specs.declared.Neighbourhood.TheVariants.{Reverse, Relocate, Reconnect};
+ghost use Rattle.neighbours.specs.Neighbours as neighbours;
 ghost use Rattle.within.specs.Within.{ran_by};
 ghost use Rattle.improvements.specs.Improve.{improved_of, improved_as, improve_answer, improve_visits, reported};
 ghost use Rattle.claims.specs.Demand3.{Claimed};
@@ -24,8 +24,11 @@ use engine::Ended;
 use evaluation::distance::route_distance;
 use labels::columns::Columns;
 use lists::{end_of, start_of};
-use neighbours::Neighbourhood;
+use neighbours::reconnect::Reconnect;
+use neighbours::relocate::Relocate;
+use neighbours::reverse::Reverse;
 use refusals::refusal_of;
+use within::Searched;
 
 // How a run on one list ended, with the moves made and the distance of the list handed back.
 #[derive(Clone, Copy)]
@@ -46,30 +49,23 @@ fn improved_of(ended: Ended, distance: f64) -> Improved
 }
 
 // The run on the caller's part of the table that is the list asked for, and the distance of what it leaves.
-fn improve_part(
-    which: Neighbourhood,
-    columns: &Columns,
-    van: Van,
-    part: &mut [u16],
-    limit: u32,
-) -> Improved
+fn improve_part<N: Searched>(columns: &Columns, van: Van, part: &mut [u16], limit: u32) -> Improved
     requires depot_lt_l { (van.depot < columns.now.locations) × Visits columns.now.locations part.old }
     requires distances_value { all_plain columns.now.distances.now ≡ true }
     ensures { let c = lent columns.now in
-        let ran = ran_by which c (limits_of van) van.depot limit part.old in
+        let ran = ran_by N.which c (limits_of van) van.depot limit part.old in
         (part.new ≡ ran.list)
         × (result ≡ improved_as ran.word ran.moves (route_distance columns.now.locations columns.now.distances.now van.depot ran.list)) }
 {
     let depot = van.depot;
     let limits = RouteLimits::of(van);
-    let ended = within::improve(columns, limits, depot, which, part, limit);
-    let distance = route_distance(columns.locations, columns.distances, depot, part);
+    let ended = within::improve::<N>(columns, limits, depot, part, limit);
+    let distance = route_distance(&columns.matrix(), depot, part);
     improved_of(ended, distance)
 }
 
 // What the three entries share: the refusals, and the run on the list asked for.
-fn improve_list(
-    which: Neighbourhood,
+fn improve_list<N: Searched>(
     day: &Day,
     van: Van,
     visits: &mut [u16],
@@ -77,14 +73,14 @@ fn improve_list(
     list: usize,
     limit: u32,
 ) -> Result<Improved, Refusal>
-    ensures { (result ≡ improve_answer which day.now van visits.old lengths.now list limit)
-        × (visits.new ≡ improve_visits which day.now van visits.old lengths.now list limit) }
+    ensures { (result ≡ improve_answer N.which day.now van visits.old lengths.now list limit)
+        × (visits.new ≡ improve_visits N.which day.now van visits.old lengths.now list limit) }
 {
     refusal_of(day, van, visits, lengths, list)?;
     let start = start_of(lengths, list);
     let end = end_of(lengths, list);
     let columns = Columns::of(day);
-    let improved = improve_part(which, &columns, van, &mut visits[start..end], limit);
+    let improved = improve_part::<N>(&columns, van, &mut visits[start..end], limit);
     Ok(improved)
 }
 
@@ -100,20 +96,12 @@ pub fn two_opt_improve(
     ensures answer { let before = visits.old in
         let after = visits.new in
         let kept = lengths.now in
-        (result ≡ improve_answer Reverse day.now van before kept list limit)
-        × (after ≡ improve_visits Reverse day.now van before kept list limit)
+        (result ≡ improve_answer neighbours.Reverse day.now van before kept list limit)
+        × (after ≡ improve_visits neighbours.Reverse day.now van before kept list limit)
         × SameVisits before after
         × Claimed two_opt day.now van limit (list_of before kept list) (list_of after kept list) (reported result) }
 {
-    improve_list(
-        Neighbourhood::Reverse,
-        day,
-        van,
-        visits,
-        lengths,
-        list,
-        limit,
-    )
+    improve_list::<Reverse>(day, van, visits, lengths, list, limit)
 }
 
 // Or-opt (Or 1976) of the list asked for, by at most `limit` moves.
@@ -128,20 +116,12 @@ pub fn or_opt_improve(
     ensures answer { let before = visits.old in
         let after = visits.new in
         let kept = lengths.now in
-        (result ≡ improve_answer Relocate day.now van before kept list limit)
-        × (after ≡ improve_visits Relocate day.now van before kept list limit)
+        (result ≡ improve_answer neighbours.Relocate day.now van before kept list limit)
+        × (after ≡ improve_visits neighbours.Relocate day.now van before kept list limit)
         × SameVisits before after
         × Claimed (or_opt n_minus_length) day.now van limit (list_of before kept list) (list_of after kept list) (reported result) }
 {
-    improve_list(
-        Neighbourhood::Relocate,
-        day,
-        van,
-        visits,
-        lengths,
-        list,
-        limit,
-    )
+    improve_list::<Relocate>(day, van, visits, lengths, list, limit)
 }
 
 // 3-opt (Lin 1965) of the list asked for, by at most `limit` moves.
@@ -156,18 +136,10 @@ pub fn three_opt_improve(
     ensures answer { let before = visits.old in
         let after = visits.new in
         let kept = lengths.now in
-        (result ≡ improve_answer Reconnect day.now van before kept list limit)
-        × (after ≡ improve_visits Reconnect day.now van before kept list limit)
+        (result ≡ improve_answer neighbours.Reconnect day.now van before kept list limit)
+        × (after ≡ improve_visits neighbours.Reconnect day.now van before kept list limit)
         × SameVisits before after
         × Claimed three_opt day.now van limit (list_of before kept list) (list_of after kept list) (reported result) }
 {
-    improve_list(
-        Neighbourhood::Reconnect,
-        day,
-        van,
-        visits,
-        lengths,
-        list,
-        limit,
-    )
+    improve_list::<Reconnect>(day, van, visits, lengths, list, limit)
 }

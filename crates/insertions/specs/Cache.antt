@@ -1,10 +1,11 @@
 -- The insertion cache (relocate.rs, `least_insertion` and `argmin`): for a visit and a list the least insertion delta and the first place that reaches it,
 -- not a number while it isn't known; what it becomes when the list changes; and what makes it right. For the contracts of src/. Assumes nothing.
-use Rattle.std.specs.Prelude.{◌≡◌, Bool, false, cond, ◌||◌, List, [], ℕ, zero, suc, ◌+◌, ◌-◌, ◌*◌, ◌≤◌, ◌<◌, T, ltb, eqb, length, get_or, set, Float}
+use Rattle.std.specs.Prelude.{◌≡◌, ◌≢◌, Bool, false, cond, ◌||◌, List, [], ℕ, zero, suc, ◌+◌, ◌-◌, ◌*◌, ◌≤◌, ◌<◌, T, ltb, eqb, length, get_or, Float}
 use Rattle.std.specs.Float.{nan, inf}
 use Rattle.std.specs.Float.Ieee.{lt, le}
 use Rattle.std.specs.Float.Ieee.Scale.{finite}
 use Rattle.insertions.specs.declared.Least.{Least}
+use Rattle.insertions.specs.declared.Insertions.{Insertions}
 
 -- ---- the least of some costs
 
@@ -76,27 +77,22 @@ abbrev pub cell : ℕ → ℕ → ℕ
 cell visit list = 16 * visit + list
 
 -- `least_insertion[slot]`, `argmin[slot]`: what the tables say of a visit and a list
-abbrev pub known_at : List Float → List ℕ → ℕ → ℕ → Least
-known_at figures places visit list = record { figure = get_or figures (cell visit list) nan; place = get_or places (cell visit list) 0 }
+abbrev pub known_at : Insertions → ℕ → ℕ → Least
+known_at cache visit list = record { figure = get_or cache.figures (cell visit list) nan; place = get_or cache.places (cell visit list) 0 }
 
--- a table with f of the visit at every cell of a list, for the visits below n
-unfoldable pub column : {A : Type 0} → (ℕ → A) → ℕ → ℕ → List A → List A
-column f list zero xs = xs
-column f list (suc visit) xs = set (column f list visit xs) (cell visit list) (f visit)
+-- something was noted of a visit and a list; what is known of the others stays
+pub record Noted (visit list : ℕ) (least : Least) (old new : Insertions) : Type 0 where
+  pub here : known_at new visit list ≡ least
+  pub others : (v s : ℕ) → s < 16 → cell v s ≢ cell visit list → known_at new v s ≡ known_at old v s
 
--- `after_removal`, one turn of its loop: what is known of a visit after one left the list, which is now Y
-unfoldable pub left_at : (List ℕ → ℕ → ℕ → Float) → ℕ → ℕ → List ℕ → List Float → List ℕ → ℕ → Least
-left_at cost list position Y figures places visit = least_left (known_at figures places visit list) position (cost Y visit position)
+-- what is known of a list was changed for each visit below n; what is known of the others stays
+pub record Updated (change : ℕ → Least → Least → Type 0) (list n : ℕ) (old new : Insertions) : Type 0 where
+  pub here : (v : ℕ) → v < n → change v (known_at old v list) (known_at new v list)
+  pub behind : (v : ℕ) → n ≤ v → known_at new v list ≡ known_at old v list
+  pub others : (v s : ℕ) → s < 16 → s ≢ list → known_at new v s ≡ known_at old v s
 
--- `after_insertion`, one turn of its loop: the same after one came into the list
-unfoldable pub came_at : (List ℕ → ℕ → ℕ → Float) → ℕ → ℕ → List ℕ → List Float → List ℕ → ℕ → Least
-came_at cost list position Y figures places visit =
-    least_came (known_at figures places visit list) position (cost Y visit position) (cost Y visit (position + 1))
-
--- both tables are right: whatever is known of a visit and a list is the least of what it costs to insert it into the list as it stands, at the first place
-pub record Known (cost : List ℕ → ℕ → ℕ → Float) (n : ℕ) (ls : List (List ℕ)) (figures : List Float) (places : List ℕ) : Type 0 where
+-- the cache is right: whatever is known of a visit and a list is the least of what it costs to insert it into the list as it stands, at the first place
+pub record Known (cost : List ℕ → ℕ → ℕ → Float) (n : ℕ) (ls : List (List ℕ)) (cache : Insertions) : Type 0 where
   pub few : n ≤ 64
-  pub figures_long : length figures ≡ 1024
-  pub places_long : length places ≡ 1024
-  pub known : (visit list : ℕ) → visit < n → list < 16 → T (finite (get_or figures (cell visit list) nan))
-      → LeastAt (cost (get_or ls list []) visit) (suc (length (get_or ls list []))) (get_or figures (cell visit list) nan) (get_or places (cell visit list) 0)
+  pub known : (visit list : ℕ) → visit < n → list < 16 → T (finite (known_at cache visit list).figure)
+      → LeastAt (cost (get_or ls list []) visit) (suc (length (get_or ls list []))) (known_at cache visit list).figure (known_at cache visit list).place

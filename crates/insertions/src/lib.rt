@@ -2,22 +2,23 @@
 // and the first place where it costs that. It doesn't depend on where the visit is now, so it stays right until the list itself changes, and then all
 // places but those at the change stay what they were.
 //
-// Two lent tables hold it, 1,024 figures and 1,024 places, at 16 times the visit plus the list; a figure that is not finite says nothing.
+// Two tables hold it, 1,024 figures and 1,024 places, at 16 times the visit plus the list; a figure that is not finite says nothing.
 
 #![tactic(auto)]
 
-ghost use Rattle.std.specs.Prelude.{◌≡◌, ℕ, ◌+◌, ◌≤◌, ◌<◌, T, length, get_or, set};
+ghost use Rattle.std.specs.Prelude.{◌≡◌, ℕ, ◌+◌, ◌≤◌, ◌<◌, T, length};
 ghost use Rattle.std.specs.Float.{nan};
 ghost use Rattle.std.specs.Float.Ieee.Scale.{finite};
-ghost use Rattle.day.specs.Matrix.{leg, Square};
+ghost use Rattle.day.specs.Legs.{leg_of};
 ghost use Rattle.deltas.specs.Deltas.{Listed, insertion_delta};
 ghost use Rattle.insertions.specs.Cache.{lesser, forgotten, first_of, vanished, moved_down, moved_up, least_left, least_came};
-ghost use Rattle.insertions.specs.Cache.{cell, column, left_at, came_at};
+ghost use Rattle.insertions.specs.Cache.{known_at, Noted, Updated};
 
+use day::matrix::Matrix;
 use deltas_across::insertion_delta;
 use numbers::{is_finite, unknown};
 
-// A least insertion, and the first place that reaches it.
+// A least insertion, and the first place that reaches it. No Option where it isn't known: a cell would be 24 bytes in place of 10.
 #[derive(Clone, Copy)]
 pub struct Least {
     pub figure: f64,
@@ -92,16 +93,15 @@ fn moved_up(place: u16, position: u16) -> u16
 fn least_left(
     known: Least,
     position: u16,
-    l: usize,
-    distances: &[f64],
+    matrix: &Matrix,
     depot: usize,
     fixed: f64,
     list: &[u16],
     visit: usize,
 ) -> Least
-    requires square { Square l distances.now × Listed l depot list.now × (visit < l) }
+    requires listed { Listed matrix.now.size depot list.now × (visit < matrix.now.size) }
     requires position_in_bounds { (position ≤ length list.now) × (position < 65535) }
-    ensures { result ≡ least_left known position (insertion_delta (leg l distances.now) depot fixed list.now visit position) }
+    ensures { result ≡ least_left known position (insertion_delta (leg_of matrix.now) depot fixed list.now visit position) }
 {
     if !is_finite(known.figure) {
         return known;
@@ -109,15 +109,7 @@ fn least_left(
     if is_vanished(known.place, position) {
         return forget(known);
     }
-    let figure = insertion_delta(
-        l,
-        distances,
-        depot,
-        fixed,
-        list,
-        visit,
-        usize::from(position),
-    );
+    let figure = insertion_delta(matrix, depot, fixed, list, visit, usize::from(position));
     let kept = Least {
         figure: known.figure,
         place: moved_down(known.place, position),
@@ -135,16 +127,15 @@ fn least_left(
 fn least_came(
     known: Least,
     position: u16,
-    l: usize,
-    distances: &[f64],
+    matrix: &Matrix,
     depot: usize,
     fixed: f64,
     list: &[u16],
     visit: usize,
 ) -> Least
-    requires square { Square l distances.now × Listed l depot list.now × (visit < l) }
+    requires listed { Listed matrix.now.size depot list.now × (visit < matrix.now.size) }
     requires position_in_bounds { (position < length list.now) × (position < 65535) × (T (finite known.figure) → known.place < 65535) }
-    ensures { let cost = insertion_delta (leg l distances.now) depot fixed list.now visit
+    ensures { let cost = insertion_delta (leg_of matrix.now) depot fixed list.now visit
         in result ≡ least_came known position (cost position) (cost (position + 1)) }
 {
     if !is_finite(known.figure) {
@@ -154,8 +145,8 @@ fn least_came(
         return forget(known);
     }
     let at = usize::from(position);
-    let before = insertion_delta(l, distances, depot, fixed, list, visit, at);
-    let behind = insertion_delta(l, distances, depot, fixed, list, visit, at + 1);
+    let before = insertion_delta(matrix, depot, fixed, list, visit, at);
+    let behind = insertion_delta(matrix, depot, fixed, list, visit, at + 1);
     let kept = Least {
         figure: known.figure,
         place: moved_up(known.place, position),
@@ -176,77 +167,106 @@ fn least_came(
     )
 }
 
-// ---- the tables
+// ---- the cache
 
-// Forgets what is known of a visit and a list.
-pub fn forget_at(figures: &mut [f64], visit: usize, r: usize)
-    requires { (length figures.old ≡ 1024) × (visit < 64) × (r < 16) }
-    ensures { figures.new ≡ set figures.old (cell visit r) nan }
-{
-    figures[16 * visit + r] = unknown();
+// What is known of every visit and list.
+#[derive(Drop)]
+pub struct Insertions {
+    figures: [f64; 1024],
+    places: [u16; 1024],
 }
 
-// Brings what is known of list `r`, which is now `list`, up to date after the visit at `position` left it.
-pub fn after_removal(
-    l: usize,
-    distances: &[f64],
-    depot: usize,
-    fixed: f64,
-    list: &[u16],
-    r: usize,
-    position: u16,
-    figures: &mut [f64],
-    places: &mut [u16],
-)
-    requires square { Square l distances.now × Listed l depot list.now }
-    requires r_bound { (r < 16) × (position ≤ length list.now) × (position < 65535) }
-    requires figures_len { (length figures.old ≡ 1024) × (length places.old ≡ 1024) }
-    ensures { let f = left_at (insertion_delta (leg l distances.now) depot fixed) r position list.now figures.old
-        places.old
-        in (figures.new ≡ column (λ v. (f v).figure) r l figures.old)
-        × (places.new ≡ column (λ v. (f v).place) r l places.old) }
-{
-    for visit in 0..l {
-        let cell = 16 * visit + r;
-        let known = Least {
-            figure: figures[cell],
-            place: places[cell],
-        };
-        let left = least_left(known, position, l, distances, depot, fixed, list, visit);
-        figures[cell] = left.figure;
-        places[cell] = left.place;
+impl Insertions {
+    // Nothing is known yet.
+    pub fn new() -> Insertions
+        ensures { (visit list : ℕ) → (known_at result visit list).figure ≡ nan }
+    {
+        Insertions {
+            figures: [unknown(); 1024],
+            places: [0; 1024],
+        }
     }
-}
 
-// The same after one came in at `position`.
-pub fn after_insertion(
-    l: usize,
-    distances: &[f64],
-    depot: usize,
-    fixed: f64,
-    list: &[u16],
-    r: usize,
-    position: u16,
-    figures: &mut [f64],
-    places: &mut [u16],
-)
-    requires square { Square l distances.now × Listed l depot list.now }
-    requires r_bound { (r < 16) × (position < length list.now) × (position < 65535) }
-    requires figures_len { (length figures.old ≡ 1024) × (length places.old ≡ 1024) }
-    requires by_index { (v : ℕ) → v < l → T (finite (get_or figures.old (cell v r) nan)) → get_or places.old (cell v r) 0 < 65535 }
-    ensures { let f = came_at (insertion_delta (leg l distances.now) depot fixed) r position list.now figures.old
-        places.old
-        in (figures.new ≡ column (λ v. (f v).figure) r l figures.old)
-        × (places.new ≡ column (λ v. (f v).place) r l places.old) }
-{
-    for visit in 0..l {
+    // What is known of a visit and list `r`.
+    pub fn known(&self, visit: usize, r: usize) -> Least
+        requires { (visit < 64) × (r < 16) }
+        ensures { result ≡ known_at self.now visit r }
+    {
         let cell = 16 * visit + r;
-        let known = Least {
-            figure: figures[cell],
-            place: places[cell],
-        };
-        let came = least_came(known, position, l, distances, depot, fixed, list, visit);
-        figures[cell] = came.figure;
-        places[cell] = came.place;
+        Least {
+            figure: self.figures[cell],
+            place: self.places[cell],
+        }
+    }
+
+    // Notes what is known of them.
+    pub fn note(&mut self, visit: usize, r: usize, least: Least)
+        requires { (visit < 64) × (r < 16) }
+        ensures { Noted visit r least self.old self.new }
+    {
+        let cell = 16 * visit + r;
+        self.figures[cell] = least.figure;
+        self.places[cell] = least.place;
+    }
+
+    // Forgets what is known of them.
+    pub fn forget(&mut self, visit: usize, r: usize)
+        requires { (visit < 64) × (r < 16) }
+        ensures { Noted visit r (forgotten (known_at self.old visit r)) self.old self.new }
+    {
+        self.figures[16 * visit + r] = unknown();
+    }
+
+    // Brings what is known of list `r` up to date, for each of n visits by a change.
+    fn update<F: Fn(usize, Least) -> Least>(&mut self, n: usize, r: usize, change: F)
+        requires few { (n ≤ 64) × (r < 16) }
+        requires allowed { (v : ℕ) → v < n → F.pre change v (known_at self.old v r) }
+        ensures { Updated (λ v known after. F.post change v known after) r n self.old self.new }
+    {
+        for visit in 0..n {
+            let least = change(visit, self.known(visit, r));
+            self.note(visit, r, least);
+        }
+    }
+
+    // What is known of list `r`, which is now `list`, after the visit at `position` left it.
+    pub fn after_removal(
+        &mut self,
+        matrix: &Matrix,
+        depot: usize,
+        fixed: f64,
+        list: &[u16],
+        r: usize,
+        position: u16,
+    )
+        requires listed { Listed matrix.now.size depot list.now }
+        requires r_bound { (r < 16) × (position ≤ length list.now) × (position < 65535) }
+        ensures { let cost = insertion_delta (leg_of matrix.now) depot fixed list.now
+            in Updated (λ v known after. after ≡ least_left known position (cost v position)) r matrix.now.size self.old self.new }
+    {
+        self.update(matrix.size, r, |visit, known| {
+            least_left(known, position, matrix, depot, fixed, list, visit)
+        });
+    }
+
+    // The same after one came in at `position`.
+    pub fn after_insertion(
+        &mut self,
+        matrix: &Matrix,
+        depot: usize,
+        fixed: f64,
+        list: &[u16],
+        r: usize,
+        position: u16,
+    )
+        requires listed { Listed matrix.now.size depot list.now }
+        requires r_bound { (r < 16) × (position < length list.now) × (position < 65535) }
+        requires by_index { (v : ℕ) → v < matrix.now.size → T (finite (known_at self.old v r).figure) → (known_at self.old v r).place < 65535 }
+        ensures { let cost = insertion_delta (leg_of matrix.now) depot fixed list.now
+            in Updated (λ v known after. after ≡ least_came known position (cost v position) (cost v (position + 1))) r matrix.now.size self.old self.new }
+    {
+        self.update(matrix.size, r, |visit, known| {
+            least_came(known, position, matrix, depot, fixed, list, visit)
+        });
     }
 }

@@ -3,7 +3,6 @@ ghost use Rattle.std.specs.Prelude.{◌≡◌, T};
 ghost use Rattle.std.specs.Float.Ieee.{fits};
 ghost use Rattle.std.specs.Float.{binary64};
 ghost use Rattle.numbers.specs.Operations.{◌⊕◌};
-ghost use Rattle.numbers.specs.Total.{larger};
 ghost use Rattle.day.specs.Customer.{waiting_time};
 ghost use Rattle.day.specs.declared.customer.Window.TheVariants.{Hard, Soft};
 ghost use Rattle.labels.specs.Label.{at_start, in_time, too_late, served_in, resting, served, served_rested};
@@ -12,7 +11,7 @@ ghost use Rattle.labels.specs.Label.{served_from, served_rested_from, is_earlier
 use crate::stop::Stop;
 use day::customer::{TimeWindow, Window};
 use day::vehicle::VehicleBreak;
-use tests::{both, either};
+use numbers::larger_of;
 
 // Where the break is taken.
 #[derive(Clone, Copy)]
@@ -131,15 +130,6 @@ fn serve_at(label: Label, ready: f64, stop: Stop) -> Option<Label>
     }
 }
 
-fn later_of(a: f64, b: f64) -> f64
-    ensures { result ≡ larger a b }
-{
-    if a < b {
-        return b;
-    }
-    a
-}
-
 // The label of a van that takes its break here.
 fn rest_here(label: Label, index: usize, start: f64) -> Label
     ensures { result ≡ resting label index start }
@@ -171,7 +161,7 @@ fn serve_rested(
 ) -> Option<Label>
     ensures { result ≡ served_rested label travel stop index rest }
 {
-    let start = later_of(label.time + travel, rest.earliest);
+    let start = larger_of(label.time + travel, rest.earliest);
     if start > rest.latest {
         return None;
     }
@@ -201,16 +191,12 @@ pub fn serve_next_rested(
 }
 
 // Whether the second label is the lesser (time, lateness cost).
+#[tactic(auto, unfolding(crate::specs::Label::is_earlier))]
 fn is_earlier(carried: Label, here: Label) -> bool
     ensures { result ≡ is_earlier carried here }
 {
-    either(
-        here.time < carried.time,
-        both(
-            here.time == carried.time,
-            here.lateness_cost < carried.lateness_cost,
-        ),
-    )
+    here.time < carried.time
+        || here.time == carried.time && here.lateness_cost < carried.lateness_cost
 }
 
 // The earlier of two labels, the cheaper in lateness at equal times. A tie goes to the one carried.

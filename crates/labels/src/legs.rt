@@ -5,15 +5,26 @@ ghost use Rattle.labels.specs.Lent.{lent};
 
 use crate::columns::Columns;
 use crate::stop::{Stop, stop_of};
-use day::matrix::{get, travel_time};
+use day::matrix::{Matrix, travel_time};
 
 impl<'a> Columns<'a> {
+    // The table of distances.
+    pub fn matrix(&self) -> Matrix<'a>
+        ensures size { result.size ≡ self.now.locations }
+        ensures entries { result.entries.now ≡ self.now.distances.now }
+    {
+        Matrix {
+            size: self.locations,
+            entries: self.distances,
+        }
+    }
+
     // The distance from a location to a location.
     pub fn distance(&self, from: usize, to: usize) -> f64
         requires { (from < self.now.locations) × (to < self.now.locations) }
         ensures { result ≡ leg_in (lent self.now) from to }
     {
-        get(self.locations, self.distances, from, to)
+        self.matrix().get(from, to)
     }
 
     // The travel time: from the times where there are any, else the distance.
@@ -21,7 +32,7 @@ impl<'a> Columns<'a> {
         requires { (from < self.now.locations) × (to < self.now.locations) }
         ensures { result ≡ travel_in (lent self.now) from to }
     {
-        travel_time(self.locations, self.distances, self.times, from, to)
+        travel_time(&self.matrix(), self.times, from, to)
     }
 
     // The stop at a location.

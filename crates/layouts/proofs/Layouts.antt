@@ -18,7 +18,7 @@ use Rattle.labels.specs.Columns.{Visits}
 use Rattle.descent.specs.Permitted.{Arrangement, turn, in_order, arranged}
 use Rattle.descent.specs.Within.{reconnect}
 use Rattle.descent.proofs.Kept.{total-arranged}
-use Rattle.layouts.specs.Layout.{layout, laid, CutIn}
+use Rattle.layouts.specs.Layout.{arrangement, layout, laid, CutIn}
 use Rattle.layouts.specs.declared.Layout.{Layout}
 
 -- ---- what a layout keeps
@@ -62,7 +62,7 @@ module _ {A B C D b₀ b₁ b₂ b₃ b₄ : List ℕ} {e₁ e₂ e₃ e₄ : �
 -- a layout keeps the head of the list, up to B
 module _ (from : ℕ) (list : List ℕ) (p : Layout) (w : CutIn (length list) p) (h : from ≤ p.b) where
   abbrev middle : List ℕ
-  middle = arranged (p.exchanged, p.b_turned, p.c_turned) (slice p.b p.c list) (slice p.c p.d list)
+  middle = arranged (arrangement p.way) (slice p.b p.c list) (slice p.c p.d list)
 
   head_long : from ≤ length (take p.b list)
   head_long =
@@ -84,14 +84,14 @@ module _ (from : ℕ) (list : List ℕ) (p : Layout) (w : CutIn (length list) p)
 
   module _ {b₀ b₁ b₂ b₃ b₄ : List ℕ} {e₁ e₂ e₃ e₄ : ℕ} (one : Appended 0 (slice from p.b list) b₀ e₁ b₁) (all : e₄ ≡ length list - from) where
     -- B and then C
-    pub laid_straight : p.exchanged ≡ false → Appended e₁ (turn p.b_turned (slice p.b p.c list)) b₁ e₂ b₂
-        → Appended e₂ (turn p.c_turned (slice p.c p.d list)) b₂ e₃ b₃ → Appended e₃ (slice p.d (length list) list) b₃ e₄ b₄
+    pub laid_straight : p.way.exchanged ≡ false → Appended e₁ (turn p.way.b_turned (slice p.b p.c list)) b₁ e₂ b₂
+        → Appended e₂ (turn p.way.c_turned (slice p.c p.d list)) b₂ e₃ b₃ → Appended e₃ (slice p.d (length list) list) b₃ e₄ b₄
         → take (length list - from) b₄ ≡ drop from (laid list p)
     laid_straight order two three four = rw (← head_left, ← all, order, ← (to_end p.d list)) (four_appended one two three four)
 
     -- C and then B
-    pub laid-exchanged : p.exchanged ≡ true → Appended e₁ (turn p.c_turned (slice p.c p.d list)) b₁ e₂ b₂
-        → Appended e₂ (turn p.b_turned (slice p.b p.c list)) b₂ e₃ b₃ → Appended e₃ (slice p.d (length list) list) b₃ e₄ b₄
+    pub laid-exchanged : p.way.exchanged ≡ true → Appended e₁ (turn p.way.c_turned (slice p.c p.d list)) b₁ e₂ b₂
+        → Appended e₂ (turn p.way.b_turned (slice p.b p.c list)) b₂ e₃ b₃ → Appended e₃ (slice p.d (length list) list) b₃ e₄ b₄
         → take (length list - from) b₄ ≡ drop from (laid list p)
     laid-exchanged order two three four = rw (← head_left, ← all, order, ← (to_end p.d list)) (four_appended one two three four)
 
@@ -170,10 +170,10 @@ module _ (list : List ℕ) (p : Layout) (k : ℕ) (w : CutIn (length list) p) wh
   A = take p.b list
 
   abbrev B : List ℕ
-  B = turn p.b_turned (slice p.b p.c list)
+  B = turn p.way.b_turned (slice p.b p.c list)
 
   abbrev C : List ℕ
-  C = turn p.c_turned (slice p.c p.d list)
+  C = turn p.way.c_turned (slice p.c p.d list)
 
   abbrev D : List ℕ
   D = drop p.d list
@@ -182,14 +182,14 @@ module _ (list : List ℕ) (p : Layout) (k : ℕ) (w : CutIn (length list) p) wh
   of_A = length-take-le p.b list (omega (arith, w.b_c, w.c_d, w.d_n))
 
   of_B : length B ≡ p.c - p.b
-  of_B = turned_long p.b_turned list p.b p.c (omega (arith, w.c_d, w.d_n))
+  of_B = turned_long p.way.b_turned list p.b p.c (omega (arith, w.c_d, w.d_n))
 
   of_C : length C ≡ p.d - p.c
-  of_C = turned_long p.c_turned list p.c p.d w.d_n
+  of_C = turned_long p.way.c_turned list p.c p.d w.d_n
 
   pub read_head : k < p.b → get_or list k 0 ≡ get_or (laid list p) k 0
   unfolding laid
-  read_head h = go p.exchanged
+  read_head h = go p.way.exchanged
     where
       go : (e : Bool) → get_or list k 0 ≡ get_or (A ++ in_order e B C ++ D) k 0
       go false = sym (get_or-take p.b list k 0 h) ∙ in_A A B C D _ _ _ k of_A of_B of_C h
@@ -197,7 +197,7 @@ module _ (list : List ℕ) (p : Layout) (k : ℕ) (w : CutIn (length list) p) wh
 
   pub read_tail : p.d ≤ k → get_or list k 0 ≡ get_or (laid list p) k 0
   unfolding laid
-  read_tail h = go p.exchanged
+  read_tail h = go p.way.exchanged
     where
       there : get_or list k 0 ≡ get_or D (k - p.d) 0
       there = let at : p.d + (k - p.d) ≡ k = omega arith in sym (get_or-drop p.d list (k - p.d) 0 ∙ ap (λ (i : ℕ). get_or list i 0) at)
@@ -213,22 +213,22 @@ module _ (list : List ℕ) (p : Layout) (k : ℕ) (w : CutIn (length list) p) wh
       go true = there ∙ ap (λ (i : ℕ). get_or D i 0) other ∙ in_D A C B D _ _ _ k of_A of_C of_B (omega (arith, w.b_c, w.c_d))
 
   -- B and then C
-  pub read_B : p.exchanged ≡ false → p.b ≤ k → k < p.c → get_or B (k - p.b) 0 ≡ get_or (laid list p) k 0
+  pub read_B : p.way.exchanged ≡ false → p.b ≤ k → k < p.c → get_or B (k - p.b) 0 ≡ get_or (laid list p) k 0
   unfolding laid
   read_B e g h = rw e (in_X A B C D _ _ _ k of_A of_B of_C g (omega (arith, w.b_c)))
 
-  pub read_C : p.exchanged ≡ false → p.c ≤ k → k < p.d → get_or C (k - p.c) 0 ≡ get_or (laid list p) k 0
+  pub read_C : p.way.exchanged ≡ false → p.c ≤ k → k < p.d → get_or C (k - p.c) 0 ≡ get_or (laid list p) k 0
   unfolding laid
   read_C e g h =
       let at : k - p.c ≡ k - p.b - (p.c - p.b) = omega (arith, w.b_c) in
       rw (e, at) (in_Y A B C D _ _ _ k of_A of_B of_C (omega (arith, w.b_c)) (omega (arith, w.b_c, w.c_d)))
 
   -- C and then B
-  pub read_C-first : p.exchanged ≡ true → p.b ≤ k → k < p.b + (p.d - p.c) → get_or C (k - p.b) 0 ≡ get_or (laid list p) k 0
+  pub read_C-first : p.way.exchanged ≡ true → p.b ≤ k → k < p.b + (p.d - p.c) → get_or C (k - p.b) 0 ≡ get_or (laid list p) k 0
   unfolding laid
   read_C-first e g h = rw e (in_X A C B D _ _ _ k of_A of_C of_B g h)
 
-  pub read_B_second : p.exchanged ≡ true → p.b + (p.d - p.c) ≤ k → k < p.d → get_or B (k - (p.b + (p.d - p.c))) 0 ≡ get_or (laid list p) k 0
+  pub read_B_second : p.way.exchanged ≡ true → p.b + (p.d - p.c) ≤ k → k < p.d → get_or B (k - (p.b + (p.d - p.c))) 0 ≡ get_or (laid list p) k 0
   unfolding laid
   read_B_second e g h =
       let at : k - (p.b + (p.d - p.c)) ≡ k - p.b - (p.d - p.c) = omega arith in

@@ -12,7 +12,7 @@ ghost use Rattle.evaluation.specs.Route.{feasible};
 ghost use Rattle.heads.specs.Head.{Driven};
 ghost use Rattle.descent.specs.Permitted.{turn};
 ghost use Rattle.engine.specs.Engine.{passing};
-ghost use Rattle.layouts.specs.Layout.{arrangement, way_of, layout, laid, CutIn, passes_from};
+ghost use Rattle.layouts.specs.Layout.{arrangement, nth_way, layout, laid, CutIn, passes_from};
 
 use buffers::{append, append_stretch, append_stretch_reversed};
 use day::vehicle::{RouteLimits, VehicleBreak};
@@ -30,79 +30,86 @@ pub struct Way {
     pub c_turned: bool,
 }
 
+// B and C change places; and B is turned round where it stands.
+pub const EXCHANGED: Way = Way {
+    exchanged: true,
+    b_turned: false,
+    c_turned: false,
+};
+
+pub const B_TURNED: Way = Way {
+    exchanged: false,
+    b_turned: true,
+    c_turned: false,
+};
+
+// All ways but the one that changes nothing, in the order of the Rust's patterns 1 to 7.
+pub const WAYS: [Way; 7] = [
+    Way {
+        exchanged: false,
+        b_turned: false,
+        c_turned: true,
+    },
+    Way {
+        exchanged: false,
+        b_turned: true,
+        c_turned: false,
+    },
+    Way {
+        exchanged: false,
+        b_turned: true,
+        c_turned: true,
+    },
+    Way {
+        exchanged: true,
+        b_turned: false,
+        c_turned: false,
+    },
+    Way {
+        exchanged: true,
+        b_turned: true,
+        c_turned: false,
+    },
+    Way {
+        exchanged: true,
+        b_turned: false,
+        c_turned: true,
+    },
+    Way {
+        exchanged: true,
+        b_turned: true,
+        c_turned: true,
+    },
+];
+
 // Where the pieces B, C and D begin, and how B and C are arranged.
 #[derive(Clone, Copy)]
 pub struct Layout {
     pub b: usize,
     pub c: usize,
     pub d: usize,
-    pub exchanged: bool,
-    pub b_turned: bool,
-    pub c_turned: bool,
+    pub way: Way,
 }
 
-// The Rust's patterns of 3-opt by their numbers, 1 to 7; 0 leaves the list as it is.
-pub fn way_of(pattern: usize) -> Way
-    requires { pattern < 8 }
-    ensures { arrangement result ≡ way_of pattern }
+// A way by its number.
+#[inline]
+pub fn nth_way(number: usize) -> Way
+    requires { number < 7 }
+    ensures { arrangement result ≡ nth_way number }
 {
-    match pattern {
-        0 => Way {
-            exchanged: false,
-            b_turned: false,
-            c_turned: false,
-        },
-        1 => Way {
-            exchanged: false,
-            b_turned: false,
-            c_turned: true,
-        },
-        2 => Way {
-            exchanged: false,
-            b_turned: true,
-            c_turned: false,
-        },
-        3 => Way {
-            exchanged: false,
-            b_turned: true,
-            c_turned: true,
-        },
-        4 => Way {
-            exchanged: true,
-            b_turned: false,
-            c_turned: false,
-        },
-        5 => Way {
-            exchanged: true,
-            b_turned: true,
-            c_turned: false,
-        },
-        6 => Way {
-            exchanged: true,
-            b_turned: false,
-            c_turned: true,
-        },
-        _ => Way {
-            exchanged: true,
-            b_turned: true,
-            c_turned: true,
-        },
-    }
+    WAYS[number]
 }
 
-// The list cut behind its visits i, j and k, and reconnected as a pattern has it.
-pub fn reconnection(i: usize, j: usize, k: usize, pattern: usize) -> Layout
-    requires { (i < usize.MAX) × (j < usize.MAX) × (k < usize.MAX) × (pattern < 8) }
-    ensures { result ≡ layout (i + 1) (j + 1) (k + 1) (way_of pattern) }
+// The list cut behind its visits i, j and k, and reconnected in a way.
+pub fn reconnection(i: usize, j: usize, k: usize, way: Way) -> Layout
+    requires { (i < usize.MAX) × (j < usize.MAX) × (k < usize.MAX) }
+    ensures { result ≡ layout (i + 1) (j + 1) (k + 1) (arrangement way) }
 {
-    let way = way_of(pattern);
     Layout {
         b: i + 1,
         c: j + 1,
         d: k + 1,
-        exchanged: way.exchanged,
-        b_turned: way.b_turned,
-        c_turned: way.c_turned,
+        way,
     }
 }
 
@@ -114,9 +121,7 @@ pub fn reversal(first: usize, end: usize) -> Layout
         b: first,
         c: end,
         d: end,
-        exchanged: false,
-        b_turned: true,
-        c_turned: false,
+        way: B_TURNED,
     }
 }
 
@@ -149,14 +154,14 @@ pub fn lay_out(buffer: &mut [u16], list: &[u16], p: Layout, from: usize)
     ensures { take (length list.now - from) buffer.new ≡ drop from (laid list.now p) }
 {
     let a_end = append_stretch(buffer, 0, list, from, p.b);
-    if p.exchanged {
-        let c_end = append_piece(buffer, a_end, list, p.c, p.d, p.c_turned);
-        let b_end = append_piece(buffer, c_end, list, p.b, p.c, p.b_turned);
+    if p.way.exchanged {
+        let c_end = append_piece(buffer, a_end, list, p.c, p.d, p.way.c_turned);
+        let b_end = append_piece(buffer, c_end, list, p.b, p.c, p.way.b_turned);
         append_stretch(buffer, b_end, list, p.d, list.len());
         return;
     }
-    let b_end = append_piece(buffer, a_end, list, p.b, p.c, p.b_turned);
-    let c_end = append_piece(buffer, b_end, list, p.c, p.d, p.c_turned);
+    let b_end = append_piece(buffer, a_end, list, p.b, p.c, p.way.b_turned);
+    let c_end = append_piece(buffer, b_end, list, p.c, p.d, p.way.c_turned);
     append_stretch(buffer, c_end, list, p.d, list.len());
 }
 
@@ -194,20 +199,21 @@ fn visit_laid(list: &[u16], p: Layout, k: usize) -> usize
     if p.d <= k {
         return visit_at(list, k);
     }
-    if p.exchanged {
+    if p.way.exchanged {
         let middle = p.b + (p.d - p.c);
         if k < middle {
-            return visit_of_stretch(list, p.c, p.d, p.c_turned, k - p.b);
+            return visit_of_stretch(list, p.c, p.d, p.way.c_turned, k - p.b);
         }
-        return visit_of_stretch(list, p.b, p.c, p.b_turned, k - middle);
+        return visit_of_stretch(list, p.b, p.c, p.way.b_turned, k - middle);
     }
     if k < p.c {
-        return visit_of_stretch(list, p.b, p.c, p.b_turned, k - p.b);
+        return visit_of_stretch(list, p.b, p.c, p.way.b_turned, k - p.b);
     }
-    visit_of_stretch(list, p.c, p.d, p.c_turned, k - p.c)
+    visit_of_stretch(list, p.c, p.d, p.way.c_turned, k - p.c)
 }
 
-// Whether the list as it is laid out passes with no break to take, driven from the end of a head that it shares.
+// Whether the list as it is laid out passes with no break to take, driven from the end of a head that it shares. A loop of its own beside `Drive::home`,
+// whose visits stand in a slice: these are read by position, so that no list is built.
 fn passes_from(
     columns: &Columns,
     limits: RouteLimits,

@@ -28,7 +28,7 @@ fn shape_ok(visits: &[u16], lengths: &[u16]) -> bool
 fn visit_ok(depots: usize, l: usize, visit: u16) -> bool
     ensures { result ≡ visit_ok depots l visit }
 {
-    let office = visit as usize;
+    let office = usize::from(visit);
     depots <= office && office < l
 }
 
@@ -46,7 +46,7 @@ fn all_distinct(visits: &[u16]) -> bool
 {
     let mut seen = [false; 64];
     for visit in visits {
-        let office = *visit as usize;
+        let office = usize::from(*visit);
         if seen[office] {
             return false;
         }

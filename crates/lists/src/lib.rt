@@ -13,7 +13,7 @@ pub fn place_of(lengths: &[u16], r: usize, position: usize) -> usize
 {
     let mut place = position;
     for length in &lengths[..r] {
-        place += *length as usize;
+        place += usize::from(*length);
     }
     place
 }
@@ -31,7 +31,7 @@ pub fn length_of(lengths: &[u16], r: usize) -> usize
     requires { r < length lengths.now }
     ensures { (result ≡ get_or lengths.now r 0) × (result ≤ 65535) }
 {
-    lengths[r] as usize
+    usize::from(lengths[r])
 }
 
 // Where list r ends.

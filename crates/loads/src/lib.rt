@@ -33,7 +33,7 @@ pub fn boxes_at(l: usize, demand: &[i32], list: &[u16], k: usize) -> usize
     requires { Loaded l demand.now × (k < length list.now) × (get_or list.now k 0 < l) }
     ensures { result ≡ boxes_of demand.now (get_or list.now k 0) }
 {
-    let visit = list[k] as usize;
+    let visit = usize::from(list[k]);
     boxes_of(demand, visit)
 }
 
@@ -44,7 +44,7 @@ pub fn load_of(l: usize, demand: &[i32], list: &[u16]) -> usize
 {
     let mut load = 0;
     for visit in list {
-        load += boxes_of(demand, *visit as usize);
+        load += boxes_of(demand, usize::from(*visit));
     }
     load
 }

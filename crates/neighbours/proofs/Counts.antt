@@ -6,7 +6,7 @@ use Rattle.descent.specs.Order.{range, each}
 use Rattle.descent.specs.Within.{reversals, pieces, cuts}
 use Rattle.descent.proofs.Counts.{length_mapped, two_opt_tries, or_opt_tries, three_opt-cuts, three_opt_few, three_opt_tries}
 use Rattle.neighbours.specs.Neighbours.{reversal, relocation, reconnection, ways, to_the_end, neighbours}
-use Rattle.neighbours.specs.declared.Neighbourhood.TheVariants.{Reverse, Relocate, Reconnect}
+use Rattle.neighbours.specs.Neighbours.{Reverse, Relocate, Reconnect}
 
 -- '2-opt n(n-1)/2'
 pub reverse_tries : (n : ℕ) → length (neighbours Reverse n) ≡ n * (n - 1) / 2

@@ -14,11 +14,8 @@ use Rattle.edits.specs.Edits.{reversed}
 use Rattle.labels.specs.Columns.{Visits}
 use Rattle.descent.specs.Within.{put_before_lem}
 use Rattle.neighbours.specs.Neighbours.{made}
-use Rattle.neighbours.specs.Places.{way_of, meant, Inside, Lays}
-use Rattle.neighbours.specs.declared.Place.{Place}
-use Rattle.neighbours.specs.declared.Place.TheVariants.{Turned, Moved, Reconnected}
-use Rattle.layouts.specs.Layout.{layout, laid}
-use Rattle.layouts.specs.Layout as Layout-of
+use Rattle.neighbours.specs.Places.{Place, Turned, Moved, Reconnected, meant, Inside, Lays}
+use Rattle.layouts.specs.Layout.{nth_way, layout, laid}
 use Rattle.layouts.specs.declared.Layout.{Layout}
 use Rattle.layouts.proofs.Layouts.{laid_visits, head_kept, reversal_cut, reversal_is, reconnection_cut, reconnection_is}
 
@@ -50,17 +47,11 @@ lays_later n size from to (one, three, fits, inr behind, end) h = record {
       ∙ rw (le-ltb to from h, put_before_lem);
 }
 
--- the ways are the patterns from 1 on
-ways_are : (way : ℕ) → Layout-of.way_of (way + 1) ≡ way_of way
-unfolding Layout-of.way_of
-ways_are way = rw (add-one way)
-
-pub lays_reconnected : (n i j k way : ℕ) → Inside n (Reconnected i j k way)
-    → Lays n (Reconnected i j k way) (layout (i + 1) (j + 1) (k + 1) (Layout-of.way_of (way + 1)))
+pub lays_reconnected : (n i j k way : ℕ) → Inside n (Reconnected i j k way) → Lays n (Reconnected i j k way) (layout (i + 1) (j + 1) (k + 1) (nth_way way))
 unfolding Inside made meant
 lays_reconnected n i j k way w = record {
-  within = reconnection_cut n i j k (Layout-of.way_of (way + 1)) w.0 w.1 w.2;
-  same = λ list. rw (ways_are way) (reconnection_is list i j k (way_of way));
+  within = reconnection_cut n i j k (nth_way way) w.0 w.1 w.2;
+  same = λ list. reconnection_is list i j k (nth_way way);
 }
 
 -- ---- what a neighbour keeps

@@ -14,11 +14,11 @@ use Rattle.descent.specs.Permitted.{seven}
 use Rattle.descent.specs.Within.{pieces, cuts}
 use Rattle.descent.proofs.Loops.{range_step, range_done, rows_from, reversals_turn}
 use Rattle.neighbours.specs.Neighbours.{neighbours, reversal, relocation, reconnection, ways, to_the_end}
-use Rattle.neighbours.specs.Places.{way_of, meant, Inside, InsideAny, onward, rest, Follows, tos_from, piece_row, pieces_from, firsts_from}
+use Rattle.layouts.specs.Layout.{nth_way}
+use Rattle.neighbours.specs.Places.{Place, Turned, Moved, Reconnected, meant, Inside, InsideAny, onward, rest, Follows, tos_from, piece_row, pieces_from, firsts_from}
+use Rattle.layouts.specs.Layout.{nth_way}
 use Rattle.neighbours.specs.Places.{cuts_from, reconnections_from}
-use Rattle.neighbours.specs.declared.Place.TheVariants.{Turned, Moved, Reconnected}
-use Rattle.neighbours.specs.declared.Neighbourhood.TheVariants.{Reconnect}
-use Rattle.neighbours.specs.declared.Place.{Place}
+use Rattle.neighbours.specs.Neighbours.{Reconnect}
 
 -- ---- reversals
 
@@ -179,7 +179,7 @@ module _ (n i j k way : ℕ) (w : Inside n (Reconnected i j k way)) where
   way_on h = record { same = rw (add-one, drop-cons seven way (false, false, false) w.3); inside = (w.0, w.1, w.2, omega arith) }
 
   last-way : 6 ≤ way → reconnections_from n i j k way
-      ≡ record { cut = record { i = i; j = j; k = k }; way = way_of way } ∷ each (cuts_from n i j (suc k)) ways
+      ≡ record { cut = record { i = i; j = j; k = k }; way = nth_way way } ∷ each (cuts_from n i j (suc k)) ways
   unfolding Inside
   last-way h = let six : way ≡ 6 = omega arith in rw six
 

@@ -3,8 +3,15 @@ use Rattle.std.specs.Prelude.{ℕ, List, map}
 use Rattle.descent.specs.Order.{range, each}
 use Rattle.descent.specs.Permitted.{seven}
 use Rattle.descent.specs.Within.{Reversal, reversals, turned, Piece, pieces, put_before_lem, Cut, Reconnection, cuts, reconnect}
-use Rattle.neighbours.specs.declared.Neighbourhood.{Neighbourhood}
-use Rattle.neighbours.specs.declared.Neighbourhood.TheVariants.{Reverse, Relocate, Reconnect}
+
+-- which neighbourhood a search moves in
+pub data Neighbourhood : Type 0 where
+  -- reverse a stretch of the list
+  Reverse : Neighbourhood
+  -- move a stretch of one to three visits elsewhere, in the same direction
+  Relocate : Neighbourhood
+  -- cut behind three visits and reconnect the pieces in every other way
+  Reconnect : Neighbourhood
 
 -- one move: a candidate of 2-opt, of Or-opt, or of 3-opt
 pub data Neighbour : Type 0 where

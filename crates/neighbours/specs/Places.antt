@@ -1,24 +1,32 @@
 -- A neighbour by its numbers, as the code goes through them one by one, and a list laid out in four pieces. For the inner contracts. Assumes nothing.
-use Rattle.std.specs.Prelude.{ℕ, suc, ◌+◌, ◌-◌, ◌≤◌, ◌<◌, ◌≡◌, ◌⊎◌, true, false, List, [], ◌∷◌, ◌++◌, map, ltb, drop, get_or, Option, Some, None}
+use Rattle.std.specs.Prelude.{ℕ, suc, ◌+◌, ◌-◌, ◌≤◌, ◌<◌, ◌≡◌, ◌⊎◌, true, false, List, [], ◌∷◌, ◌++◌, map, ltb, drop, Option, Some, None}
 use Rattle.descent.specs.Order.{range, each}
-use Rattle.descent.specs.Permitted.{Arrangement, seven}
+use Rattle.descent.specs.Permitted.{seven}
 use Rattle.descent.specs.Within.{Piece, pieces, Cut, Reconnection}
 use Rattle.descent.proofs.Loops.{reversals_from}
 use Rattle.neighbours.specs.Neighbours.{Neighbour, reversal, relocation, reconnection, ways, to_the_end, made}
-use Rattle.neighbours.specs.declared.Place.{Place}
-use Rattle.neighbours.specs.declared.Place.TheVariants.{Turned, Moved, Reconnected}
-use Rattle.layouts.specs.Layout.{laid, CutIn}
+use Rattle.layouts.specs.Layout.{nth_way, laid, CutIn}
 use Rattle.layouts.specs.declared.Layout.{Layout}
 
--- the way of a number, 0 to 6
-abbrev pub way_of : ℕ → Arrangement
-way_of way = get_or seven way (false, false, false)
+-- a neighbour, by its numbers
+pub data Place : Type 0 where
+  -- the visits from the first to the last turned round
+  Turned : ℕ → ℕ → Place
+  -- so many visits, from which place on, and before the visit at which place of the original list they go
+  Moved : ℕ → ℕ → ℕ → Place
+  -- cut behind these three visits, and reconnected in one of the seven ways, 0 to 6
+  Reconnected : ℕ → ℕ → ℕ → ℕ → Place
+
+-- a place that was found, as a neighbourhood has its places
+abbrev pub placed : {P : Type 0} → (P → Place) → Option P → Option Place
+placed place None = None
+placed place (Some at) = Some (place at)
 
 -- the neighbour at a place
 unfoldable pub meant : Place → Neighbour
 meant (Turned first last) = reversal (record { first = first; last = last })
 meant (Moved size from to) = relocation (record { size = size; from = from; to = to })
-meant (Reconnected i j k way) = reconnection (record { cut = record { i = i; j = j; k = k }; way = way_of way })
+meant (Reconnected i j k way) = reconnection (record { cut = record { i = i; j = j; k = k }; way = nth_way way })
 
 -- a place of a list of n
 unfoldable pub Inside : ℕ → Place → Type 0

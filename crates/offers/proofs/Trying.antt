@@ -11,7 +11,7 @@ use native.Mathlib.Omega.{arith}
 use borrow.Author.Tests.{ltb-true, ltb-false}
 use lib.Dec.{T, ltb}
 use lib.IntN.{ℤ}
-use lib.ListN.{length, get_or, set}
+use lib.ListN.{length, get_or}
 use lib.Ieee.{Float, nan, inf, fin, binary64, add, lt, le, neg, is_nan}
 use lib.Ieee.Scale.{finite}
 use Rattle.numbers.specs.Operations.{◌⊕◌}
@@ -30,22 +30,23 @@ use Rattle.deltas.proofs.Stops.{get_or_any}
 use Rattle.loads.specs.Loads.{boxes_of, Held}
 use Rattle.loads.proofs.Tables.{visit_below}
 use Rattle.descent.specs.Scan.{onward, figure, Counted}
-use Rattle.pairs.specs.Pairs.{move_of, nothing, IsBest}
+use Rattle.pairs.specs.Pairs.{move_of, nothing}
 use Rattle.pairs.specs.declared.Choice.{Choice}
 use Rattle.descent.proofs.Scanning.{onward_stays, onward_end}
-use Rattle.pairs.proofs.Taken.{best-same_list, best-across}
-use Rattle.insertions.specs.Cache.{LeastAt, cell, known_at, least_below}
+use Rattle.pairs.proofs.Taken.{best-across}
+use Rattle.insertions.specs.Cache.{LeastAt, known_at, Noted, least_below}
 use Rattle.places.specs.Places.{Prepared, ruled_out, best_among}
 use Rattle.places.specs.declared.Setup.{Setup}
 use Rattle.places.specs.declared.Tried.{Tried}
-use Rattle.offers.specs.Offers.{search_of, judge_of, bound, into_list}
-use Rattle.offers.specs.Offers.{Cached, Best, Scanned}
+use Rattle.relocations.specs.Relocations.{BestOf}
+use Rattle.relocations.proofs.Scanning.{into_list, Best, Scanned, none_yet, Scanning, scanning_start, scanning_turn, scanning_end}
+use Rattle.offers.specs.Offers.{judge_of, bound, terms_of, Cached}
 use Rattle.visit_offers.specs.Tried.{cost_of, offer_of, tried}
 use Rattle.insertions.specs.declared.Least.{Least}
+use Rattle.insertions.specs.declared.Insertions.{Insertions}
 use Rattle.insertions.proofs.Reached.{scan_reaches}
 use Rattle.insertions.proofs.Cached.{noted}
-use Rattle.offers.proofs.Choosing.{refused_as, offered_as, none_yet}
-use Rattle.offers.proofs.Choosing.{Scanning, scanning_start, scanning_turn, scanning_end}
+use Rattle.offers.proofs.Choosing.{refused_as, offered_as}
 
 -- ---- candidates that don't count
 
@@ -96,7 +97,7 @@ no_gain removal known (fin s m d) limit f e h =
 module _ (c : Columns) (demand : List ℤ) (s : Setup) (visits lengths : List ℕ) (from position to : ℕ) (prepared : Prepared s c)
     (held : Held c.l visits lengths) (visit-there : position < get_or lengths from 0)
     (X Y : List ℕ) (is-giver : X ≡ list_of visits lengths from) (is-receiver : Y ≡ list_of visits lengths to) (load : ℕ)
-    (is-load : load ≡ total (boxes_of demand) Y) (best : Choice) (b : Best c demand s visits lengths best) where
+    (is-load : load ≡ total (boxes_of demand) Y) (best : Choice) (b : Best (terms_of c demand s) (lists visits lengths) best) where
   abbrev ls : List (List ℕ)
   ls = lists visits lengths
 
@@ -120,24 +121,24 @@ module _ (c : Columns) (demand : List ℤ) (s : Setup) (visits lengths : List �
   Right l = T (finite l.figure) → LeastAt (cost_of c s Y visit) (suc (length Y)) l.figure l.place
 
   pub record Tries (t : Tried) : Type 0 where
-    pub scanned : Scanned c demand s visits lengths (into_list ls from position to) best t.best
+    pub scanned : Scanned (terms_of c demand s) (lists visits lengths) (into_list ls from position to) best t.best
     pub right : Right t.least
 
-  ruled : (pruning : Bool) (known : Least) → Right known → ruled_out pruning s.floor removal known.figure ≡ true
-      → Scanned c demand s visits lengths (into_list ls from position to) best best
-  unfolding ruled_out into_list bound
-  ruled pruning known right e = record {
+  ruled : (known : Least) → Right known → ruled_out s.pruning s.floor removal known.figure ≡ true
+      → Scanned (terms_of c demand s) (lists visits lengths) (into_list ls from position to) best best
+  unfolding ruled_out into_list
+  ruled known right e = record {
     scanned = sym (onward_dull _ _ _ (move_of best) _ b.counted dull);
     still = b;
   }
     where
       parts : (finite known.figure ≡ true) × (le (neg s.floor) (removal ⊕ known.figure) ≡ true)
       parts =
-          let whole = and_parts pruning (finite known.figure && le (neg s.floor) (removal ⊕ known.figure)) e in
+          let whole = and_parts s.pruning (finite known.figure && le (neg s.floor) (removal ⊕ known.figure)) e in
           and_parts (finite known.figure) (le (neg s.floor) (removal ⊕ known.figure)) whole.1
 
       dull : (m : Relocation) → m ∈ map move (range 0 (suc (length (at (lists visits lengths) to))))
-          → lt ((judge_of c s).delta (lists visits lengths) m) (bound c) ≡ false
+          → lt ((judge_of c s).delta (lists visits lengths) m) (bound s) ≡ false
       dull m i =
           let p = map_in move (range 0 (suc (length (at (lists visits lengths) to)))) m i in
           let f = true-T (finite known.figure) parts.0 in
@@ -148,27 +149,26 @@ module _ (c : Columns) (demand : List ℤ) (s : Setup) (visits lengths : List �
           let low = (right f).least p.0 near in
           let limit = true-T (le (neg s.floor) (removal ⊕ known.figure)) parts.1 in
           let none = no_gain removal known.figure (cost_of c s Y visit p.0) (neg s.floor) f low limit in
-          rw (← p.2, the_delta p.0, ← prepared.floor) none
+          rw (← p.2, the_delta p.0) none
 
-  pub tries : (pruning : Bool) (known : Least) → Right known → Tries (tried c demand s pruning X Y load from position to best known)
+  pub tries : (known : Least) → Right known → Tries (tried c demand s X Y load from position to best known)
   unfolding tried
-  tries pruning known right =
-      go (ltb s.capacity (load + boxes_of demand visit)) refl pruning (ruled_out pruning s.floor removal known.figure) refl
+  tries known right =
+      go (ltb s.capacity (load + boxes_of demand visit)) refl (ruled_out s.pruning s.floor removal known.figure) refl
     where
-      go : (u : Bool) → ltb s.capacity (load + boxes_of demand visit) ≡ u
-          → (q w : Bool) → ruled_out q s.floor removal known.figure ≡ w
+      go : (u : Bool) → ltb s.capacity (load + boxes_of demand visit) ≡ u → (w : Bool) → ruled_out s.pruning s.floor removal known.figure ≡ w
           → Tries (cond u (record { best = best; least = known }) (cond w (record { best = best; least = known })
           (record {
             best = best_among c s Y (offer_of c s X from position to) (range 0 (suc (length Y))) best;
             least = least_below (cost_of c s Y visit) (suc (length Y));
           })))
-      go true e q w g = record {
+      go true e w g = record {
         scanned = refused_as c demand s visits lengths from position to prepared held visit-there X Y is-giver is-receiver visit load
             (boxes_of demand visit) refl is-load refl best b (ltb-true s.capacity (load + boxes_of demand visit) e);
         right = right;
       }
-      go false e q true g = record { scanned = ruled q known right g; right = right }
-      go false e q false g = record {
+      go false e true g = record { scanned = ruled known right g; right = right }
+      go false e false g = record {
         scanned = offered_as c demand s visits lengths from position to prepared held visit-there X Y is-giver is-receiver visit load
             (boxes_of demand visit) refl is-load refl best b (ltb-false s.capacity (load + boxes_of demand visit) e) removal _ refl refl;
         right = scan_reaches (cost_of c s Y visit) (suc (length Y));
@@ -182,31 +182,28 @@ module _ (c : Columns) (demand : List ℤ) (s : Setup) (visits lengths : List �
   left position = each (range position (length X)) (λ p. into_list (lists visits lengths) from p to)
 
   -- so far: the scan over what is left comes to the pair's best, and the cache is right
-  pub record Pairing (first : Choice) (position : ℕ) (best : Choice) (figures : List Float) (places : List ℕ) : Type 0 where
-    pub scanning : Scanning c demand s visits lengths (left position) (left 0) first best
-    pub cached : Cached c s (lists visits lengths) figures places
+  pub record Pairing (first : Choice) (position : ℕ) (best : Choice) (cache : Insertions) : Type 0 where
+    pub scanning : Scanning (terms_of c demand s) (lists visits lengths) (left position) (left 0) first best
+    pub cached : Cached c s (lists visits lengths) cache
 
 module _ (c : Columns) (demand : List ℤ) (s : Setup) (visits lengths : List ℕ) (from to : ℕ) (prepared : Prepared s c)
     (held : Held c.l visits lengths) (X Y : List ℕ) (is-giver : X ≡ list_of visits lengths from) (is-receiver : Y ≡ list_of visits lengths to) where
   abbrev ahead : ℕ → List Relocation
   ahead = left c demand s visits lengths from to X
 
-  abbrev So : Choice → ℕ → Choice → List Float → List ℕ → Type 0
+  abbrev So : Choice → ℕ → Choice → Insertions → Type 0
   So = Pairing c demand s visits lengths from to X
 
-  module _ (load : ℕ) (is-load : load ≡ total (boxes_of demand) Y) (takes : to < length lengths) (pruning : Bool) (first best : Choice) (position : ℕ)
-      (figures : List Float) (places : List ℕ) (w : So first position best figures places) (h : position < length X) where
+  module _ (load : ℕ) (is-load : load ≡ total (boxes_of demand) Y) (takes : to < length lengths) (first best : Choice) (position : ℕ)
+      (cache : Insertions) (w : So first position best cache) (h : position < length X) where
     abbrev this : Tried
-    this = tried c demand s pruning X Y load from position to best (known_at figures places (get_or X position 0) to)
+    this = tried c demand s X Y load from position to best (known_at cache (get_or X position 0) to)
 
-    pub pairing_turn : (after : Choice) (figures' : List Float) (places' : List ℕ) → after ≡ this.best
-        → figures' ≡ set figures (cell (get_or X position 0) to) this.least.figure
-        → places' ≡ set places (cell (get_or X position 0) to) this.least.place
-        → So first (position + 1) after figures' places'
-    pairing_turn after figures' places' is-best is-figures is-places = rw (is-best, is-figures, is-places) (record {
-      scanning = scanning_turn c demand s visits lengths _ position (length X) (ahead 0) first best w.scanning this.best h t.scanned;
-      cached = noted (cost_of c s) c.l (lists visits lengths) figures places w.cached to few (get_or X position 0) below this.least.figure
-          this.least.place (rw here_now t.right);
+    pub pairing_turn : (after : Choice) (cache' : Insertions) → after ≡ this.best → Noted (get_or X position 0) to this.least cache cache'
+        → So first (position + 1) after cache'
+    pairing_turn after cache' is-best is-noted = rw is-best (record {
+      scanning = scanning_turn (terms_of c demand s) (lists visits lengths) _ position (length X) (ahead 0) first best w.scanning this.best h t.scanned;
+      cached = noted (cost_of c s) c.l (lists visits lengths) cache cache' w.cached to few (get_or X position 0) this.least (rw here_now t.right) is-noted;
     })
       where
         few : to < 16
@@ -221,43 +218,27 @@ module _ (c : Columns) (demand : List ℤ) (s : Setup) (visits lengths : List �
         here_now : get_or (lists visits lengths) to [] ≡ Y
         here_now = at_lists visits lengths to ∙ sym is-receiver
 
-        known-right : T (finite (get_or figures (cell (get_or X position 0) to) nan))
-            → LeastAt (cost_of c s Y (get_or X position 0)) (suc (length Y)) (get_or figures (cell (get_or X position 0) to) nan)
-            (get_or places (cell (get_or X position 0) to) 0)
+        known-right : T (finite (known_at cache (get_or X position 0) to).figure)
+            → LeastAt (cost_of c s Y (get_or X position 0)) (suc (length Y)) (known_at cache (get_or X position 0) to).figure
+            (known_at cache (get_or X position 0) to).place
         known-right = rw here_now at (w.cached.known (get_or X position 0) to below few)
 
         t : Tries c demand s visits lengths from position to prepared held there X Y is-giver is-receiver load is-load best w.scanning.still this
-        t = tries c demand s visits lengths from position to prepared held there X Y is-giver is-receiver load is-load best w.scanning.still pruning
-            (known_at figures places (get_or X position 0) to) known-right
+        t = tries c demand s visits lengths from position to prepared held there X Y is-giver is-receiver load is-load best w.scanning.still
+            (known_at cache (get_or X position 0) to) known-right
 
-  pub pairing_start : (floor : Float) → floor ≡ s.floor → (figures : List Float) (places : List ℕ)
-      → Cached c s (lists visits lengths) figures places → So (nothing (neg floor)) 0 (nothing (neg floor)) figures places
-  pairing_start floor e figures places k = record {
-    scanning = scanning_start c demand s visits lengths (ahead 0) (nothing (neg floor)) (none_yet c demand s visits lengths floor prepared e);
+  pub pairing_start : (cache : Insertions) → Cached c s (lists visits lengths) cache → (first : Choice) → first ≡ nothing (bound s) → So first 0 first cache
+  pairing_start cache k first e = rw e (record {
+    scanning = scanning_start (terms_of c demand s) (lists visits lengths) (ahead 0) (nothing (bound s)) (none_yet (terms_of c demand s) (lists visits lengths));
     cached = k;
-  }
+  })
 
-  pub pairing_end : (floor : Float) (position : ℕ) (best : Choice) (figures : List Float) (places : List ℕ)
-      → So (nothing (neg floor)) position best figures places → from ≢ to → length X ≤ position
-      → IsBest ((judge_of c s).delta (lists visits lengths)) ((search_of c demand s).passes (lists visits lengths)) (bound c) (lists visits lengths) from to best
+  pub pairing_end : (first : Choice) → first ≡ nothing (bound s) → (position : ℕ) (best : Choice) (cache : Insertions) → So first position best cache
+      → from ≢ to → length X ≤ position
+      → BestOf (terms_of c demand s) (lists visits lengths) from to best
   unfolding move_of into_list
-  pairing_end floor position best figures places w apart h =
-      let done = scanning_end c demand s visits lengths _ position (length X) (ahead 0) (nothing (neg floor)) best w.scanning h in
+  pairing_end first e position best cache w apart h =
+      let done : Scanned (terms_of c demand s) (lists visits lengths) (ahead 0) (nothing (bound s)) best
+      = rw e at (scanning_end (terms_of c demand s) (lists visits lengths) _ position (length X) (ahead 0) first best w.scanning h) in
       let whole : X ≡ at (lists visits lengths) from = is-giver ∙ sym (at_lists visits lengths from) in
       best-across _ _ _ _ from to best apart (rw whole at done.scanned) done.still.figured
-
-  -- an empty list has none
-  pub pair_empty : (floor : Float) → floor ≡ s.floor → (figures : List Float) (places : List ℕ) → Cached c s (lists visits lengths) figures places
-      → from ≢ to → get_or lengths from 0 ≡ 0
-      → IsBest ((judge_of c s).delta (lists visits lengths)) ((search_of c demand s).passes (lists visits lengths)) (bound c) (lists visits lengths) from to
-      (nothing (neg floor))
-  pair_empty floor e figures places k apart empty =
-      let long : length X ≡ get_or lengths from 0 = ap length is-giver ∙ length_list visits lengths held.laid.add_up from in
-      pairing_end floor 0 (nothing (neg floor)) figures places (pairing_start floor e figures places k) apart (omega (arith, long, empty))
-
-  -- and a list has none into itself
-  pub pair-none : (floor : Float) → floor ≡ s.floor → from ≡ to
-      → IsBest ((judge_of c s).delta (lists visits lengths)) ((search_of c demand s).passes (lists visits lengths)) (bound c) (lists visits lengths) from to
-      (nothing (neg floor))
-  unfolding bound
-  pair-none floor e h = rw (e, prepared.floor) (best-same_list _ _ _ _ from to h)

@@ -18,10 +18,11 @@ use Rattle.descent.specs.Order.{◌∈◌}
 use Rattle.descent.specs.Across.{Relocation}
 use Rattle.descent.proofs.Members.{fails, true-T}
 use Rattle.descent.specs.Scan.{may, onward, figure}
-use Rattle.pairs.specs.Pairs.{between, Short, as_move, move_of, Table, Sized, slot, entry, narrowed, put}
+use Rattle.pairs.specs.Pairs.{between, Short, as_move, move_of, Sized, slot, entry, narrowed, put}
 use Rattle.pairs.specs.Pairs.{found_if, is_found, pair_best, IsBest, Stored, StoredBoth, RightWhere, Right}
 use Rattle.pairs.specs.Pairs.{Before, Untouched, Renewed, Agree}
 use Rattle.pairs.specs.declared.Choice.{Choice}
+use Rattle.pairs.specs.declared.PairTable.{PairTable}
 use Rattle.pairs.proofs.Order.{better, same_move}
 use Rattle.pairs.proofs.Best.{Best, best-one, best_sorted}
 use Rattle.pairs.proofs.Listed.{between_sorted, Of, between_is}
@@ -35,7 +36,7 @@ Again a b other from to =
 
 -- ---- entries
 
-pub put-sized : (t : Table) (from to : ℕ) (c : Choice) → Sized t → Sized (put t from to c)
+pub put-sized : (t : PairTable) (from to : ℕ) (c : Choice) → Sized t → Sized (put t from to c)
 unfolding put
 put-sized t from to c s = record {
   deltas_size = length-set t.deltas (slot from to) c.delta ∙ s.deltas_size;
@@ -53,7 +54,7 @@ told true = refl
 told false = refl
 
 -- what was put in
-entry-put : (bound : Float) (t : Table) (from to : ℕ) (c : Choice) → Sized t → from < 16 → to < 16
+entry-put : (bound : Float) (t : PairTable) (from to : ℕ) (c : Choice) → Sized t → from < 16 → to < 16
     → entry bound (put t from to c) from to
     ≡ record {
       found = found_if (lt c.delta bound);
@@ -72,7 +73,7 @@ entry-put bound t from to c s h k =
     )
 
 -- what stood at another pair
-entry_other : (bound : Float) (t : Table) (a b from to : ℕ) (c : Choice) → b < 16 → to < 16 → ((from ≡ a) × (to ≡ b) → ⊥)
+entry_other : (bound : Float) (t : PairTable) (a b from to : ℕ) (c : Choice) → b < 16 → to < 16 → ((from ≡ a) × (to ≡ b) → ⊥)
     → entry bound (put t a b c) from to ≡ entry bound t from to
 unfolding entry put
 entry_other bound t a b from to c h k differ =
@@ -86,10 +87,10 @@ entry_other bound t a b from to c h k differ =
     apart e = differ (omega arith, omega arith)
 
 module _ (delta : Relocation → Float) (pass : Relocation → Bool) (bound : Float) (ls : List (List ℕ)) where
-  pub stored_sized : (from to : ℕ) (old new : Table) → Sized old → Stored delta pass bound ls from to old new → Sized new
+  pub stored_sized : (from to : ℕ) (old new : PairTable) → Sized old → Stored delta pass bound ls from to old new → Sized new
   stored_sized from to old new s r = rw r.is_put (put-sized old from to r.choice s)
 
-  pub both_sized : (r other : ℕ) (old new : Table) → Sized old → StoredBoth delta pass bound ls r other old new → Sized new
+  pub both_sized : (r other : ℕ) (old new : PairTable) → Sized old → StoredBoth delta pass bound ls r other old new → Sized new
   both_sized r other old new s b =
       stored_sized other r b.middle new (stored_sized r other old b.middle s b.out_of) b.into
 
@@ -105,7 +106,7 @@ module _ (delta : Relocation → Float) (pass : Relocation → Bool) (bound : Fl
 
   module _ (short : Short ls) where
     -- the entry says what was put in
-    said : (t : Table) (from to : ℕ) (c : Choice) → Sized t → from < 16 → to < 16 → IsBest delta pass bound ls from to c
+    said : (t : PairTable) (from to : ℕ) (c : Choice) → Sized t → from < 16 → to < 16 → IsBest delta pass bound ls from to c
         → move_of (entry bound (put t from to c) from to) ≡ move_of c
     said t from to c s h k b = go (is_found c) refl
       where
@@ -140,7 +141,7 @@ module _ (delta : Relocation → Float) (pass : Relocation → Bool) (bound : Fl
             ∙ sym (no_move c e)
 
     -- so it is the pair's best
-    put-best : (t : Table) (from to : ℕ) (c : Choice) → Sized t → from < 16 → to < 16 → IsBest delta pass bound ls from to c
+    put-best : (t : PairTable) (from to : ℕ) (c : Choice) → Sized t → from < 16 → to < 16 → IsBest delta pass bound ls from to c
         → IsBest delta pass bound ls from to (entry bound (put t from to c) from to)
     put-best t from to c s h k b = record {
       best = said t from to c s h k b ∙ b.best;
@@ -149,7 +150,7 @@ module _ (delta : Relocation → Float) (pass : Relocation → Bool) (bound : Fl
     }
 
     -- one pair more is right
-    pub right_stored : (n a b : ℕ) (done : ℕ → ℕ → Type 0) (old new : Table) → n ≤ 16 → a < n → b < n → RightWhere delta pass bound ls n done old
+    pub right_stored : (n a b : ℕ) (done : ℕ → ℕ → Type 0) (old new : PairTable) → n ≤ 16 → a < n → b < n → RightWhere delta pass bound ls n done old
         → Stored delta pass bound ls a b old new → RightWhere delta pass bound ls n (λ from to. done from to ⊎ ((from ≡ a) × (to ≡ b))) new
     right_stored n a b done old new few ha hb r s = rw s.is_put (record {
       sized = put-sized old a b s.choice r.sized;
@@ -171,20 +172,20 @@ module _ (delta : Relocation → Float) (pass : Relocation → Bool) (bound : Fl
         go from to h k d (no e) f = other from to h k d (λ p. e p.0)
 
   -- fewer pairs
-  pub right_fewer : (n : ℕ) (done fewer : ℕ → ℕ → Type 0) (t : Table) → ((from to : ℕ) → from < n → to < n → fewer from to → done from to)
+  pub right_fewer : (n : ℕ) (done fewer : ℕ → ℕ → Type 0) (t : PairTable) → ((from to : ℕ) → from < n → to < n → fewer from to → done from to)
       → RightWhere delta pass bound ls n done t → RightWhere delta pass bound ls n fewer t
   right_fewer n done fewer t g r = record { sized = r.sized; right = λ from to h k f. r.right from to h k (g from to h k f) }
 
   -- ---- row by row
 
-  pub right_start : (n : ℕ) (t : Table) → Sized t → RightWhere delta pass bound ls n (Before 0 0) t
+  pub right_start : (n : ℕ) (t : PairTable) → Sized t → RightWhere delta pass bound ls n (Before 0 0) t
   right_start n t s = record { sized = s; right = λ from to h k d. none_before from to d }
     where
       none_before : (from to : ℕ) → Before 0 0 from to → IsBest delta pass bound ls from to (entry bound t from to)
       none_before from to (inl h) = absurd (omega arith)
       none_before from to (inr h) = let k = h.1 in absurd (omega arith)
 
-  pub right_turn : Short ls → (n row column : ℕ) (old new : Table) → n ≤ 16 → row < n → column < n → RightWhere delta pass bound ls n (Before row column) old
+  pub right_turn : Short ls → (n row column : ℕ) (old new : PairTable) → n ≤ 16 → row < n → column < n → RightWhere delta pass bound ls n (Before row column) old
       → Stored delta pass bound ls row column old new → RightWhere delta pass bound ls n (Before row (column + 1)) new
   right_turn short n row column old new few hr hc r s =
       right_fewer n (λ from to. Before row column from to ⊎ ((from ≡ row) × (to ≡ column))) (Before row (column + 1)) new (λ from to h k b. go from to b)
@@ -198,7 +199,7 @@ module _ (delta : Relocation → Float) (pass : Relocation → Bool) (bound : Fl
           last (yes e) = inr (p.0, e)
           last (no e) = let l = p.1 in inl (inr (p.0, omega arith))
 
-  pub right_row : (n row column : ℕ) (t : Table) → n ≤ column → RightWhere delta pass bound ls n (Before row column) t
+  pub right_row : (n row column : ℕ) (t : PairTable) → n ≤ column → RightWhere delta pass bound ls n (Before row column) t
       → RightWhere delta pass bound ls n (Before (row + 1) 0) t
   right_row n row column t all r = right_fewer n (Before row column) (Before (row + 1) 0) t (λ from to h k b. go from to k b) r
     where
@@ -210,12 +211,12 @@ module _ (delta : Relocation → Float) (pass : Relocation → Bool) (bound : Fl
           last (no e) = inl (omega arith)
       go from to k (inr p) = let l = p.1 in absurd (omega arith)
 
-  pub right_end : (n row : ℕ) (t : Table) → n ≤ row → RightWhere delta pass bound ls n (Before row 0) t → Right delta pass bound ls n t
+  pub right_end : (n row : ℕ) (t : PairTable) → n ≤ row → RightWhere delta pass bound ls n (Before row 0) t → Right delta pass bound ls n t
   right_end n row t h r = right_fewer n (Before row 0) (λ from to. Unit {0}) t (λ from to k l u. inl (omega arith)) r
 
   -- ---- after a move: with every other list, out of both of the move's lists and into both
 
-  pub renew_turn : Short ls → (n a b other : ℕ) (t t₁ t₂ t₃ t₄ : Table) → n ≤ 16 → a < n → b < n → other < n
+  pub renew_turn : Short ls → (n a b other : ℕ) (t t₁ t₂ t₃ t₄ : PairTable) → n ≤ 16 → a < n → b < n → other < n
       → RightWhere delta pass bound ls n (Renewed a b other) t
       → Stored delta pass bound ls a other t t₁ → Stored delta pass bound ls other a t₁ t₂
       → Stored delta pass bound ls b other t₂ t₃ → Stored delta pass bound ls other b t₃ t₄
@@ -245,13 +246,13 @@ module _ (delta : Relocation → Float) (pass : Relocation → Bool) (bound : Fl
           into (yes e) (inr f) = inr (e, f)
           into (no e) f = let l = p.1 in before_it from to (inr (inr (f, omega arith)))
 
-  pub renew_both : Short ls → (n a b other : ℕ) (t t₁ t₂ : Table) → n ≤ 16 → a < n → b < n → other < n
+  pub renew_both : Short ls → (n a b other : ℕ) (t t₁ t₂ : PairTable) → n ≤ 16 → a < n → b < n → other < n
       → RightWhere delta pass bound ls n (Renewed a b other) t → StoredBoth delta pass bound ls a other t t₁ → StoredBoth delta pass bound ls b other t₁ t₂
       → RightWhere delta pass bound ls n (Renewed a b (other + 1)) t₂
   renew_both short n a b other t t₁ t₂ few ha hb ho r s₁ s₂ =
       renew_turn short n a b other t s₁.middle t₁ s₂.middle t₂ few ha hb ho r s₁.out_of s₁.into s₂.out_of s₂.into
 
-  pub renew_end : (n a b other : ℕ) (t : Table) → n ≤ other → RightWhere delta pass bound ls n (Renewed a b other) t → Right delta pass bound ls n t
+  pub renew_end : (n a b other : ℕ) (t : PairTable) → n ≤ other → RightWhere delta pass bound ls n (Renewed a b other) t → Right delta pass bound ls n t
   renew_end n a b other t h r = right_fewer n (Renewed a b other) (λ from to. Unit {0}) t
       (λ from to k l u. go from to k l (ℕ_discrete from a) (ℕ_discrete from b) (ℕ_discrete to a) (ℕ_discrete to b)) r
     where
@@ -309,7 +310,7 @@ module _ (delta delta' : Relocation → Float) (pass pass' : Relocation → Bool
         go (some m) h = sym (same_figures m h.0).0
 
   -- their entries are right still
-  pub right_kept : (n : ℕ) (t : Table) → Right delta pass bound ls n t → RightWhere delta' pass' bound ls' n (Renewed a b 0) t
+  pub right_kept : (n : ℕ) (t : PairTable) → Right delta pass bound ls n t → RightWhere delta' pass' bound ls' n (Renewed a b 0) t
   right_kept n t r = record { sized = r.sized; right = λ from to h k d. kept_best from to (only from to d) (entry bound t from to) (r.right from to h k tt) }
     where
       only : (from to : ℕ) → Renewed a b 0 from to → Untouched a b from to

@@ -16,8 +16,9 @@ use Rattle.descent.specs.Across.{Relocation, relocations}
 use Rattle.descent.proofs.Members.{and_parts, not_in, in_cons, range_in}
 use Rattle.descent.specs.Scan.{onward, figure}
 use Rattle.pairs.specs.Pairs.{between, as_move, move_of, nothing, less_then, earlier, ahead, first_of, first_among}
-use Rattle.pairs.specs.Pairs.{is_found, Table, entry, row_from, least_entry, pair_best, IsBest, Right}
+use Rattle.pairs.specs.Pairs.{is_found, entry, row_from, least_entry, pair_best, IsBest, Right}
 use Rattle.pairs.specs.declared.Choice.{Choice}
+use Rattle.pairs.specs.declared.PairTable.{PairTable}
 use Rattle.pairs.proofs.Order.{better, less_then-less}
 use Rattle.pairs.proofs.Rows.{among_append}
 use Rattle.pairs.proofs.Best.{merge, merge-better, merge-other, Best, best-one, best_iff, best-merge, best_sorted}
@@ -188,7 +189,7 @@ module _ (delta : Relocation → Float) (pass : Relocation → Bool) (bound : Fl
     unfolding move_of figure
     nothing_standing = record { figured = refl; best = λ m h. absurd h }
 
-    table_standing : (n : ℕ) (t : Table) → Right delta pass bound ls n t → Standing (OfPairs ls n) (least_entry n bound t)
+    table_standing : (n : ℕ) (t : PairTable) → Right delta pass bound ls n t → Standing (OfPairs ls n) (least_entry n bound t)
     unfolding least_entry
     table_standing n t r =
         standing_iff (λ m. ⊥ ⊎ OfPairs ls n m) (OfPairs ls n) (least_entry n bound t) only (λ m p. inr p)
@@ -202,7 +203,7 @@ module _ (delta : Relocation → Float) (pass : Relocation → Bool) (bound : Fl
         only m (inr p) = p
 
     -- the least entry is the move that a scan of all relocations takes, with its delta
-    pub least_entry_taken : (t : Table) → Right delta pass bound ls (length ls) t
+    pub least_entry_taken : (t : PairTable) → Right delta pass bound ls (length ls) t
         → move_of (least_entry (length ls) bound t) ≡ onward delta pass bound none (relocations ls)
     least_entry_taken t r =
         best-one delta pass bound (λ m. m ∈ relocations ls) (move_of (least_entry (length ls) bound t)) (onward delta pass bound none (relocations ls))

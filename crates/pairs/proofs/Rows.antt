@@ -5,15 +5,16 @@ use Prim.Native.Nat.{ℕ, suc, ◌+◌, ◌≤◌, ◌<◌}
 use native.Mathlib.Numerals.{add-one}
 use lib.Ieee.{Float}
 use Rattle.descent.proofs.Loops.{range_step, range_done}
-use Rattle.pairs.specs.Pairs.{first_of, first_among, Table, entry, row_from, rows_from}
+use Rattle.pairs.specs.Pairs.{first_of, first_among, entry, row_from, rows_from}
 use Rattle.pairs.specs.declared.Choice.{Choice}
+use Rattle.pairs.specs.declared.PairTable.{PairTable}
 
 pub among_append : (cs ds : List Choice) (best : Choice) → first_among (cs ++ ds) best ≡ first_among ds (first_among cs best)
 unfolding first_among
 among_append [] ds best = refl
 among_append (c ∷ cs) ds best = among_append cs ds (first_of best c)
 
-module _ (n : ℕ) (bound : Float) (t : Table) where
+module _ (n : ℕ) (bound : Float) (t : PairTable) where
   pub row_turn : (from to : ℕ) (best : Choice) → to < n
       → first_among (row_from n bound t from to) best ≡ first_among (row_from n bound t from (to + 1)) (first_of best (entry bound t from to))
   unfolding first_among

@@ -19,9 +19,10 @@ use Rattle.descent.specs.Search.{begins_again, Search, Judge, ok, taken, first_m
 use Rattle.descent.specs.Across.{at, Relocation, relocations, relocate_search}
 use Rattle.descent.proofs.Loops.{place_passed, place_moved, next_sweep}
 use Rattle.descent.specs.Scan.{chosen, onward, figure}
-use Rattle.pairs.specs.Pairs.{across, Moves, Short, is_found, as_move, move_of, nothing, Table, least_entry, pair_best}
+use Rattle.pairs.specs.Pairs.{across, Moves, Short, is_found, as_move, move_of, nothing, least_entry, pair_best}
 use Rattle.pairs.specs.Pairs.{IsBest, RightWhere, Right, Renewed, Agree}
 use Rattle.pairs.specs.declared.Choice.{Choice}
+use Rattle.pairs.specs.declared.PairTable.{PairTable}
 use Rattle.descent.proofs.Scanning.{onward_end, onward-none}
 use Rattle.pairs.proofs.Best.{Best, best_sorted}
 use Rattle.pairs.proofs.Listed.{between_same, between-apart, relocations_sorted, relocation_there}
@@ -90,6 +91,11 @@ module _ (delta : Relocation → Float) (pass : Relocation → Bool) (bound : Fl
   unfolding pair_best
   best-across from to c h e f = record { best = e ∙ ap (onward delta pass bound none) (sym (between-apart ls from to h)); figured = f }
 
+  -- where no visit can leave there is none
+  pub best_empty : (from to : ℕ) → from ≢ to → length (at ls from) ≡ 0 → IsBest delta pass bound ls from to (nothing bound)
+  unfolding move_of figure
+  best_empty from to h e = best-across from to (nothing bound) h (rw e (sym (onward_end delta pass bound none))) refl
+
   -- where no move across passes there is none
   pub best_refused : (from to : ℕ) → from ≢ to → ((m : Relocation) → m ∈ across ls from to → pass m ≡ false)
       → IsBest delta pass bound ls from to (nothing bound)
@@ -108,7 +114,7 @@ module _ (delta : Relocation → Float) (pass : Relocation → Bool) (bound : Fl
       relocation_there ls (as_move c) b.0
 
 -- after it the entries of the pairs without its lists are right still
-pub right_moved : (delta delta' : Relocation → Float) (pass pass' : Relocation → Bool) (bound : Float) (visits lengths visits' lengths' : List ℕ) (t : Table)
+pub right_moved : (delta delta' : Relocation → Float) (pass pass' : Relocation → Bool) (bound : Float) (visits lengths visits' lengths' : List ℕ) (t : PairTable)
     (from position to place : ℕ) → Agree delta delta' pass pass' (lists visits lengths) (lists visits' lengths') from to
     → Edited visits lengths visits' lengths' (relocated (lists visits lengths) from position to place)
     → Right delta pass bound (lists visits lengths) (length lengths) t
@@ -147,7 +153,7 @@ module _ (search : Search (List (List ℕ)) Unit Relocation) (judge : Judge (Lis
   scan-taken = rw (R.candidates_are ls, R.counts_is, R.less_is)
 
   -- and so is the least entry of a right table
-  pub table_taken : (n : ℕ) (t : Table) → n ≡ length ls → Right (judge.delta ls) (search.passes ls) bound ls n t
+  pub table_taken : (n : ℕ) (t : PairTable) → n ≡ length ls → Right (judge.delta ls) (search.passes ls) bound ls n t
       → move_of (least_entry n bound t) ≡ taken search judge ls tt
   table_taken n t e r =
       let r' : Right (judge.delta ls) (search.passes ls) bound ls (length ls) t = rw (← e) r in

@@ -4,11 +4,11 @@ use Rattle.std.specs.Prelude.{◌≡◌, ◌⊎◌, ◌≢◌, Bool, true, false
 use Rattle.std.proofs.Math.Option.{Option, none, some}
 use Rattle.std.specs.Float.{nan}
 use Rattle.std.specs.Float.Ieee.{lt, eq}
-use Rattle.std.specs.Borrow.{Bor}
 use Rattle.descent.specs.Order.{range, each}
 use Rattle.descent.specs.Across.{at, Relocation}
 use Rattle.descent.specs.Scan.{onward, figure}
 use Rattle.pairs.specs.declared.Choice.{Choice}
+use Rattle.pairs.specs.declared.PairTable.{PairTable}
 
 -- ---- the moves of a pair of lists
 
@@ -85,22 +85,8 @@ first_among (c ∷ cs) best = first_among cs (first_of best c)
 
 -- ---- the table: `pairs[from * n + to]`
 
--- the delta of each pair's best, minus the floor where it has none; the visit's position; and its place
-pub record Table : Type 0 where
-  pub deltas : List Float
-  pub positions : List ℕ
-  pub places : List ℕ
-
--- these three
-abbrev pub table : List Float → List ℕ → List ℕ → Table
-table deltas positions places = record { deltas = deltas; positions = positions; places = places }
-
--- the table that a call is lent, as it stands: for contracts
-abbrev pub table_at : Bor (List Float) → Bor (List ℕ) → Bor (List ℕ) → Table
-table_at deltas positions places = table deltas.now positions.now places.now
-
 -- 16 lists, so 256 pairs
-pub record Sized (t : Table) : Type 0 where
+pub record Sized (t : PairTable) : Type 0 where
   pub deltas_size : length t.deltas ≡ 256
   pub positions_size : length t.positions ≡ 256
   pub places_size : length t.places ≡ 256
@@ -110,7 +96,7 @@ abbrev pub slot : ℕ → ℕ → ℕ
 slot from to = 16 * from + to
 
 -- what the table says of a pair
-unfoldable pub entry : Float → Table → ℕ → ℕ → Choice
+unfoldable pub entry : Float → PairTable → ℕ → ℕ → Choice
 entry bound t from to = record {
   found = found_if (lt (get_or t.deltas (slot from to) nan) bound);
   from = from;
@@ -125,7 +111,7 @@ unfoldable pub narrowed : ℕ → ℕ
 narrowed k = cond (ltb k 65536) k 0
 
 -- the table with a pair's best put in
-unfoldable pub put : Table → ℕ → ℕ → Choice → Table
+unfoldable pub put : PairTable → ℕ → ℕ → Choice → PairTable
 put t from to c = record {
   deltas = set t.deltas (slot from to) c.delta;
   positions = set t.positions (slot from to) (narrowed c.position);
@@ -133,15 +119,15 @@ put t from to c = record {
 }
 
 -- what it says of the pairs (from, first), (from, first + 1), ..
-abbrev pub row_from : ℕ → Float → Table → ℕ → ℕ → List Choice
+abbrev pub row_from : ℕ → Float → PairTable → ℕ → ℕ → List Choice
 row_from n bound t from first = map (entry bound t from) (range first n)
 
 -- and of the rows from `from` on
-abbrev pub rows_from : ℕ → Float → Table → ℕ → List Choice
+abbrev pub rows_from : ℕ → Float → PairTable → ℕ → List Choice
 rows_from n bound t from = each (range from n) λ row. row_from n bound t row 0
 
 -- `best`: the first of all entries
-unfoldable pub least_entry : ℕ → Float → Table → Choice
+unfoldable pub least_entry : ℕ → Float → PairTable → Choice
 least_entry n bound t = first_among (rows_from n bound t 0) (nothing bound)
 
 -- ---- what the table has to say
@@ -157,24 +143,24 @@ module _ (delta : Relocation → Float) (pass : Relocation → Bool) (bound : Fl
     pub figured : c.delta ≡ figure delta pass bound (move_of c)
 
   -- a pair was searched and its best put into the table
-  pub record Stored (from to : ℕ) (old new : Table) : Type 0 where
+  pub record Stored (from to : ℕ) (old new : PairTable) : Type 0 where
     pub choice : Choice
     pub is_best : IsBest from to choice
     pub is_put : new ≡ put old from to choice
 
   -- `out_of` and `into`: two lists were searched both ways
-  pub record StoredBoth (r other : ℕ) (old new : Table) : Type 0 where
-    pub middle : Table
+  pub record StoredBoth (r other : ℕ) (old new : PairTable) : Type 0 where
+    pub middle : PairTable
     pub out_of : Stored r other old middle
     pub into : Stored other r middle new
 
   -- the entries of the pairs that are done are right
-  pub record RightWhere (n : ℕ) (done : ℕ → ℕ → Type 0) (t : Table) : Type 0 where
+  pub record RightWhere (n : ℕ) (done : ℕ → ℕ → Type 0) (t : PairTable) : Type 0 where
     pub sized : Sized t
     pub right : (from to : ℕ) → from < n → to < n → done from to → IsBest from to (entry bound t from to)
 
   -- all are
-  abbrev pub Right : ℕ → Table → Type 0
+  abbrev pub Right : ℕ → PairTable → Type 0
   Right n t = RightWhere n (λ from to. Unit {0}) t
 
 -- ---- which pairs are done

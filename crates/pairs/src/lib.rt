@@ -5,8 +5,8 @@
 #![tactic(auto)]
 
 ghost use Rattle.std.specs.Prelude.{◌≡◌, ◌≤◌, ◌<◌};
-ghost use Rattle.pairs.specs.Pairs.{in_order, less_then, earlier, as_move, ahead, first_of, first_among};
-ghost use Rattle.pairs.specs.Pairs.{table, table_at, Sized, entry, narrowed, put, row_from, least_entry};
+ghost use Rattle.pairs.specs.Pairs.{earlier, as_move, ahead, first_of, first_among};
+ghost use Rattle.pairs.specs.Pairs.{nothing, Sized, entry, narrowed, put, row_from, least_entry};
 
 // The best move so far with its delta; while none is found, minus the floor. `found` is 1 or 0 in a whole word: a bool would leave padding that every copy
 // in a loop moves.
@@ -20,42 +20,45 @@ pub struct Choice {
     pub delta: f64,
 }
 
+impl Choice {
+    // No move yet: one counts whose delta is below the bound.
+    pub fn none_below(bound: f64) -> Choice
+        ensures { result ≡ nothing bound }
+    {
+        Choice {
+            found: 0,
+            from: 0,
+            position: 0,
+            to: 0,
+            place: 0,
+            delta: bound,
+        }
+    }
+}
+
 // ---- the order
 
-// One number, then the rest.
-fn in_order(a: usize, b: usize, rest: bool) -> bool
-    ensures { result ≡ in_order a b rest }
-{
-    a < b || (a == b && rest)
-}
-
-// The delta, then the rest.
-fn less_then(a: f64, b: f64, rest: bool) -> bool
-    ensures { result ≡ less_then a b rest }
-{
-    a < b || (a == b && rest)
-}
-
 // By from list, position, to list and place.
+#[tactic(auto, unfolding(crate::specs::Pairs::in_order, crate::specs::Pairs::earlier))]
 fn is_earlier(choice: Choice, best: Choice) -> bool
     ensures { result ≡ earlier (as_move choice) (as_move best) }
 {
-    let by_place = in_order(choice.to, best.to, choice.place < best.place);
-    in_order(
-        choice.from,
-        best.from,
-        in_order(choice.position, best.position, by_place),
-    )
+    let one = (choice.from, choice.position, choice.to, choice.place);
+    let other = (best.from, best.position, best.to, best.place);
+    one < other
 }
 
-// A choice that is found and stands before the best so far.
+// A choice that is found and stands before the best so far: the delta, then the rest.
+#[tactic(auto, unfolding(crate::specs::Pairs::less_then, crate::specs::Pairs::ahead))]
 fn is_ahead(choice: Choice, best: Choice) -> bool
     ensures { result ≡ ahead choice best }
 {
-    choice.found != 0 && less_then(choice.delta, best.delta, is_earlier(choice, best))
+    choice.found != 0
+        && (choice.delta < best.delta || (choice.delta == best.delta && is_earlier(choice, best)))
 }
 
 // The first of the two.
+#[tactic(auto, unfolding(crate::specs::Pairs::first_of))]
 fn first_of(best: Choice, choice: Choice) -> Choice
     ensures { result ≡ first_of best choice }
 {
@@ -74,90 +77,77 @@ fn narrow(k: usize) -> u16
     u16::try_from(k).unwrap_or(0)
 }
 
-// What the table says of a pair.
-pub fn entry_at(
-    bound: f64,
-    deltas: &[f64],
-    positions: &[u16],
-    places: &[u16],
-    from: usize,
-    to: usize,
-) -> Choice
-    requires sized { Sized (table_at deltas positions places) }
-    requires from_bound { (from < 16) × (to < 16) }
-    ensures { result ≡ entry bound (table_at deltas.entry positions.entry places.entry) from to }
-{
-    let slot = 16 * from + to;
-    let delta = deltas[slot];
-    Choice {
-        found: usize::from(delta < bound),
-        from,
-        position: usize::from(positions[slot]),
-        to,
-        place: usize::from(places[slot]),
-        delta,
-    }
+// Of each pair of lists its best move: the delta, minus the floor where it has none, the visit's position, and its place.
+#[derive(Drop)]
+pub struct PairTable {
+    deltas: [f64; 256],
+    positions: [u16; 256],
+    places: [u16; 256],
 }
 
-// Puts a pair's best into the table.
-pub fn put_pair(
-    deltas: &mut [f64],
-    positions: &mut [u16],
-    places: &mut [u16],
-    from: usize,
-    to: usize,
-    choice: Choice,
-)
-    requires sized { Sized (table deltas.old positions.old places.old) }
-    requires from_bound { (from < 16) × (to < 16) }
-    ensures { table deltas.new positions.new places.new ≡ put (table deltas.old positions.old places.old) from to choice }
-{
-    let slot = 16 * from + to;
-    let position = narrow(choice.position);
-    let place = narrow(choice.place);
-    deltas[slot] = choice.delta;
-    positions[slot] = position;
-    places[slot] = place;
-}
-
-// ---- the least entry
-
-// The first of the best so far and a row of the table.
-fn best_of_row(
-    n: usize,
-    bound: f64,
-    deltas: &[f64],
-    positions: &[u16],
-    places: &[u16],
-    from: usize,
-    best: Choice,
-) -> Choice
-    requires sized { Sized (table_at deltas positions places) }
-    requires n_bound { (n ≤ 16) × (from < 16) }
-    ensures { result ≡ first_among (row_from n bound (table_at deltas.entry positions.entry places.entry) from 0) best }
-{
-    let mut first = best;
-    for to in 0..n {
-        first = first_of(first, entry_at(bound, deltas, positions, places, from, to));
+impl PairTable {
+    // No pair was searched yet.
+    pub fn new() -> PairTable
+        ensures { Sized result }
+    {
+        PairTable {
+            deltas: [0.0; 256],
+            positions: [0; 256],
+            places: [0; 256],
+        }
     }
-    first
-}
 
-// The move to make: the first of all entries, or none.
-pub fn best_pair(n: usize, bound: f64, deltas: &[f64], positions: &[u16], places: &[u16]) -> Choice
-    requires { Sized (table_at deltas positions places) × (n ≤ 16) }
-    ensures { result ≡ least_entry n bound (table_at deltas.entry positions.entry places.entry) }
-{
-    let mut best = Choice {
-        found: 0,
-        from: 0,
-        position: 0,
-        to: 0,
-        place: 0,
-        delta: bound,
-    };
-    for from in 0..n {
-        best = best_of_row(n, bound, deltas, positions, places, from, best);
+    // What the table says of a pair.
+    pub fn entry(&self, bound: f64, from: usize, to: usize) -> Choice
+        requires { (from < 16) × (to < 16) }
+        ensures { result ≡ entry bound self.now from to }
+    {
+        let slot = 16 * from + to;
+        let delta = self.deltas[slot];
+        Choice {
+            found: usize::from(delta < bound),
+            from,
+            position: usize::from(self.positions[slot]),
+            to,
+            place: usize::from(self.places[slot]),
+            delta,
+        }
     }
-    best
+
+    // Puts a pair's best in.
+    pub fn put(&mut self, from: usize, to: usize, choice: Choice)
+        requires { (from < 16) × (to < 16) }
+        ensures { self.new ≡ put self.old from to choice }
+    {
+        let slot = 16 * from + to;
+        let position = narrow(choice.position);
+        let place = narrow(choice.place);
+        self.deltas[slot] = choice.delta;
+        self.positions[slot] = position;
+        self.places[slot] = place;
+    }
+
+    // The first of the best so far and a row of n pairs.
+    fn best_of_row(&self, n: usize, bound: f64, from: usize, best: Choice) -> Choice
+        requires { (n ≤ 16) × (from < 16) }
+        ensures { result ≡ first_among (row_from n bound self.now from 0) best }
+    {
+        let mut first = best;
+        for to in 0..n {
+            first = first_of(first, self.entry(bound, from, to));
+        }
+        first
+    }
+
+    // The move to make between n lists: the first of all entries, or none.
+    pub fn best(&self, n: usize, bound: f64) -> Choice
+        requires { n ≤ 16 }
+        ensures { result ≡ least_entry n bound self.now }
+    {
+        let mut best = Choice::none_below(bound);
+        for from in 0..n {
+            best = self.best_of_row(n, bound, from, best);
+        }
+        best
+    }
 }

@@ -1,10 +1,11 @@
--- One pattern more, as the code tries it: the delta that it works out is the judge's, and each of its three ends is the better of the two.
--- Assumes nothing.
+-- One way more, as the code tries it: the delta that it works out and the check that it makes are the definition's, so that each of its three ends is one of a
+-- scan's turn (engine's proofs/Choosing.antt). Assumes nothing.
 use mathlib.Core.Path.{◌≡◌, sym, ap, ◌∙◌}
-use mathlib.Core.Bool.{Bool, true, false, cond, ◌&&◌}
-use mathlib.Core.List.{List}
+use mathlib.Core.Bool.{Bool, true, false}
+use mathlib.Core.List.{List, [], ◌∷◌}
 use Prim.Native.Nat.{ℕ, ◌+◌}
 use lib.Ieee.{Float, lt}
+use Rattle.std.specs.Prelude.{Some, None}
 use Rattle.day.specs.Matrix.{leg}
 use Rattle.labels.specs.Columns.{Columns, Visits}
 use Rattle.descent.specs.Permitted.{Arrangement}
@@ -14,12 +15,14 @@ use Rattle.deltas.specs.Deltas.{Listed, cut_at, three_opt_delta}
 use Rattle.deltas.specs.declared.Cut.{Cut}
 use Rattle.deltas.proofs.Stops.{around_placed, ends_placed}
 use Rattle.engine.specs.Engine.{passing}
-use Rattle.layouts.specs.Layout.{way_of}
-use Rattle.reconnections.specs.Reconnections.{reconnection}
-use Rattle.patterns.specs.Patterns.{search_of, judge_of, Prepared, better}
-use Rattle.patterns.specs.declared.Setup.{Setup}
+use Rattle.engine.specs.declared.best.Best.{Best}
+use Rattle.engine.proofs.Choosing.{among_above, among_failing, among_taken}
+use Rattle.layouts.specs.Layout.{nth_way, arrangement}
+use Rattle.layouts.specs.declared.Way.{Way}
+use Rattle.reconnections.specs.Reconnections.{cut_of, reconnection}
 use Rattle.reconnections.specs.declared.Place.{Place}
-use Rattle.patterns.specs.declared.Choice.{Choice}
+use Rattle.patterns.specs.Patterns.{search_of, judge_of, Prepared, nth_candidate, bound_of, Known, Among}
+use Rattle.patterns.specs.declared.Setup.{Setup}
 
 -- a list of a day that is prepared
 pub listed : {s : Setup} {c : Columns} {xs : List ℕ} → Prepared s c → Visits c.l xs → Listed c.l s.depot xs
@@ -33,48 +36,39 @@ cut_placed d l depot xs i j k cut e there =
     rw e (around_placed l depot xs there (i + 1) (k + 1), ends_placed l depot xs there (i + 1) (j + 1), ends_placed l depot xs there (j + 1) (k + 1))
 
 -- what the code works out is the judge's delta
-delta_is : (c : Columns) (depot : ℕ) (xs : List ℕ) (place : Place) (cut : Cut) (pattern : ℕ) (way : Arrangement) (x : Float)
-    → cut ≡ cut_at (leg c.l c.distances) depot xs place.i place.j place.k → way ≡ way_of pattern
-    → x ≡ pattern_change (leg c.l c.distances) cut way.0 way.1 way.2 → x ≡ (judge_of c depot).delta xs (reconnection place pattern)
+delta_is : (c : Columns) (depot : ℕ) (xs : List ℕ) (place : Place) (cut : Cut) (way : Arrangement) (x : Float)
+    → cut ≡ cut_at (leg c.l c.distances) depot xs place.i place.j place.k
+    → x ≡ pattern_change (leg c.l c.distances) cut way.0 way.1 way.2 → x ≡ (judge_of c depot).delta xs (record { cut = cut_of place; way = way })
 unfolding judge_of three_opt_delta
-delta_is c depot xs place cut pattern way x is_cut is-way e = rw (e, is-way, is_cut)
+delta_is c depot xs place cut way x is_cut is-way = rw (is-way, is_cut)
 
-module _ (s : Setup) (c : Columns) (xs : List ℕ) (place : Place) (cut : Cut) (best : Choice) (pattern : ℕ) (way : Arrangement) (x : Float)
-    (is_cut : cut ≡ cut_at (leg c.l c.distances) s.depot xs place.i place.j place.k) (is-way : way ≡ way_of pattern)
-    (is-change : x ≡ pattern_change (leg c.l c.distances) cut way.0 way.1 way.2) where
-  is_delta : x ≡ (judge_of c s.depot).delta xs (reconnection place pattern)
-  is_delta = delta_is c s.depot xs place cut pattern way x is_cut is-way is-change
+module _ (s : Setup) (c : Columns) (xs : List ℕ) (place : Place) (cut : Cut) (best : Best Way) (number : ℕ) (way : Way) (x : Float)
+    (is_cut : cut ≡ cut_at (leg c.l c.distances) s.depot xs place.i place.j place.k) (is-way : arrangement way ≡ nth_way number)
+    (is-change : x ≡ pattern_change (leg c.l c.distances) cut way.exchanged way.b_turned way.c_turned) (known : Known c s xs place best) where
+  is_delta : x ≡ (judge_of c s.depot).delta xs (reconnection place way)
+  is_delta = delta_is c s.depot xs place cut (arrangement way) x is_cut is-change
+
+  numbered : {new : Best Way} → Among c s xs place best (reconnection place way ∷ []) new → Among c s xs place best (nth_candidate place number ∷ []) new
+  numbered {new} among = rw is-way at among
 
   -- not below the best so far
-  pub better_far : lt x best.delta ≡ false → best ≡ better (search_of c s.limits s.depot) (judge_of c s.depot) xs place best pattern
-  unfolding better judge_of
-  better_far e = ends (lt ((judge_of c s.depot).delta xs (reconnection place pattern)) best.delta) (rw is_delta at e)
-    where
-      ends : (b : Bool) → b ≡ false → best
-          ≡ cond (b && (search_of c s.limits s.depot).passes xs (reconnection place pattern))
-          (record { pattern = pattern; delta = (judge_of c s.depot).delta xs (reconnection place pattern) }) best
-      ends b e = rw e
+  pub better_far : lt x best.bound ≡ false → Among c s xs place best (nth_candidate place number ∷ []) best
+  better_far e =
+      numbered (among_above (reconnection place) ((judge_of c s.depot).delta xs) ((search_of c s.limits s.depot).passes xs) (bound_of c) best way x known is_delta e)
 
-  module _ (ready : Prepared s c) (passed : Bool) (asked : passed ≡ passing s.needed c s.limits s.depot (reconnect xs (reconnection place pattern)))
-      (below : lt x best.delta ≡ true) where
-    ends : (a b : Bool) → a ≡ true → b ≡ passed
-        → cond passed (record { pattern = pattern; delta = x }) best ≡ cond (a && b)
-        (record { pattern = pattern; delta = (judge_of c s.depot).delta xs (reconnection place pattern) }) best
-    ends a b e f = rw (e, f, is_delta)
+  module _ (ready : Prepared s c) (passed : Bool) (asked : passed ≡ passing s.needed c s.limits s.depot (reconnect xs (reconnection place way))) where
+    passed_is : passed ≡ (search_of c s.limits s.depot).passes xs (reconnection place way)
+    unfolding search_of
+    passed_is = asked ∙ ap (λ (b : Bool). passing b c s.limits s.depot (reconnect xs (reconnection place way))) ready.needed
 
-    -- below it: it is taken where it passes
-    pub better_asked : cond passed (record { pattern = pattern; delta = x }) best
-        ≡ better (search_of c s.limits s.depot) (judge_of c s.depot) xs place best pattern
-    unfolding better judge_of search_of
-    better_asked =
-        ends (lt ((judge_of c s.depot).delta xs (reconnection place pattern)) best.delta)
-        ((search_of c s.limits s.depot).passes xs (reconnection place pattern))
-        (rw is_delta at below)
-        (sym (asked ∙ ap (λ (b : Bool). passing b c s.limits s.depot (reconnect xs (reconnection place pattern))) ready.needed))
+    -- below it, and the list does not pass; or does
+    pub better_refused : passed ≡ false → Among c s xs place best (nth_candidate place number ∷ []) best
+    better_refused e =
+        numbered (among_failing (reconnection place) ((judge_of c s.depot).delta xs) ((search_of c s.limits s.depot).passes xs) (bound_of c) best way x known
+        is_delta (sym passed_is ∙ e))
 
-    pub better_refused : passed ≡ false → best ≡ better (search_of c s.limits s.depot) (judge_of c s.depot) xs place best pattern
-    better_refused e = rw e at better_asked
-
-    pub better_taken : passed ≡ true
-        → record { pattern = pattern; delta = x } ≡ better (search_of c s.limits s.depot) (judge_of c s.depot) xs place best pattern
-    better_taken e = rw e at better_asked
+    pub better_taken : lt x best.bound ≡ true → passed ≡ true
+        → Among c s xs place best (nth_candidate place number ∷ []) (record { bound = x; found = Some way })
+    better_taken e f =
+        numbered (among_taken (reconnection place) ((judge_of c s.depot).delta xs) ((search_of c s.limits s.depot).passes xs) (bound_of c) best way x known
+        is_delta e (sym passed_is ∙ f))

@@ -1,6 +1,6 @@
--- What a run of 3-opt keeps at hand, and the best pattern so far. For the contracts of src/. Assumes nothing.
-use Rattle.std.specs.Prelude.{◌≡◌, cond, ◌&&◌, List, [], ℕ, zero, suc, ◌<◌, Float}
-use Rattle.std.proofs.Math.Option.{Option, none, some}
+-- What a run of 3-opt keeps at hand, and the best way so far. For the contracts of src/. Assumes nothing.
+use Rattle.std.specs.Prelude.{◌≡◌, List, [], ℕ, ◌<◌, Float}
+use Rattle.std.specs.Float.Ieee.{neg}
 use Rattle.numbers.specs.Operations.{zero64}
 use Rattle.numbers.specs.Floor.{gain_floor}
 use Rattle.day.specs.Matrix.{scale_of}
@@ -16,8 +16,11 @@ use Rattle.deltas.specs.Judged.{float_judge}
 use Rattle.engine.specs.Engine.{checks_of, map_of}
 use Rattle.patterns.specs.declared.Setup.{Setup}
 use Rattle.reconnections.specs.declared.Place.{Place}
-use Rattle.patterns.specs.declared.Choice.{Choice}
-use Rattle.reconnections.specs.Reconnections.{reconnection}
+use Rattle.layouts.specs.Layout.{nth_way}
+use Rattle.layouts.specs.declared.Way.{Way}
+use Rattle.engine.specs.Best as engine_best
+use Rattle.engine.specs.declared.best.Best.{Best}
+use Rattle.reconnections.specs.Reconnections.{cut_of, reconnection}
 
 -- the engine's search on a day, with a van's limits and depot
 unfoldable pub search_of : Columns → RouteLimits → ℕ → Search (List ℕ) Cut Reconnection
@@ -35,13 +38,23 @@ pub record Prepared (s : Setup) (c : Columns) : Type 0 where
   pub marked : Marked c.l c.distances s.symmetric
   pub needed : s.needed ≡ checks_needed c.flags s.limits
 
--- what a pattern number says of a place: 0 that there is no move
-unfoldable pub move_of : Place → ℕ → Option Reconnection
-move_of place zero = none
-move_of place (suc p) = some (reconnection place (suc p))
+-- the candidates at a place, by the numbers of their ways
+abbrev pub nth_candidate : Place → ℕ → Reconnection
+nth_candidate place number = record { cut = cut_of place; way = nth_way number }
 
--- the better of the best so far and one pattern more. 'Below the best so far' is 'counts' too, since the best starts at minus the floor.
-unfoldable pub better : Search (List ℕ) Cut Reconnection → Judge (List ℕ) Reconnection Float → List ℕ → Place → Choice → ℕ → Choice
-better search judge xs place best pattern =
-    let m = reconnection place pattern in
-    cond (judge.less (judge.delta xs m) best.delta && search.passes xs m) (record { pattern = pattern; delta = judge.delta xs m }) best
+-- what the first gain has to be below
+abbrev pub bound_of : Columns → Float
+bound_of c = neg (gain_floor (scale_of c.distances))
+
+module _ (c : Columns) (s : Setup) (xs : List ℕ) (place : Place) where
+  -- the best way so far has the delta of its candidate, and counts
+  abbrev pub Known : Best Way → Type 0
+  Known = engine_best.Known (reconnection place) ((judge_of c s.depot).delta xs) ((search_of c s.limits s.depot).passes xs) (bound_of c)
+
+  -- the best after some candidates more
+  abbrev pub Among : Best Way → List Reconnection → Best Way → Type 0
+  Among = engine_best.Among (reconnection place) ((judge_of c s.depot).delta xs) ((search_of c s.limits s.depot).passes xs) (bound_of c)
+
+  -- what the rest comes to from the best so far is what all come to from the start
+  abbrev pub Onto : Best Way → List Reconnection → Best Way → List Reconnection → Type 0
+  Onto = engine_best.Onto (reconnection place) ((judge_of c s.depot).delta xs) ((search_of c s.limits s.depot).passes xs) (bound_of c)

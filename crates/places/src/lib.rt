@@ -11,7 +11,7 @@ ghost use Rattle.deltas.specs.Deltas.{insertion_delta};
 ghost use Rattle.engine.specs.Engine.{passing};
 ghost use Rattle.edits.specs.Edits.{inserted};
 ghost use Rattle.insertions.specs.Cache.{least_below};
-ghost use Rattle.places.specs.Places.{Prepared, better, best_among, ruled_out};
+ghost use Rattle.places.specs.Places.{Prepared, best_among, ruled_out};
 
 use buffers::{append_one, append_stretch};
 use day::vehicle::RouteLimits;
@@ -21,6 +21,7 @@ use insertions::{Least, lesser_of};
 use labels::columns::Columns;
 use numbers::{infinite, is_finite};
 use pairs::Choice;
+use relocations::offer::{Offer, better_of};
 
 // What is worked out once before the first move.
 #[derive(Clone, Copy)]
@@ -35,16 +36,8 @@ pub struct Setup {
     pub floor: f64,
     // Whether candidates have to be checked.
     pub needed: bool,
-}
-
-// The visit at `position` of list `from`, offered to list `to`; `removal` is what taking it out changes.
-#[derive(Clone, Copy)]
-pub struct Offer {
-    pub from: usize,
-    pub position: usize,
-    pub to: usize,
-    pub visit: u16,
-    pub removal: f64,
+    // Whether a visit is passed over where its known least insertion gains nothing.
+    pub pruning: bool,
 }
 
 // What an offer of a visit to a list leaves: the best so far, and what is known of the two.
@@ -87,41 +80,6 @@ fn candidate_passes(
     passes(setup.needed, columns, limits, setup.depot, &buffer[0..end])
 }
 
-// The better of the best so far and an offer at a place, where it costs `insertion`. A candidate is built and walked only where its delta is below the
-// best so far.
-fn better_of(
-    setup: Setup,
-    columns: &Columns,
-    list: &[u16],
-    buffer: &mut [u16],
-    offer: Offer,
-    best: Choice,
-    place: usize,
-    insertion: f64,
-) -> Choice
-    requires prepared { Prepared setup (lent columns.now) }
-    requires in_bounds { 64 ≤ length buffer.old }
-    requires visits { Visits columns.now.locations list.now × (length list.now < 63) × (offer.visit < columns.now.locations) × (place ≤ length list.now) }
-    requires insertion_value { insertion ≡ insertion_delta (leg_in (lent columns.now)) setup.depot setup.fixed list.now offer.visit place }
-    ensures { result ≡ better (lent columns.now) setup list.now offer best place }
-{
-    let delta = offer.removal + insertion;
-    if !(delta < best.delta) {
-        return best;
-    }
-    if !candidate_passes(setup, columns, list, buffer, offer.visit, place) {
-        return best;
-    }
-    Choice {
-        found: 1,
-        from: offer.from,
-        position: offer.position,
-        to: offer.to,
-        place,
-        delta,
-    }
-}
-
 // The best after an offer at every place of a list that has room for it, and the least of what the places cost.
 pub fn best_place(
     setup: Setup,
@@ -147,31 +105,20 @@ pub fn best_place(
         figure: infinite(),
         place: 0,
     };
+    let matrix = columns.matrix();
     for place in 0..list.len() + 1 {
-        let insertion = insertion_delta(
-            columns.locations,
-            columns.distances,
-            setup.depot,
-            paid,
-            list,
-            visit,
-            place,
-        );
+        let insertion = insertion_delta(&matrix, setup.depot, paid, list, visit, place);
         least = lesser_of(least, insertion, place as u16);
-        after = better_of(setup, columns, list, buffer, offer, after, place, insertion);
+        let passes = || candidate_passes(setup, columns, list, buffer, offer.visit, place);
+        after = better_of(offer, insertion, passes, after, place);
     }
     Tried { best: after, least }
 }
 
 // Whether no place can gain: even the least insertion, where it is known, leaves no gain that counts. Rounded sums keep the order.
-pub fn is_ruled_out(pruning: bool, floor: f64, removal: f64, known: f64) -> bool
-    ensures { result ≡ ruled_out pruning floor removal known }
+#[tactic(auto, unfolding(crate::specs::Places::ruled_out))]
+pub fn is_ruled_out(setup: Setup, removal: f64, known: f64) -> bool
+    ensures { result ≡ ruled_out setup.pruning setup.floor removal known }
 {
-    if !pruning {
-        return false;
-    }
-    if !is_finite(known) {
-        return false;
-    }
-    removal + known >= -floor
+    setup.pruning && is_finite(known) && removal + known >= -setup.floor
 }

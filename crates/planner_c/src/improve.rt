@@ -5,7 +5,7 @@ ghost use Rattle.day.specs.Number.{number_of};
 ghost use Rattle.edits.specs.Total.{SameVisits};
 ghost use Rattle.lists.specs.Table.{list_of};
 ghost use Rattle.descent.specs.Permitted.{two_opt, or_opt, three_opt, n_minus_length};
-ghost use Rattle.neighbours.specs.declared.Neighbourhood.TheVariants.{Reverse, Relocate, Reconnect};
+ghost use Rattle.neighbours.specs.Neighbours.{Reverse, Relocate, Reconnect};
 ghost use Rattle.improvements.specs.Improve.{improve_answer, improve_visits, reported};
 ghost use Rattle.claims.specs.Demand3.{Claimed};
 ghost use Rattle.written.specs.Written.{settled_in, moves_in, end_distance_in};

@@ -4,7 +4,7 @@ use Rattle.std.specs.Prelude.{◌≡◌, refl, List, [], ◌∷◌, get_or, Resu
 use Rattle.std.specs.Result.{IsErrAnd}
 use Rattle.std.proofs.Common.{sym, ◌∙◌}
 use Rattle.std.proofs.Math.Path.{ap}
-use Rattle.day.specs.Number.{number, number_some}
+use Rattle.day.specs.Number.{number, number_of, number_some}
 use Rattle.day.specs.declared.refusal.Refusal.{Refusal}
 use Rattle.day.specs.declared.refusal.Refusal.TheVariants.{Size, Lengths, Tables, Locations, Windows, Depot, Van, Lists, Visit, Repeated, Fleet, Price}
 
@@ -42,6 +42,11 @@ numbered_is Visit = refl
 numbered_is Repeated = refl
 numbered_is Fleet = refl
 numbered_is Price = refl
+
+-- the number that a function which refuses answers by is that of the refusal it stands for
+pub number_known : {A : Type 0} (r : Result A Refusal) (n : ℕ) → number_of r ≡ n → (n ≡ 0 → ⊥) → number (numbered n) ≡ n
+number_known (Ok x) n e some = absurd (some (sym e))
+number_known (Err r) n e some = rw (← e) (ap number (numbered_is r))
 
 module _ {A : Type 0} (refused : ℕ → A) (answer : A) where
   -- a refusal that was found

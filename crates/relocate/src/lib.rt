@@ -2,13 +2,13 @@
 // first, until none gains. Of equal deltas the first in the order (from list, position, to list, place) is taken; the receiver has to have room and to
 // pass, the giver isn't tested.
 //
-// As in the Rust the best move of every pair of lists is kept in a table (crate `relocations`), and so is what it costs at least to insert a visit into a
-// list (crate `insertions`), by which most visits need not be offered (crate `offers`). A move changes two lists, so that only the pairs with one of them in
-// it are searched again (crate `changes`). The move taken is the one that a scan of all candidates takes, which is the definition.
+// As in the Rust the best move of every pair of lists is kept in a table (crates `relocations` and `relocation_runs`, of both relocate engines), and so is
+// what it costs at least to insert a visit into a list (crate `insertions`), by which most visits need not be offered (crate `offers`). The move taken is the
+// one that a scan of all candidates takes, which is the definition.
 
 #![tactic(auto)]
 
-ghost use Rattle.std.specs.Prelude.{◌≡◌, true, false, [], ◌∷◌, ◌<◌, ◌≤◌, length};
+ghost use Rattle.std.specs.Prelude.{◌≡◌, true, false, [], ◌∷◌, ◌<◌};
 ghost use Rattle.day.specs.Refusal.{capacity_ok};
 ghost use Rattle.lists.specs.Table.{lists};
 ghost use Rattle.list_changes.specs.Edits.{Edited};
@@ -16,57 +16,72 @@ ghost use Rattle.descent.specs.Permitted.{relocate};
 ghost use Rattle.descent.specs.Engines.{run_of};
 ghost use Rattle.deltas.specs.Judged.{float_judge};
 ghost use Rattle.engine.specs.Engine.{checks_of, map_of, ended_as};
-ghost use Rattle.pairs.specs.Pairs.{Sized, table};
-ghost use Rattle.loads.specs.Loads.{boxes, measure_of, Loaded, Held};
-ghost use Rattle.places.specs.Places.{Prepared};
-ghost use Rattle.offers.specs.Offers.{Cached};
+ghost use Rattle.loads.specs.Loads.{boxes, Loaded, Held};
+ghost use Rattle.offers.specs.Offers.{terms_of};
+ghost use Rattle.relocate.specs.DeltaSearch.{Ready, sound};
 ghost use Rattle.labels.specs.Lent.{lent};
 
 use day::vehicle::RouteLimits;
 use day_scans::matrix::scale;
 use engine::Ended;
 use evaluation::route::route_checks_needed;
+use insertions::Insertions;
 use labels::columns::Columns;
-use numbers::{gain_floor, unknown};
+use numbers::gain_floor;
+use offers::best_across;
+use pairs::Choice;
 use places::Setup;
-use relocation_runs::make_moves;
-use relocations::search_all;
+use relocation_changes::make_move;
+use relocation_runs::descend;
+use relocations::PairSearch;
 
-// Searches every pair, and makes move after move.
-fn descend(
+// The engine that reads what a move changes off the legs where it takes effect.
+#[derive(Drop)]
+pub struct DeltaSearch<'a> {
     setup: Setup,
-    columns: &Columns,
-    demand: &[i32],
-    visits: &mut [u16],
-    lengths: &mut [u16],
-    buffer: &mut [u16],
-    figures: &mut [f64],
-    places: &mut [u16],
-    deltas: &mut [f64],
-    positions: &mut [u16],
-    to_places: &mut [u16],
-    pruning: bool,
-    limit: u32,
-) -> Ended
-    requires prepared { Prepared setup (lent columns.now) }
-    requires loaded { Loaded columns.now.locations demand.now × Held columns.now.locations visits.old lengths.old × (64 ≤ length buffer.old) }
-    requires cached { Cached (lent columns.now) setup (lists visits.old lengths.old) figures.old places.old }
-    requires sized { Sized (table deltas.old positions.old to_places.old) }
-    ensures { let c = lent columns.now in
-        let run = run_of (relocate false) (checks_of (measure_of demand.now setup.capacity ∷ []) c setup.limits setup.depot)
-        (float_judge (relocate false) (map_of columns.now.locations columns.now.distances.now setup.depot setup.fixed)) limit
-        (lists visits.old lengths.old)
-        in Edited visits.old lengths.old visits.new lengths.new run.last.now
-        × (result ≡ ended_as run.word run.moves) }
-{
-    search_all(
-        setup, columns, demand, visits, lengths, buffer, figures, places, deltas, positions,
-        to_places, pruning,
-    );
-    make_moves(
-        setup, columns, demand, visits, lengths, buffer, figures, places, deltas, positions,
-        to_places, pruning, limit,
-    )
+    columns: &'a Columns<'a>,
+    demand: &'a [i32],
+    cache: &'a mut Insertions,
+    buffer: [u16; 64],
+}
+
+impl<'a> PairSearch for DeltaSearch<'a> {
+    ghost terms = { λ s. terms_of (lent s.columns.now) s.demand.now s.setup };
+
+    ghost ready = { λ s. Ready (lent s.columns.now) s.demand.now s.setup s.cache.now };
+
+    fn bound(&self) -> f64 {
+        -self.setup.floor
+    }
+
+    fn best_across(&mut self, visits: &[u16], lengths: &[u16], from: usize, to: usize) -> Choice {
+        best_across(
+            self.setup,
+            self.columns,
+            self.demand,
+            visits,
+            lengths,
+            &mut self.buffer,
+            self.cache,
+            from,
+            to,
+        )
+    }
+
+    fn make_move(&mut self, visits: &mut [u16], lengths: &mut [u16], choice: Choice) {
+        make_move(
+            self.setup,
+            self.columns,
+            visits,
+            lengths,
+            self.cache,
+            choice,
+        );
+    }
+
+    ghost laid = { λ s visits lengths ready. ready.held.laid };
+
+    ghost sound = { λ s visits lengths ready. sound (lent s.columns.now) s.demand.now s.setup ready.prepared };
 }
 
 // Relocate of all lists, changed in place under their numbers, with at most `limit` moves. `fixed` is the van's fixed cost as a distance. Without `pruning`
@@ -100,26 +115,15 @@ pub fn relocate_improve(
         fixed,
         floor,
         needed,
+        pruning,
     };
-    let mut buffer = [0u16; 64];
-    let mut figures = [unknown(); 1024];
-    let mut places = [0u16; 1024];
-    let mut deltas = [0.0; 256];
-    let mut positions = [0u16; 256];
-    let mut to_places = [0u16; 256];
-    descend(
+    let mut cache = Insertions::new();
+    let mut engine = DeltaSearch {
         setup,
         columns,
         demand,
-        visits,
-        lengths,
-        &mut buffer,
-        &mut figures,
-        &mut places,
-        &mut deltas,
-        &mut positions,
-        &mut to_places,
-        pruning,
-        limit,
-    )
+        cache: &mut cache,
+        buffer: [0; 64],
+    };
+    descend(&mut engine, visits, lengths, limit)
 }

@@ -2,12 +2,12 @@
 -- is known is right of the lists as they stand then. Assumes nothing.
 use mathlib.Core.Path.{◌≡◌, sym, ap, ◌∙◌}
 use mathlib.Core.List.{List, []}
-use Prim.Native.Nat.{ℕ, ◌≤◌, ◌<◌}
+use Prim.Native.Nat.{ℕ, ◌+◌, ◌≤◌, ◌<◌}
 use native.Mathlib.Omega.{arith}
 use lib.Dec.{T}
 use lib.ListN.{length, get_or, set, length-set}
 use lib.Seq.{get_or-set_same, get_or-set_other}
-use lib.Ieee.{Float, nan}
+use lib.Ieee.{Float}
 use lib.Ieee.Scale.{finite}
 use Rattle.lists.specs.Table.{lists, list_of}
 use Rattle.list_changes.specs.Edits.{Edited, Relocates, relocated}
@@ -15,7 +15,8 @@ use Rattle.lists.proofs.Tables.{at_lists, length-lists, length_list}
 use Rattle.deltas.specs.Deltas.{insertion_delta}
 use Rattle.loads.specs.Loads.{Held}
 use Rattle.edits.specs.Edits.{inserted, without}
-use Rattle.insertions.specs.Cache.{cell, column, left_at, came_at, Known}
+use Rattle.insertions.specs.Cache.{forgotten, least_left, least_came, known_at, Noted, Updated, Known}
+use Rattle.insertions.specs.declared.Insertions.{Insertions}
 use Rattle.insertions.proofs.Shifted.{without-length, with_length}
 use Rattle.insertions.proofs.Cached.{forgot, known_left, known_came}
 use Rattle.loads.proofs.Tables.{list_visits}
@@ -85,49 +86,46 @@ module _ (l : ℕ) (visits lengths visits' lengths' : List ℕ) (from position t
       let size : length ys ≡ length (inserted Y moved place) = ap length (is-receiver ∙ receiver_then) in
       (omega (arith, size, is_at, wide, with_length Y moved place wide), omega (arith, is_at, place_small))
 
-  module _ (d : ℕ → ℕ → Float) (depot : ℕ) (fixed : Float) (figures : List Float) (places : List ℕ)
-      (K : Known (insertion_delta d depot fixed) l (lists visits lengths) figures places)
-      (v : ℕ) (f₁ f₂ f₃ : List Float) (p₃ xs : List ℕ) (at : ℕ) (is_at : at ≡ position) (is-giver : xs ≡ list_of visits' lengths' from)
-      (first : f₁ ≡ set figures (cell v from) nan) (second : f₂ ≡ set f₁ (cell v to) nan)
-      (third : f₃ ≡ column (λ u. (left_at (insertion_delta d depot fixed) from at xs f₂ places u).figure) from l f₂)
-      (third-places : p₃ ≡ column (λ u. (left_at (insertion_delta d depot fixed) from at xs f₂ places u).place) from l places) where
+  module _ (d : ℕ → ℕ → Float) (depot : ℕ) (fixed : Float) (cache : Insertions)
+      (K : Known (insertion_delta d depot fixed) l (lists visits lengths) cache)
+      (v : ℕ) (one two three : Insertions) (xs : List ℕ) (at : ℕ) (is_at : at ≡ position) (is-giver : xs ≡ list_of visits' lengths' from)
+      (first : Noted v from (forgotten (known_at cache v from)) cache one) (second : Noted v to (forgotten (known_at one v to)) one two)
+      (third : Updated (λ u known after. after ≡ least_left known at (insertion_delta d depot fixed xs u at)) from l two three) where
     from_low : from < 16
     from_low = omega (arith, r.gives, held.laid.few)
 
     to_low : to < 16
     to_low = omega (arith, r.takes, held.laid.few)
 
-    forgotten : Known (insertion_delta d depot fixed) l (lists visits lengths) f₂ places
-    forgotten = rw (second, first) (forgot _ l (lists visits lengths) _ places (forgot _ l (lists visits lengths) figures places K v from) v to)
+    still_known : Known (insertion_delta d depot fixed) l (lists visits lengths) two
+    still_known = forgot _ l (lists visits lengths) one two
+        (forgot _ l (lists visits lengths) cache one K from from_low v first) to to_low v second
 
     -- between: the receiver is as it was
-    pub known_between : Known (insertion_delta d depot fixed) l (set (lists visits lengths) from (without X position)) f₃ p₃
+    known_between : Known (insertion_delta d depot fixed) l (set (lists visits lengths) from (without X position)) three
     known_between =
         let same : xs ≡ without X position = is-giver ∙ giver_then in
-        rw (third, third-places, same, is_at) (known_left d depot fixed l (lists visits lengths) f₂ places forgotten from from_low gives position long)
+        known_left d depot fixed l (lists visits lengths) two three still_known from from_low gives position long (rw (same, is_at) at third)
 
     same-receiver : get_or (set (lists visits lengths) from (without X position)) to [] ≡ Y
     same-receiver = get_or-set_other (lists visits lengths) from to (without X position) [] (λ z. r.apart (sym z))
 
     -- so a place that is known stands in it
-    pub place_low : (u : ℕ) → u < l → T (finite (get_or f₃ (cell u to) nan)) → get_or p₃ (cell u to) 0 < 65535
+    pub place_low : (u : ℕ) → u < l → T (finite (known_at three u to).figure) → (known_at three u to).place < 65535
     place_low u h f =
         let k = (known_between.known u to h to_low f).there in
         let same : length (get_or (set (lists visits lengths) from (without X position)) to []) ≡ length Y = ap length same-receiver in
         omega (arith, k, same, few)
 
-    pub known_after : (f₄ : List Float) (p₄ ys : List ℕ) (there : ℕ) → there ≡ place → ys ≡ list_of visits' lengths' to
-        → f₄ ≡ column (λ u. (came_at (insertion_delta d depot fixed) to there ys f₃ p₃ u).figure) to l f₃
-        → p₄ ≡ column (λ u. (came_at (insertion_delta d depot fixed) to there ys f₃ p₃ u).place) to l p₃
-        → Known (insertion_delta d depot fixed) l (lists visits' lengths') f₄ p₄
+    pub known_after : (four : Insertions) (ys : List ℕ) (there : ℕ) → there ≡ place → ys ≡ list_of visits' lengths' to
+        → Updated (λ u known after. after ≡ least_came known there (insertion_delta d depot fixed ys u there) (insertion_delta d depot fixed ys u (there + 1)))
+        to l three four
+        → Known (insertion_delta d depot fixed) l (lists visits' lengths') four
     unfolding relocated
-    known_after f₄ p₄ ys there is-there is-receiver fourth fourth-places =
+    known_after four ys there is-there is-receiver fourth =
         let same : ys ≡ inserted Y moved place = is-receiver ∙ receiver_then in
-        let whole = known_came d depot fixed l (set (lists visits lengths) from (without X position)) f₃ p₃ known_between to to_low (rw length-set takes) moved
-        place in
-        let last : place ≤ length Y
-        → Known (insertion_delta d depot fixed) l (set (set (lists visits lengths) from (without X position)) to (inserted Y moved place))
-        (column (λ u. (came_at (insertion_delta d depot fixed) to place (inserted Y moved place) f₃ p₃ u).figure) to l f₃)
-        (column (λ u. (came_at (insertion_delta d depot fixed) to place (inserted Y moved place) f₃ p₃ u).place) to l p₃)
-        = rw same-receiver at whole in
-        rw (e.holds, fourth, fourth-places, same, is-there) (last wide)
+        let changed = rw (same, is-there, ← same-receiver) at fourth in
+        let wide' : place ≤ length (get_or (set (lists visits lengths) from (without X position)) to []) = rw same-receiver wide in
+        rw (e.holds, ← same-receiver)
+        (known_came d depot fixed l (set (lists visits lengths) from (without X position)) three four known_between to to_low (rw length-set takes) moved
+        place wide' changed)

@@ -1,69 +1,61 @@
-// A run of relocate where the best move of every pair of lists is known (relocate.rs, the loop of `relocate_improve`): the least of the table is made, and
-// the table follows, until none gains or the limit is used up.
+// A run of a relocate engine (relocate.rs, the loop of `relocate_improve`): the best move of every pair of lists is searched and kept in a table; the least of
+// the table is made, and the table follows, until none gains or the limit is used up.
 
 #![tactic(auto)]
 
-ghost use Rattle.std.specs.Prelude.{◌≡◌, false, [], ◌∷◌, ◌≤◌, length};
+ghost use Rattle.std.specs.Prelude.{◌≡◌, length};
 ghost use Rattle.lists.specs.Table.{lists};
 ghost use Rattle.list_changes.specs.Edits.{Edited};
-ghost use Rattle.descent.specs.Permitted.{relocate};
-ghost use Rattle.descent.specs.Engines.{run_of};
-ghost use Rattle.deltas.specs.Judged.{float_judge};
-ghost use Rattle.engine.specs.Engine.{checks_of, map_of, ended_as};
-ghost use Rattle.pairs.specs.Pairs.{table};
-ghost use Rattle.loads.specs.Loads.{measure_of, Loaded, Held};
-ghost use Rattle.places.specs.Places.{Prepared};
-ghost use Rattle.offers.specs.Offers.{Cached};
+ghost use Rattle.engine.specs.Engine.{ended_as};
 ghost use Rattle.relocations.specs.Relocations.{PairsRight, Every};
-ghost use Rattle.labels.specs.Lent.{lent};
+ghost use Rattle.relocation_runs.specs.Runs.{run_by};
 
 use engine::Ended;
-use labels::columns::Columns;
-use pairs::best_pair;
-use places::Setup;
-use relocation_changes::move_and_search;
+use pairs::PairTable;
+use relocations::{PairSearch, search_all, search_changed};
 
 // Makes move after move until none is left or the limit is used up.
-pub fn make_moves(
-    setup: Setup,
-    columns: &Columns,
-    demand: &[i32],
+pub fn make_moves<E: PairSearch>(
+    engine: &mut E,
     visits: &mut [u16],
     lengths: &mut [u16],
-    buffer: &mut [u16],
-    figures: &mut [f64],
-    places: &mut [u16],
-    deltas: &mut [f64],
-    positions: &mut [u16],
-    to_places: &mut [u16],
-    pruning: bool,
+    table: &mut PairTable,
     limit: u32,
 ) -> Ended
-    requires prepared { Prepared setup (lent columns.now) }
-    requires loaded { Loaded columns.now.locations demand.now × Held columns.now.locations visits.old lengths.old × (64 ≤ length buffer.old) }
-    requires cached { Cached (lent columns.now) setup (lists visits.old lengths.old) figures.old places.old }
-    requires pairs_right { PairsRight (lent columns.now) demand.now setup
-        (lists visits.old lengths.old) (length lengths.old) (Every) (table deltas.old positions.old to_places.old) }
-    ensures { let c = lent columns.now in
-        let run = run_of (relocate false) (checks_of (measure_of demand.now setup.capacity ∷ []) c setup.limits setup.depot)
-        (float_judge (relocate false) (map_of columns.now.locations columns.now.distances.now setup.depot setup.fixed)) limit
-        (lists visits.old lengths.old)
+    requires is_ready { E.ready engine.old visits.old lengths.old }
+    requires right { PairsRight (E.terms engine.old) (lists visits.old lengths.old) (length lengths.old) Every table.old }
+    ensures { let run = run_by (E.terms engine.old) limit (lists visits.old lengths.old)
         in Edited visits.old lengths.old visits.new lengths.new run.last.now
         × (result ≡ ended_as run.word run.moves) }
 {
     let mut moves = 0;
     loop {
-        let best = best_pair(lengths.len(), -setup.floor, deltas, positions, to_places);
+        let best = table.best(lengths.len(), engine.bound());
         if best.found == 0 {
             return Ended::Settled(moves);
         }
         if limit <= moves {
             return Ended::Stopped(moves);
         }
-        move_and_search(
-            setup, columns, demand, visits, lengths, buffer, figures, places, deltas, positions,
-            to_places, pruning, best,
-        );
+        engine.make_move(visits, lengths, best);
+        search_changed(engine, visits, lengths, table, best.from, best.to);
         moves += 1;
     }
+}
+
+// Searches every pair, and makes move after move, at most `limit`.
+pub fn descend<E: PairSearch>(
+    engine: &mut E,
+    visits: &mut [u16],
+    lengths: &mut [u16],
+    limit: u32,
+) -> Ended
+    requires { E.ready engine.old visits.old lengths.old }
+    ensures { let run = run_by (E.terms engine.old) limit (lists visits.old lengths.old)
+        in Edited visits.old lengths.old visits.new lengths.new run.last.now
+        × (result ≡ ended_as run.word run.moves) }
+{
+    let mut table = PairTable::new();
+    search_all(engine, visits, lengths, &mut table);
+    make_moves(engine, visits, lengths, &mut table, limit)
 }

@@ -1,2 +1,3 @@
--- `Searching`: the table of pairs as the loops fill it, and what of it stays right after a move.
+-- `Searching`: the table of pairs as a run's loops fill it. `Scanning`: the offers of a pair of lists as a scan of its candidates.
 pub mod Searching
+pub mod Scanning

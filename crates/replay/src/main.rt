@@ -13,69 +13,53 @@ mod score; // how many runs of a kind agree
 
 ghost use Rattle.std.specs.Prelude.{◌≡◌, ◌≤◌, IfOk, length};
 
+use sample::kind::Kind;
+use sample::stored::Run;
 use sample::whole::file_is_whole;
-use sample_day::Agrees;
+use sample_day::SampleDay;
 use std::io;
 use std::io::Read;
 
-fn line(rt: &impl Print, kind: &[u8], data: &[u8], tag: u8, agrees: Agrees) -> io::Result<()>
-    requires { IsAlwaysCallable agrees }
+fn line<F: Fn(Run, &SampleDay) -> Option<bool>>(
+    rt: &impl Print,
+    data: &[u8],
+    kind: Kind,
+    agrees: F,
+) -> io::Result<()>
+    requires { F.IsAlwaysCallable agrees }
 {
-    let score = score::of_file(data, tag, agrees);
-    rt.write_all(kind)?;
-    rt.print(score.agree)?;
-    rt.write_all(b" agree, ")?;
-    rt.print(score.differ)?;
-    rt.write_all(b" differ\n")
+    let score = score::of_file(data, kind, &agrees).unwrap_or_default();
+    println!(rt; "{kind} {} agree, {} differ", score.agree, score.differ)
 }
 
 fn checks(rt: &impl Print, data: &[u8]) -> io::Result<()> {
-    line(rt, b"feasible ", data, runs::FEASIBLE, runs::feasible)?;
-    line(rt, b"eval ", data, runs::EVAL, runs::eval)?;
-    line(rt, b"schedule ", data, runs::SCHEDULE, runs::schedule)?;
-    line(rt, b"distance ", data, runs::DISTANCE, runs::distance)
+    line(rt, data, Kind::Feasible, runs::feasible)?;
+    line(rt, data, Kind::Eval, runs::eval)?;
+    line(rt, data, Kind::Schedule, runs::schedule)?;
+    line(rt, data, Kind::Distance, runs::distance)
 }
 
 fn engines_of_a_list(rt: &impl Print, data: &[u8]) -> io::Result<()> {
-    line(rt, b"two_opt ", data, improve::TWO_OPT, improve::two_opt)?;
-    line(rt, b"or_opt ", data, improve::OR_OPT, improve::or_opt)?;
-    line(
-        rt,
-        b"three_opt ",
-        data,
-        improve::THREE_OPT,
-        improve::three_opt,
-    )
+    line(rt, data, Kind::TwoOpt, improve::two_opt)?;
+    line(rt, data, Kind::OrOpt, improve::or_opt)?;
+    line(rt, data, Kind::ThreeOpt, improve::three_opt)
 }
 
 fn engines_of_all_lists(rt: &impl Print, data: &[u8]) -> io::Result<()> {
+    line(rt, data, Kind::Relocate, rearrange::relocate)?;
     line(
         rt,
-        b"relocate ",
         data,
-        rearrange::RELOCATE,
-        rearrange::relocate,
-    )?;
-    line(
-        rt,
-        b"relocate_np ",
-        data,
-        rearrange::RELOCATE_WITHOUT_PRUNING,
+        Kind::RelocateWithoutPruning,
         rearrange::relocate_without_pruning,
     )?;
-    line(
-        rt,
-        b"exchange ",
-        data,
-        rearrange::EXCHANGE,
-        rearrange::exchange,
-    )?;
-    line(rt, b"cross ", data, cross::CROSS, cross::agrees)
+    line(rt, data, Kind::Exchange, rearrange::exchange)?;
+    line(rt, data, Kind::Cross, cross::agrees)
 }
 
 fn replay(rt: &impl Print, data: &[u8]) -> io::Result<()> {
     if !file_is_whole(data) {
-        return rt.write_all(b"malformed\n");
+        return println!(rt; "malformed");
     }
     checks(rt, data)?;
     engines_of_a_list(rt, data)?;
@@ -90,6 +74,7 @@ fn room() -> [u8; 524288]
 }
 
 // Reads until the buffer is full or the input ends, and says how many bytes came.
+// The loop counts no index: a read may give less than there is room for, and one that gives nothing ends it.
 fn read_full(input: &mut impl Read, buffer: &mut [u8]) -> io::Result<usize>
     ensures { IfOk result (λ n. n ≤ length buffer.new) }
 {

@@ -1,10 +1,11 @@
 // How many runs of one kind agree with the stored answers.
-use crate::sample_day::{Agrees, SampleDay};
-use day::day::Day;
+use crate::sample_day::SampleDay;
 use sample::columns;
-use sample::columns::first;
-use sample::layout::{Head, Tail, head_of, tail_of};
-use sample_bytes::{behind, byte_at, count_at, pair, part};
+use sample::columns::DayColumns;
+use sample::kind::Kind;
+use sample::layout::{DayBytes, day_bytes, next_day, next_run};
+use sample::stored::Run;
+use sample_bytes::Reader;
 
 #[derive(Clone, Copy, Default)]
 pub struct Score {
@@ -20,117 +21,73 @@ fn sum(a: Score, b: Score) -> Score {
     }
 }
 
-// The bytes of the run at a position, behind its tag and its size.
-fn run_at(day: &[u8], at: usize) -> &[u8] {
-    part(day, behind(day, at, 2), count_at(day, behind(day, at, 1)))
-}
-
-// The score of the run at a position, which counts if it is of the kind asked for.
-fn of_run(day: &[u8], at: usize, tag: u8, agrees: Agrees, sample: &SampleDay) -> Score
-    requires { IsAlwaysCallable agrees }
-{
-    if byte_at(day, at) != tag {
-        return Score::default();
-    }
-    let agreed = agrees(run_at(day, at), sample);
+// The score of one run.
+fn of_run(agreed: bool) -> Score {
     Score {
         agree: u64::from(agreed),
         differ: u64::from(!agreed),
     }
 }
 
-// The score of the runs that begin at a position.
-fn of_runs(
-    day: &[u8],
-    runs: usize,
-    count: usize,
-    tag: u8,
-    agrees: Agrees,
+// The score of a day's runs.
+fn of_runs<F: Fn(Run, &SampleDay) -> Option<bool>>(
+    day: &DayBytes,
+    kind: Kind,
+    agrees: &F,
     sample: &SampleDay,
 ) -> Score
-    requires { IsAlwaysCallable agrees }
+    requires { F.IsAlwaysCallable agrees.now }
 {
+    let words = day.words;
+    let mut runs = day.runs;
     let mut score = Score::default();
-    let mut at = runs;
-    for _ in 0..count {
-        score = sum(score, of_run(day, at, tag, agrees, sample));
-        at = behind(day, at, count_at(day, behind(day, at, 1)) + 2);
+    for (tag, run) in (0..day.run_count).map_while(|_| next_run(&mut runs)) {
+        if tag == kind.tag() {
+            let bytes = Reader { rest: run };
+            score = sum(
+                score,
+                of_run(agrees(Run { words, bytes }, sample) == Some(true)),
+            );
+        }
     }
     score
 }
 
-// The score of a day with these lists.
-fn of_lists<'a>(
-    day: &'a [u8],
-    head: Head,
-    tail: Tail,
-    tag: u8,
-    agrees: Agrees,
-    visits: &'a [u16],
-    lengths: &'a [u16],
-) -> Score
-    requires { IsAlwaysCallable agrees }
+// The score of a day, none where it hasn't the stored form.
+fn of_day<F: Fn(Run, &SampleDay) -> Option<bool>>(
+    bytes: &[u8],
+    kind: Kind,
+    agrees: &F,
+) -> Option<Score>
+    requires { F.IsAlwaysCallable agrees.now }
 {
-    let l = head.l;
-    let table = part(day, 2, head.table_size);
-    let demand = columns::demands(table, day, head.demand, l);
-    let service: [f64; 64] = columns::numbers(table, day, head.service, l);
-    let ready: [f64; 64] = columns::numbers(table, day, head.ready, l);
-    let due: [f64; 64] = columns::numbers(table, day, head.due, l);
-    let penalty: [f64; 64] = columns::numbers(table, day, head.penalty, l);
-    let distances: [f64; 4096] = columns::numbers(table, day, head.distances, head.distances_size);
-    let times: [f64; 4096] = columns::numbers(table, day, tail.times, tail.times_size);
+    let day = day_bytes(bytes)?;
+    let words = day.words;
+    let columns = DayColumns::of(words, &day.locations)?;
+    let visits = columns::places(day.visits)?;
+    let lengths = columns::places(day.lengths)?;
     let sample = SampleDay {
-        table,
-        day: Day {
-            locations: l,
-            flags: part(day, head.flags, l),
-            demand: first(&demand, l),
-            service: first(&service, l),
-            ready: first(&ready, l),
-            due: first(&due, l),
-            penalty: first(&penalty, l),
-            distances: first(&distances, head.distances_size),
-            times: first(&times, tail.times_size),
-        },
-        van: columns::van(table, day, tail.van),
-        visits,
-        lengths,
+        day: columns.day(),
+        van: columns::van(words, day.van)?,
+        visits: visits.as_slice(),
+        lengths: lengths.as_slice(),
     };
-    of_runs(day, tail.runs, tail.run_count, tag, agrees, &sample)
-}
-
-// The score of a day.
-fn of_day(day: &[u8], tag: u8, agrees: Agrees) -> Score
-    requires { IsAlwaysCallable agrees }
-{
-    let head = head_of(day);
-    let tail = tail_of(day, head);
-    let visits = columns::places(day, tail.visits, tail.visits_size);
-    let lengths = columns::places(day, tail.lengths, tail.lists);
-    of_lists(
-        day,
-        head,
-        tail,
-        tag,
-        agrees,
-        first(&visits, tail.visits_size),
-        first(&lengths, tail.lists),
-    )
+    Some(of_runs(&day, kind, agrees, &sample))
 }
 
 // The score of a file's runs of a kind.
-pub fn of_file(data: &[u8], tag: u8, agrees: Agrees) -> Score
-    requires { IsAlwaysCallable agrees }
+pub fn of_file<F: Fn(Run, &SampleDay) -> Option<bool>>(
+    data: &[u8],
+    kind: Kind,
+    agrees: &F,
+) -> Option<Score>
+    requires { F.IsAlwaysCallable agrees.now }
 {
-    let days = pair(data, 0);
+    let mut file = Reader { rest: data };
+    let days = file.pair()?;
     let mut score = Score::default();
-    let mut at = 2;
-    for _ in 0..days {
-        let size = pair(data, at);
-        let day = part(data, behind(data, at, 2), size);
-        score = sum(score, of_day(day, tag, agrees));
-        at = behind(data, behind(data, at, 2), size);
+    for day in (0..days).map_while(|_| next_day(&mut file)) {
+        score = sum(score, of_day(day, kind, agrees)?);
     }
-    score
+    Some(score)
 }

@@ -3,7 +3,7 @@
 
 #![tactic(auto)]
 
-ghost use Rattle.std.specs.Prelude.{◌≡◌, true, cond, ◌<◌, length, None};
+ghost use Rattle.std.specs.Prelude.{◌≡◌, cond, ◌<◌, length};
 ghost use Rattle.labels.specs.Columns.{Visits};
 ghost use Rattle.labels.specs.Lent.{lent};
 ghost use Rattle.reversal_places.specs.Places.{Worked, Shared, place_after, turned_passes, gains, turned_at};
@@ -11,8 +11,6 @@ ghost use Rattle.reversal_places.specs.Places.{Worked, Shared, place_after, turn
 use day::vehicle::RouteLimits;
 use deltas_within::two_opt_delta;
 use edits::reverse;
-use evaluation::clocked::is_allowed;
-use evaluation::route::outcome_of;
 use heads::Head;
 use labels::columns::Columns;
 use layouts::{laid_passes, reversal};
@@ -52,24 +50,16 @@ pub fn place_after(n: usize, place: Place) -> Place
     }
 }
 
-// Reverses the visits of a place where the result passes with no break to take, and says whether it did. The result shares a head with the list, and is
-// driven from there on before it is made.
-fn turn_unbroken(
-    terms: Terms,
-    columns: &Columns,
-    list: &mut [u16],
-    head: Head,
-    place: Place,
-) -> bool
+// Reverses the visits of a place where the result passes, and says whether it did. The result shares a head with the list, and is checked before it is made.
+fn turn(terms: Terms, columns: &Columns, list: &mut [u16], head: Head, place: Place) -> bool
     requires worked { Worked (lent columns.now) terms × Visits columns.now.locations list.old }
     requires first_lt_last { (place.first < place.last) × (place.last < length list.old) }
     requires shared { Shared (lent columns.now) terms list.old head place.first }
-    requires rest_value { terms.limits.rest ≡ None }
     ensures value { result ≡ turned_passes (lent columns.now) terms list.old place }
     ensures list_after { list.new ≡ cond result (turned_at list.old place) list.old }
 {
     let depot = terms.depot;
-    let limits = terms.limits;
+    let limits = terms.limits; // copied for the few that gain, not at each place
     let first = place.first;
     let end = place.last + 1;
     let needed = terms.needed;
@@ -79,28 +69,6 @@ fn turn_unbroken(
         reverse(list, first, end);
     }
     laid
-}
-
-// The same with a break to take, which leaves no head to share: the visits are reversed, and turned back where the result doesn't pass.
-fn turn_broken(terms: Terms, columns: &Columns, list: &mut [u16], place: Place) -> bool
-    requires worked { Worked (lent columns.now) terms × Visits columns.now.locations list.old }
-    requires first_lt_last { (place.first < place.last) × (place.last < length list.old) }
-    requires needed_value { terms.needed ≡ true }
-    ensures value { result ≡ turned_passes (lent columns.now) terms list.old place }
-    ensures list_after { list.new ≡ cond result (turned_at list.old place) list.old }
-{
-    let depot = terms.depot;
-    let limits = terms.limits;
-    let first = place.first;
-    let end = place.last + 1;
-    reverse(list, first, end);
-    let rest = limits.rest;
-    let outcome = outcome_of(columns, rest, depot, list);
-    let passed = is_allowed(limits, outcome);
-    if !passed {
-        reverse(list, first, end);
-    }
-    passed
 }
 
 // Reverses the visits of a place where that gains and the result passes, and says whether it did.
@@ -120,23 +88,10 @@ pub fn try_reversal(
     let depot = terms.depot;
     let first = place.first;
     let last = place.last;
-    let delta = two_opt_delta(
-        columns.locations,
-        columns.distances,
-        terms.symmetric,
-        depot,
-        list,
-        first,
-        last,
-    );
+    let delta = two_opt_delta(&columns.matrix(), terms.symmetric, depot, list, first, last);
     let gains = counts_as_gain(delta, terms.floor);
     if !gains {
         return false;
     }
-    let limits = terms.limits; // copied for the few that gain, not at each place
-    let rest = limits.rest;
-    match rest {
-        None => turn_unbroken(terms, columns, list, head, place),
-        Some(_) => turn_broken(terms, columns, list, place),
-    }
+    turn(terms, columns, list, head, place)
 }

@@ -1,28 +1,33 @@
-// The parts of a day as tables to lend. Each is read whole, zeros behind what the day has, and lent as its beginning.
-ghost use Rattle.std.specs.Prelude.{◌≤◌, ◌≡◌, length};
+// The parts of a day and of a fleet as tables to lend: each has an entry a byte.
+ghost use Rattle.std.specs.Prelude.{◌≡◌, ◌<◌, length, MatchOption};
+ghost use Rattle.arrayvec.specs.ArrayVec.{array_vec_len};
 
+use crate::layout::{DayBytes, LocationBytes};
+use arrayvec::ArrayVec;
+use day::day::Day;
 use day::vehicle::Van;
-use sample_bytes::{byte_at, number, part, value};
-use std::array::from_fn;
+use sample_bytes::Words;
 
-// An entry for each byte; behind the bytes, what byte 0 stands for.
-fn column<T, const N: usize, F: Fn(u8) -> T>(bytes: &[u8], entry: F) -> [T; N]
+// An entry for each byte, nothing where there are more than `N`.
+fn column<T: Default + Drop, const N: usize, F: Fn(u8) -> T>(
+    bytes: &[u8],
+    entry: F,
+) -> Option<ArrayVec<T, N>>
     requires { F.IsAlwaysCallable entry }
-    ensures { N ≡ length result }
+    ensures { MatchOption result (N < length bytes.now) (λ column. array_vec_len column ≡ length bytes.now) }
 {
-    from_fn(|k| entry(byte_at(bytes, k)))
-}
-
-// The first `n` entries, none where there are fewer.
-pub fn first<T>(column: &[T], n: usize) -> &[T] {
-    column.get(..n).unwrap_or(&[])
+    let mut column = ArrayVec::new();
+    for &byte in bytes {
+        column.try_push(entry(byte)).ok()?;
+    }
+    Some(column)
 }
 
 // Numbers: a column, or a table's rows one after another.
-pub fn numbers<const N: usize>(table: &[u8], day: &[u8], at: usize, n: usize) -> [f64; N]
-    ensures { N ≡ length result }
+pub fn numbers<const N: usize>(words: Words, bytes: &[u8]) -> Option<ArrayVec<f64, N>>
+    ensures { MatchOption result (N < length bytes.now) (λ column. array_vec_len column ≡ length bytes.now) }
 {
-    column(part(day, at, n), |byte| number(table, byte))
+    column(bytes, |byte| words.number(byte))
 }
 
 // A whole number, -1 where it is too large: a demand or capacity that is refused.
@@ -31,30 +36,17 @@ fn signed(value: u64) -> i32 {
 }
 
 // A column of whole numbers.
-pub fn demands(table: &[u8], day: &[u8], at: usize, n: usize) -> [i32; 64] {
-    column(part(day, at, n), |byte| signed(value(table, byte)))
+pub fn demands(words: Words, bytes: &[u8]) -> Option<ArrayVec<i32, 64>>
+    ensures { MatchOption result (64 < length bytes.now) (λ column. array_vec_len column ≡ length bytes.now) }
+{
+    column(bytes, |byte| signed(words.value(byte)))
 }
 
 // Visits, or lengths of lists.
-pub fn places(day: &[u8], at: usize, n: usize) -> [u16; 64] {
-    column(part(day, at, n), |byte| u16::from(byte))
-}
-
-// As many visits or lengths as a copy has room for, none where there are more.
-pub fn room_for(n: usize) -> usize
-    ensures { result ≤ 64 }
+pub fn places(bytes: &[u8]) -> Option<ArrayVec<u16, 64>>
+    ensures { MatchOption result (64 < length bytes.now) (λ column. array_vec_len column ≡ length bytes.now) }
 {
-    if n > 64 {
-        return 0;
-    }
-    n
-}
-
-// The visits or lengths once more, to be changed.
-pub fn copied(visits: &[u16]) -> [u16; 64]
-    ensures { 64 ≡ length result }
-{
-    from_fn(|k| visits.get(k).copied().unwrap_or(0))
+    column(bytes, |byte| u16::from(byte))
 }
 
 // An id or a limit, 0 where it is too large.
@@ -63,31 +55,93 @@ pub fn short(value: u64) -> u32 {
 }
 
 // Ids, each 0 where it is too large.
-pub fn ids(table: &[u8], day: &[u8], at: usize, n: usize) -> [u32; 64]
-    ensures { 64 ≡ length result }
+pub fn ids(words: Words, bytes: &[u8]) -> Option<ArrayVec<u32, 64>>
+    ensures { MatchOption result (64 < length bytes.now) (λ column. array_vec_len column ≡ length bytes.now) }
 {
-    column(part(day, at, n), |byte| short(value(table, byte)))
+    column(bytes, |byte| short(words.value(byte)))
 }
 
 // Depots by number.
-pub fn depots(table: &[u8], day: &[u8], at: usize, n: usize) -> [usize; 64] {
-    column(part(day, at, n), |byte| value(table, byte) as usize)
+pub fn depots(words: Words, bytes: &[u8]) -> Option<ArrayVec<usize, 64>>
+    ensures { MatchOption result (64 < length bytes.now) (λ column. array_vec_len column ≡ length bytes.now) }
+{
+    column(bytes, |byte| words.value(byte) as usize)
 }
 
-// The van at a position.
-pub fn van(table: &[u8], day: &[u8], at: usize) -> Van {
-    let bytes = part(day, at, 11);
-    Van {
-        id: short(value(table, byte_at(bytes, 0))),
-        depot: value(table, byte_at(bytes, 1)) as usize,
-        capacity: signed(value(table, byte_at(bytes, 2))),
-        cost_per_distance: number(table, byte_at(bytes, 3)),
-        fixed_cost: number(table, byte_at(bytes, 4)),
-        flags: byte_at(bytes, 5),
-        max_distance: number(table, byte_at(bytes, 6)),
-        max_duration: number(table, byte_at(bytes, 7)),
-        earliest: number(table, byte_at(bytes, 8)),
-        latest: number(table, byte_at(bytes, 9)),
-        duration: number(table, byte_at(bytes, 10)),
+// The van of a day, none where it has fewer bytes.
+pub fn van(words: Words, bytes: &[u8]) -> Option<Van> {
+    let &[
+        id,
+        depot,
+        capacity,
+        cost_per_distance,
+        fixed_cost,
+        flags,
+        max_distance,
+        max_duration,
+        earliest,
+        latest,
+        duration,
+    ] = bytes
+    else {
+        return None;
+    };
+    Some(Van {
+        id: short(words.value(id)),
+        depot: words.value(depot) as usize,
+        capacity: signed(words.value(capacity)),
+        cost_per_distance: words.number(cost_per_distance),
+        fixed_cost: words.number(fixed_cost),
+        flags,
+        max_distance: words.number(max_distance),
+        max_duration: words.number(max_duration),
+        earliest: words.number(earliest),
+        latest: words.number(latest),
+        duration: words.number(duration),
+    })
+}
+
+// The columns of a day that are lent.
+#[derive(Drop)]
+pub struct DayColumns<'a> {
+    locations: usize,
+    flags: &'a [u8],
+    demand: ArrayVec<i32, 64>,
+    service: ArrayVec<f64, 64>,
+    ready: ArrayVec<f64, 64>,
+    due: ArrayVec<f64, 64>,
+    penalty: ArrayVec<f64, 64>,
+    distances: ArrayVec<f64, 4096>,
+    times: ArrayVec<f64, 4096>,
+}
+
+impl<'a> DayColumns<'a> {
+    pub fn of(words: Words, bytes: &LocationBytes<'a>) -> Option<DayColumns<'a>> {
+        Some(DayColumns {
+            locations: bytes.count,
+            flags: bytes.flags,
+            demand: demands(words, bytes.demand)?,
+            service: numbers(words, bytes.service)?,
+            ready: numbers(words, bytes.ready)?,
+            due: numbers(words, bytes.due)?,
+            penalty: numbers(words, bytes.penalty)?,
+            distances: numbers(words, bytes.distances)?,
+            times: numbers(words, bytes.times)?,
+        })
+    }
+
+    // The day as it is lent.
+    pub fn day(&self) -> Day<'_> {
+        Day {
+            locations: self.locations,
+            flags: self.flags,
+            demand: self.demand.as_slice(),
+            service: self.service.as_slice(),
+            ready: self.ready.as_slice(),
+            due: self.due.as_slice(),
+            penalty: self.penalty.as_slice(),
+            distances: self.distances.as_slice(),
+            times: self.times.as_slice(),
+        }
     }
 }

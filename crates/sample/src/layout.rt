@@ -1,86 +1,84 @@
-// Where the parts of a day lie, and how long they are, as the day says itself. Where it is too short, the later positions are NOWHERE.
-ghost use Rattle.std.specs.Prelude.{◌≤◌};
+// A day as it is stored: its parts, as long as it says itself, and its runs.
+ghost use Rattle.std.specs.Prelude.{◌≡◌, ◌≤◌, ◌*◌, length, IfSome};
 
-use sample_bytes::{behind, count_at};
+use sample_bytes::{Reader, Words};
 
-// The parts up to the distances. Positions, but for the locations and the bytes of the two tables.
+// What a day has of its locations: a byte an entry.
 #[derive(Clone, Copy)]
-pub struct Head {
-    pub l: usize,
-    pub table_size: usize,
-    pub flags: usize,
-    pub demand: usize,
-    pub service: usize,
-    pub ready: usize,
-    pub due: usize,
-    pub penalty: usize,
-    pub distances: usize,
-    pub distances_size: usize,
-    pub times_said: usize,
+pub struct LocationBytes<'a> {
+    pub count: usize,
+    pub flags: &'a [u8],
+    pub demand: &'a [u8],
+    pub service: &'a [u8],
+    pub ready: &'a [u8],
+    pub due: &'a [u8],
+    pub penalty: &'a [u8],
+    pub distances: &'a [u8],
+    pub times: &'a [u8],
 }
 
-// The parts from the times on.
+// What a day has.
 #[derive(Clone, Copy)]
-pub struct Tail {
-    pub times: usize,
-    pub times_size: usize,
-    pub van: usize,
-    pub lists: usize,
-    pub lengths: usize,
-    pub visits: usize,
-    pub visits_size: usize,
-    pub runs_said: usize,
+pub struct DayBytes<'a> {
+    pub words: Words<'a>,
+    pub locations: LocationBytes<'a>,
+    pub van: &'a [u8],
+    pub lengths: &'a [u8],
+    pub visits: &'a [u8],
     pub run_count: usize,
-    pub runs: usize,
+    pub runs: Reader<'a>,
 }
 
-// The entries of a table for as many locations, none for over 64.
-fn square(l: usize) -> usize
+impl<'a> DayBytes<'a> {
+    // All parts whose bytes stand for something.
+    pub fn tables(&self) -> [&'a [u8]; 11] {
+        let locations = self.locations;
+        [
+            locations.flags,
+            locations.demand,
+            locations.service,
+            locations.ready,
+            locations.due,
+            locations.penalty,
+            locations.distances,
+            locations.times,
+            self.van,
+            self.lengths,
+            self.visits,
+        ]
+    }
+}
+
+// The entries of a table for as many locations.
+fn square(locations: usize) -> usize
+    requires { locations ≤ 64 }
     ensures { result ≤ 4096 }
 {
-    if l > 64 {
-        return 0;
+    locations * locations
+}
+
+// The bytes of the locations, none where there are too many or too few.
+fn location_bytes<'a>(day: &mut Reader<'a>, count: usize) -> Option<LocationBytes<'a>>
+    ensures { IfSome result (λ bytes. bytes.count ≤ 64) }
+{
+    if count == 0 || count > 64 {
+        return None;
     }
-    l * l
-}
-
-// The entries of the table of times: none where it isn't there.
-fn times_size(said: usize, l: usize) -> usize {
-    if said == 0 {
-        return 0;
-    }
-    square(l)
-}
-
-// From one position to another.
-pub fn gap(from: usize, to: usize) -> usize {
-    to.saturating_sub(from)
-}
-
-// Where the visits end that begin at a position.
-fn visits_end(day: &[u8], lengths: usize, lists: usize, visits: usize) -> usize {
-    let mut at = visits;
-    for i in 0..lists {
-        at = behind(day, at, count_at(day, behind(day, lengths, i)));
-    }
-    at
-}
-
-// The first parts of a day.
-pub fn head_of(day: &[u8]) -> Head {
-    let l = count_at(day, 0);
-    let table_size = 8 * count_at(day, 1);
-    let flags = behind(day, 2, table_size);
-    let demand = behind(day, flags, l);
-    let service = behind(day, demand, l);
-    let ready = behind(day, service, l);
-    let due = behind(day, ready, l);
-    let penalty = behind(day, due, l);
-    let distances = behind(day, penalty, l);
-    let distances_size = square(l);
-    Head {
-        l,
-        table_size,
+    let size = square(count);
+    let flags = day.take(count)?;
+    let demand = day.take(count)?;
+    let service = day.take(count)?;
+    let ready = day.take(count)?;
+    let due = day.take(count)?;
+    let penalty = day.take(count)?;
+    let distances = day.take(size)?;
+    let times = match day.byte()? {
+        0 => day.take(0)?,
+        1 => day.take(size)?,
+        _ => return None,
+    };
+    Some(LocationBytes {
+        count,
         flags,
         demand,
         service,
@@ -88,31 +86,58 @@ pub fn head_of(day: &[u8]) -> Head {
         due,
         penalty,
         distances,
-        distances_size,
-        times_said: behind(day, distances, distances_size),
-    }
+        times,
+    })
 }
 
-// And those behind them.
-pub fn tail_of(day: &[u8], head: Head) -> Tail {
-    let times = behind(day, head.times_said, 1);
-    let times_size = times_size(count_at(day, head.times_said), head.l);
-    let van = behind(day, times, times_size);
-    let lists_said = behind(day, van, 11);
-    let lists = count_at(day, lists_said);
-    let lengths = behind(day, lists_said, 1);
-    let visits = behind(day, lengths, lists);
-    let runs_said = visits_end(day, lengths, lists, visits);
-    Tail {
-        times,
-        times_size,
+// The sum of the lengths.
+fn visit_count(lengths: &[u8]) -> usize {
+    lengths.iter().fold(
+        0,
+        |count: usize, &length| count.saturating_add(usize::from(length)),
+    )
+}
+
+// The parts of a day, none where it is too short or a count too large.
+pub fn day_bytes<'a>(bytes: &'a [u8]) -> Option<DayBytes<'a>>
+    ensures { IfSome result (λ day. (day.locations.count ≤ 64) × (length day.lengths.now ≤ 16) × (length day.visits.now ≤ 64)) }
+{
+    let mut day = Reader { rest: bytes };
+    let count = day.count()?;
+    let word_count = day.count()?;
+    if word_count > 128 {
+        return None;
+    }
+    let words = Words::of(day.take(8 * word_count)?);
+    let locations = location_bytes(&mut day, count)?;
+    let van = day.take(11)?;
+    let list_count = day.count()?;
+    let lengths = day.take(list_count)?;
+    let visits = day.take(visit_count(lengths))?;
+    if lengths.len() > 16 || visits.len() > 64 {
+        return None;
+    }
+    let run_count = day.count()?;
+    Some(DayBytes {
+        words,
+        locations,
         van,
-        lists,
         lengths,
         visits,
-        visits_size: gap(visits, runs_said),
-        runs_said,
-        run_count: count_at(day, runs_said),
-        runs: behind(day, runs_said, 1),
-    }
+        run_count,
+        runs: day,
+    })
+}
+
+// The next day of a file, behind its size.
+pub fn next_day<'a>(days: &mut Reader<'a>) -> Option<&'a [u8]> {
+    let size = days.pair()?;
+    days.take(size)
+}
+
+// The tag of the next run of a day and, behind its size, what it has.
+pub fn next_run<'a>(runs: &mut Reader<'a>) -> Option<(u8, &'a [u8])> {
+    let tag = runs.byte()?;
+    let size = runs.count()?;
+    Some((tag, runs.take(size)?))
 }

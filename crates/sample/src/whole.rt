@@ -1,64 +1,30 @@
 // Whether a file has the stored form: every day and run as long as it says, every byte of a day's tables standing for something, no number a NaN.
 // What lies in a run isn't asked here: a run that doesn't have the form of its kind differs.
-use crate::layout::{Head, Tail, gap, head_of, tail_of};
-use sample_bytes::{behind, count_at, is_float, is_known, pair, part, word};
+use crate::layout::{DayBytes, day_bytes, next_day, next_run};
+use sample_bytes::Reader;
 
-// Whether every byte stands for something.
-pub fn are_known(table: &[u8], bytes: &[u8]) -> bool {
-    bytes.iter().all(|&byte| is_known(table, byte))
-}
-
-// Whether no word of a table is a NaN's.
-fn are_floats(table: &[u8]) -> bool {
-    (0..128).all(|number| is_float(word(table, number)))
-}
-
-// Where the runs end that begin at a position.
-fn runs_end(day: &[u8], runs: usize, count: usize) -> usize {
-    let mut at = runs;
-    for _ in 0..count {
-        let size = count_at(day, behind(day, at, 1));
-        at = behind(day, at, size + 2);
-    }
-    at
-}
-
-// Whether the counts of a day are those of the stored form.
-fn counts_fit(day: &[u8], head: Head, tail: Tail) -> bool {
-    if head.l == 0 || head.l > 64 {
-        return false;
-    }
-    if head.table_size > 1024 || count_at(day, head.times_said) > 1 {
-        return false;
-    }
-    tail.lists <= 16 && tail.visits_size <= 64
+// Whether the runs are as many as the day says, and nothing lies behind them.
+fn runs_are_whole(day: &DayBytes) -> bool {
+    let mut runs = day.runs;
+    (0..day.run_count).all(|_| next_run(&mut runs).is_some()) && runs.is_at_end()
 }
 
 // Whether a day has the stored form.
-fn day_is_whole(day: &[u8]) -> bool {
-    let head = head_of(day);
-    let tail = tail_of(day, head);
-    if !counts_fit(day, head, tail) {
+fn day_is_whole(bytes: &[u8]) -> bool {
+    let Some(day) = day_bytes(bytes) else {
         return false;
-    }
-    let table = part(day, 2, head.table_size);
-    let tables = part(day, head.flags, gap(head.flags, tail.runs_said));
-    if !are_floats(table) || !are_known(table, tables) {
-        return false;
-    }
-    runs_end(day, tail.runs, tail.run_count) == day.len()
+    };
+    let words = day.words;
+    words.are_floats()
+        && day.tables().iter().all(|table| words.are_known(table))
+        && runs_are_whole(&day)
 }
 
 // Whether a file has it.
-pub fn file_is_whole(data: &[u8]) -> bool {
-    let days = pair(data, 0);
-    let mut at = 2;
-    for _ in 0..days {
-        let size = pair(data, at);
-        if !day_is_whole(part(data, behind(data, at, 2), size)) {
-            return false;
-        }
-        at = behind(data, behind(data, at, 2), size);
-    }
-    at == data.len()
+pub fn file_is_whole(bytes: &[u8]) -> bool {
+    let mut file = Reader { rest: bytes };
+    let Some(day_count) = file.pair() else {
+        return false;
+    };
+    (0..day_count).all(|_| next_day(&mut file).is_some_and(day_is_whole)) && file.is_at_end()
 }

@@ -1,12 +1,11 @@
 -- A moved piece keeps the list's visits, so what a run asks of the list still holds. Assumes nothing.
 use mathlib.Core.Path.{◌≡◌, refl, ap, ◌∙◌}
 use mathlib.Core.List.{List}
-use Prim.Native.Nat.{ℕ, ◌-◌, ◌≤◌}
+use Prim.Native.Nat.{ℕ, ◌-◌}
 use native.Mathlib.Omega.{arith}
 use borrow.Author.Tests.{ltb-true, lt-ltb}
 use lib.Dec.{ltb}
-use lib.ListN.{length, take, get_or}
-use lib.Seq.{length-take-le}
+use lib.ListN.{length, get_or}
 use Rattle.labels.specs.Columns.{Columns, Visits}
 use Rattle.edits.specs.Edits.{put_before}
 use Rattle.edits.proofs.Kept.{same_put_before, same_each, same_length}
@@ -41,7 +40,3 @@ asked_moved c t xs p asked fits = record {
 -- a copy of the list whose piece was moved
 pub made_is : (xs copy after : List ℕ) (p : Piece) → copy ≡ xs → after ≡ put_before p.from p.size p.to copy → after ≡ put_before_lem xs p
 made_is xs copy after p e f = f ∙ ap (put_before p.from p.size p.to) e ∙ is_put xs p
-
--- the first k places of a buffer
-pub part_long : (k : ℕ) (xs : List ℕ) → k ≤ length xs → length (take (k - 0) xs) ≡ k
-part_long k xs h = length-take-le (k - 0) xs (omega arith) ∙ omega arith

@@ -1,19 +1,17 @@
 -- A piece at a new position of its list, as Or-opt states it: what stays the same over a run, and the choice among candidates. For src/. Assumes nothing.
-use Rattle.std.specs.Prelude.{◌≡◌, ◌⊎◌, true, List, [], map, ℕ, ◌+◌, ◌≤◌, ◌<◌, Float, Option, Some, None}
-use Rattle.std.proofs.Math.Option as maybe
-use Rattle.std.proofs.Math.Option.{none, some}
-use Rattle.std.specs.Float.Ieee.{neg, lt}
+use Rattle.std.specs.Prelude.{◌≡◌, ◌⊎◌, List, [], map, ℕ, ◌+◌, ◌≤◌, ◌<◌, Float}
+use Rattle.std.specs.Float.Ieee.{neg}
 use Rattle.numbers.specs.Operations.{zero64}
-use Rattle.numbers.specs.Floor.{counts}
 use Rattle.labels.specs.Columns.{Columns, Formed, Visits}
 use Rattle.evaluation.specs.Route.{checks_needed}
 use Rattle.descent.specs.Permitted.{Engine, or_opt, n_minus_length}
-use Rattle.descent.specs.Search.{Search, Judge, ok}
-use Rattle.descent.specs.Scan.{chosen}
+use Rattle.descent.specs.Search.{Search, Judge}
 use Rattle.descent.specs.Within.{Piece}
 use Rattle.descent.specs.Engines.{engine_search}
 use Rattle.deltas.specs.Judged.{Map, floor_of, delta_of, float_judge}
 use Rattle.engine.specs.Engine.{checks_of, map_of}
+use Rattle.engine.specs.Best as engine_best
+use Rattle.engine.specs.declared.best.Best.{Best}
 use Rattle.segments.specs.declared.Terms.{Terms}
 use Rattle.segments.specs.declared.Change.{Change}
 
@@ -55,12 +53,6 @@ pub record Fits (n : ℕ) (p : Piece) : Type 0 where
   pub there : p.to ≤ n
   pub apart : (p.to < p.from) ⊎ (p.from + p.size ≤ p.to)
 
--- ---- the choice of the first least, from the best so far on
-
--- among Or-opt's candidates
-abbrev pub choice : Columns → Terms → List ℕ → maybe.Option Piece → List Piece → maybe.Option Piece
-choice c t xs = chosen (ok (search_of c t) (judge_of c t) xs) (λ m best. lt (delta_at c t xs m) (delta_at c t xs best))
-
 -- the piece at a place goes to each of some positions
 abbrev pub to_each : ℕ → ℕ → List ℕ → List Piece
 to_each size from = map (λ to. record { size = size; from = from; to = to })
@@ -71,17 +63,18 @@ to_each size from = map (λ to. record { size = size; from = from; to = to })
 abbrev pub placed : Change → Piece
 placed m = record { size = m.size; from = m.from; to = m.to }
 
--- the best so far as the definition has it
-unfoldable pub piece_of : Option Change → maybe.Option Piece
-piece_of None = none
-piece_of (Some m) = some (placed m)
+-- what the first gain has to be below
+abbrev pub bound_of : Columns → Terms → Float
+bound_of c t = neg (floor_of (road_map c t))
 
--- what a delta has to be below: minus the floor, and then the best delta
-unfoldable pub bar_of : Float → Option Change → Float
-bar_of floor None = neg floor
-bar_of floor (Some m) = m.delta
+-- the best so far has the delta of its piece, and counts
+abbrev pub Known : Columns → Terms → List ℕ → Best Change → Type 0
+Known c t xs = engine_best.Known placed (delta_at c t xs) ((search_of c t).passes xs) (bound_of c t)
 
--- a best so far has the delta of its piece, and counts
-unfoldable pub Known : Columns → Terms → List ℕ → Option Change → Type 0
-Known c t xs None = Unit {0}
-Known c t xs (Some m) = (m.delta ≡ delta_at c t xs (placed m)) × (counts m.delta (floor_of (road_map c t)) ≡ true)
+-- the best after some candidates more
+abbrev pub Among : Columns → Terms → List ℕ → Best Change → List Piece → Best Change → Type 0
+Among c t xs = engine_best.Among placed (delta_at c t xs) ((search_of c t).passes xs) (bound_of c t)
+
+-- what the rest comes to from the best so far is what all come to from the start
+abbrev pub Onto : Columns → Terms → List ℕ → Best Change → List Piece → Best Change → List Piece → Type 0
+Onto c t xs = engine_best.Onto placed (delta_at c t xs) ((search_of c t).passes xs) (bound_of c t)

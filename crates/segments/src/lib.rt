@@ -9,13 +9,14 @@ ghost use Rattle.evaluation.specs.Route.{feasible};
 ghost use Rattle.descent.specs.Within.{put_before_lem};
 ghost use Rattle.deltas.specs.Deltas.{removal_gain};
 ghost use Rattle.engine.specs.Engine.{passing};
-ghost use Rattle.segments.specs.Segments.{Asked, Fits, choice, to_each, piece_of, bar_of, Known};
+ghost use Rattle.segments.specs.Segments.{Asked, Fits, to_each, Known, Among};
 ghost use Rattle.labels.specs.Lent.{lent};
 
 use buffers::append;
 use day::vehicle::RouteLimits;
 use deltas_within::piece_insertion;
 use edits::move_piece;
+use engine::best::Best;
 use evaluation::route::route_feasible;
 use labels::columns::Columns;
 
@@ -38,23 +39,12 @@ pub struct Segment {
     pub gain: f64,
 }
 
-// A piece and its new position, with the change in distance.
+// A piece and its new position.
 #[derive(Clone, Copy)]
 pub struct Change {
     pub size: usize,
     pub from: usize,
     pub to: usize,
-    pub delta: f64,
-}
-
-// What a delta has to be below.
-fn bar(floor: f64, best: Option<Change>) -> f64
-    ensures { result ≡ bar_of floor best }
-{
-    match best {
-        None => -floor,
-        Some(change) => change.delta,
-    }
 }
 
 // Whether the list with the piece moved passes: it is built in a buffer of the list's length.
@@ -108,39 +98,26 @@ pub fn consider(
     list: &[u16],
     piece: Segment,
     to: usize,
-    best: Option<Change>,
-) -> Option<Change>
+    best: Best<Change>,
+) -> Best<Change>
     requires asked { Asked (lent columns.now) terms list.now }
     requires fits { Fits (length list.now) (record { size = piece.size; from = piece.from; to = to }) }
     requires gain_value { piece.gain ≡ removal_gain (leg_in (lent columns.now)) terms.depot list.now piece.size piece.from }
     requires known { Known (lent columns.now) terms list.now best }
-    ensures { let c = lent columns.now in
-        (piece_of result ≡ choice c terms list.now (piece_of best) (to_each piece.size piece.from (to ∷ [])))
-        × Known c terms list.now result }
+    ensures { Among (lent columns.now) terms list.now best (to_each piece.size piece.from (to ∷ [])) result }
 {
     let size = piece.size;
     let from = piece.from;
-    let cost = piece_insertion(
-        columns.locations,
-        columns.distances,
-        terms.depot,
-        list,
-        size,
-        from,
-        to,
-    );
+    let cost = piece_insertion(&columns.matrix(), terms.depot, list, size, from, to);
     let delta = cost - piece.gain;
-    let most = bar(terms.floor, best);
-    if !(delta < most) {
+    if !(delta < best.bound) {
         return best;
     }
     if !moved_passes(columns, terms, list, size, from, to) {
         return best;
     }
-    Some(Change {
-        size,
-        from,
-        to,
-        delta,
-    })
+    Best {
+        bound: delta,
+        found: Some(Change { size, from, to }),
+    }
 }

@@ -22,11 +22,9 @@ use Rattle.descent.proofs.Kept.{permitted_keeps}
 use Rattle.descent.proofs.Demand3.{faithful}
 use Rattle.descent.proofs.Runs.{ran, chain_map, chain_keeps}
 use Rattle.descent.proofs.Sweeps.{next-some}
-use Rattle.neighbours.specs.Neighbours.{Neighbour, reversal, relocation, reconnection, ways, to_the_end, neighbours, made}
+use Rattle.neighbours.specs.Neighbours.{Neighbourhood, Reverse, Relocate, Reconnect, Neighbour, reversal, relocation, reconnection, ways, to_the_end, neighbours, made}
 use Rattle.soft_neighbours.specs.SoftSearch.{soft_search, soft_judge}
 use Rattle.soft.specs.Soft.{soft_run}
-use Rattle.neighbours.specs.declared.Neighbourhood.{Neighbourhood}
-use Rattle.neighbours.specs.declared.Neighbourhood.TheVariants.{Reverse, Relocate, Reconnect}
 
 -- everything passes
 abbrev free : Checks

@@ -1,1 +1,2 @@
 pub mod Soft
+pub mod Pass

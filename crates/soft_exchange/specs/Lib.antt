@@ -1,1 +1,2 @@
 pub mod SoftExchange
+pub mod Rules

@@ -1,64 +1,122 @@
--- A pass over the places goes through the whole enumeration, and its choice is the definition's. Assumes nothing.
-use mathlib.Core.Path.{◌≡◌, refl, sym, ap, ◌∙◌}
-use mathlib.Core.Option.{none}
-use mathlib.Core.List.{List}
-use Prim.Native.Nat.{ℕ, suc, ◌<◌}
+-- A pass over the places goes through the whole enumeration, and its choice is the definition's: a scan (engine's proofs/Choosing.antt) in which every
+-- neighbour passes. Assumes nothing.
+use mathlib.Core.Path.{◌≡◌, refl}
+use mathlib.Core.Bool.{Bool, true, false, cond}
+use mathlib.Core.List.{List, [], ◌∷◌}
+use Prim.Native.Nat.{ℕ, ◌<◌}
 use native.Mathlib.Omega.{arith}
 use lib.ListN.{length}
-use lib.Ieee.{Float}
+use lib.Ieee.{Float, lt}
 use Rattle.std.specs.Prelude.{Option, Some, None}
 use Rattle.numbers.specs.Operations.{◌⊖◌}
-use Rattle.descent.specs.Search.{taken}
-use Rattle.neighbours.specs.Neighbours.{Neighbour, neighbours, made}
+use Rattle.descent.specs.Search.{ok, taken}
+use Rattle.descent.specs.Scan.{chosen, onward, figure}
+use Rattle.engine.specs.Best as engine_best
+use Rattle.engine.specs.Best.{better, found_as, Onto, Among}
+use Rattle.engine.specs.declared.best.Best.{Best}
+use Rattle.engine.proofs.Choosing.{known_nothing, among_above, among_taken, onto_starts, onto_turns, onto_ends}
+use Rattle.neighbours.specs.Neighbours.{Neighbourhood, Neighbour, neighbours, made}
+use Rattle.neighbours.specs.Places.{Place, meant, Inside, InsideAny, placed, rest, Follows}
 use Rattle.soft_neighbours.specs.SoftSearch.{soft_search, soft_judge}
-use Rattle.neighbours.specs.Places.{meant, Inside, InsideAny, rest, Follows}
-use Rattle.soft_neighbours.specs.Chosen.{chosen, better, Known}
-use Rattle.soft_neighbours.proofs.Choice.{pick, pick-taken, pick_turn, known_none, known_turn}
-use Rattle.neighbours.specs.declared.Neighbourhood.{Neighbourhood}
-use Rattle.neighbours.specs.declared.Place.{Place}
-use Rattle.soft_neighbours.specs.declared.Best.{Best}
+use Rattle.soft_neighbours.specs.Chosen as soft
+use Rattle.soft_neighbours.specs.Chosen.{Known}
 
--- what the rest of the scan chooses is what the whole chooses; the best so far is priced, and the scan stands at a place
-pub record Scanning (cost : Neighbour → Float) (n : ℕ) (best₀ : Best) (here₀ : Option Place) (best : Best) (here : Option Place) : Type 0 where
-  pub same : pick cost best.bound (chosen best.found) (rest n here) ≡ pick cost best₀.bound (chosen best₀.found) (rest n here₀)
-  pub known : Known cost n best
-  pub inside : InsideAny n here
+-- every neighbour passes
+abbrev all : Neighbour → Bool
+all m = true
 
-pub scan_starts : (cost : Neighbour → Float) (n : ℕ) (bound : Float) (here : Option Place) → InsideAny n here
-    → Scanning cost n (record { bound = bound; found = None }) here (record { bound = bound; found = None }) here
-scan_starts cost n bound here inside = record { same = refl; known = known_none cost n bound; inside = inside }
+module _ {P : Type 0} (place : P → Place) (n : ℕ) where
+  -- where a scan stands is a place
+  pub inside_at : (here : Option P) (at : P) → here ≡ Some at → InsideAny n (placed place here) → Inside n (place at)
+  unfolding InsideAny
+  inside_at here at e inside = rw e at inside
 
-pub inside_at : (n : ℕ) (here : Option Place) (place : Place) → here ≡ Some place → InsideAny n here → Inside n place
-unfolding InsideAny
-inside_at n here place e inside = rw e at inside
+  -- the neighbours ahead get fewer
+  pub fewer : (here : Option P) (at : P) (then : Option P) → here ≡ Some at → Follows n (place at) (placed place then)
+      → length (rest n (placed place then)) < length (rest n (placed place here))
+  unfolding rest
+  fewer here at then is f = rw (is, f.same) (omega arith)
 
-pub scan_turns : (cost : Neighbour → Float) (n : ℕ) (best₀ : Best) (here₀ : Option Place) (best : Best) (here : Option Place) (place : Place) (price : Float)
-    (new : Best) (then : Option Place) → Scanning cost n best₀ here₀ best here → here ≡ Some place → price ≡ cost (meant place)
-    → new ≡ better best price place → Follows n place then
-    → Scanning cost n best₀ here₀ new then
-unfolding rest
-scan_turns cost n best₀ here₀ best here place price new then s at e b f = rw b record {
-  same = pick_turn cost best place price (rest n then) e ∙ ap (pick cost best.bound (chosen best.found)) (sym f.same)
-      ∙ ap (λ (h : Option Place). pick cost best.bound (chosen best.found) (rest n h)) (sym at) ∙ s.same;
-  known = known_turn cost n best place price e (inside_at n here place at s.inside) s.known;
-  inside = f.inside;
-}
+module _ {P : Type 0} (place : P → Place) (cost : Neighbour → Float) (bound : Float) (n : ℕ) where
+  abbrev neighbour : P → Neighbour
+  neighbour at = meant (place at)
 
-pub fewer : (n : ℕ) (here : Option Place) (place : Place) (then : Option Place) → here ≡ Some place → Follows n place then
-    → length (rest n then) < length (rest n here)
-unfolding rest
-fewer n here place then at f =
-    let one : length (rest n here) ≡ suc (length (rest n then)) = ap (λ (h : Option Place). length (rest n h)) at ∙ ap length f.same in
-    omega arith
+  -- nothing found so far
+  abbrev nothing : Best P
+  nothing = record { bound = bound; found = None }
 
-pub scan_ends : (which : Neighbourhood) (price : List ℕ → Float) (cost floor : Float) (xs : List ℕ) (here₀ : Option Place) (best : Best) (here : Option Place)
-    → cost ≡ price xs → rest (length xs) here₀ ≡ neighbours which (length xs)
-    → Scanning (λ m. price (made xs m)) (length xs) (record { bound = cost ⊖ floor; found = None }) here₀ best here → here ≡ None
-    → (chosen best.found ≡ taken (soft_search which) (soft_judge price floor) xs tt) × Known (λ m. price (made xs m)) (length xs) best
-unfolding rest pick chosen
-scan_ends which price cost floor xs here₀ best here e all s end =
-    let priced : Neighbour → Float = λ m. price (made xs m) in
-    let last : chosen best.found ≡ pick priced best.bound (chosen best.found) (rest (length xs) here) = rw end refl in
-    let whole : pick priced (cost ⊖ floor) none (rest (length xs) here₀) ≡ pick priced (price xs ⊖ floor) none (neighbours which (length xs)) =
-    rw (e, all) refl in
-    (last ∙ s.same ∙ whole ∙ pick-taken which price floor xs, s.known)
+  -- what the rest of the scan comes to is what the whole does; the best so far is a place, and the scan stands at one
+  pub record Scanning (here₀ : Option P) (best : Best P) (here : Option P) : Type 0 where
+    pub onto : Onto neighbour cost all bound nothing (rest n (placed place here₀)) best (rest n (placed place here))
+    pub found : InsideAny n (placed place best.found)
+    pub inside : InsideAny n (placed place here)
+
+  pub scan_starts : (best : Best P) (here : Option P) → best ≡ nothing → InsideAny n (placed place here) → Scanning here best here
+  unfolding InsideAny
+  scan_starts best here e inside = rw e (record { onto = onto_starts neighbour cost all bound nothing _ (known_nothing neighbour cost all bound); found = tt; inside = inside })
+
+  -- one neighbour more
+  one_more : (best : Best P) (at : P) (price : Float) → engine_best.Known neighbour cost all bound best → price ≡ cost (neighbour at)
+      → Among neighbour cost all bound best (neighbour at ∷ []) (better best price at)
+  unfolding better
+  one_more best at price known e = go (lt price best.bound) refl
+    where
+      go : (b : Bool) → lt price best.bound ≡ b → Among neighbour cost all bound best (neighbour at ∷ []) (cond b (record { bound = price; found = Some at }) best)
+      go true f = among_taken neighbour cost all bound best at price known e f refl
+      go false f = among_above neighbour cost all bound best at price known e f
+
+  still_found : (best : Best P) (at : P) (price : Float) → InsideAny n (placed place best.found) → Inside n (place at)
+      → InsideAny n (placed place (better best price at).found)
+  unfolding better InsideAny
+  still_found best at price found inside = go (lt price best.bound)
+    where
+      go : (b : Bool) → InsideAny n (placed place (cond b (record { bound = price; found = Some at }) best).found)
+      go true = inside
+      go false = found
+
+  module _ (here₀ : Option P) (best : Best P) (here : Option P) (s : Scanning here₀ best here) where
+    pub scan_turns : (at : P) (price : Float) (new : Best P) (then : Option P) → here ≡ Some at → price ≡ cost (neighbour at) → new ≡ better best price at
+        → Follows n (place at) (placed place then) → Scanning here₀ new then
+    unfolding rest
+    scan_turns at price new then is e b f =
+        rw b (record {
+          onto = onto_turns neighbour cost all bound nothing (rest n (placed place here₀)) best (better best price at) (neighbour at ∷ []) (rest n (placed place then))
+              (rw (is, f.same) at s.onto) (one_more best at price s.onto.known e);
+          found = still_found best at price s.found (inside_at place n here at is s.inside);
+          inside = f.inside;
+        })
+
+    pub scan_over : here ≡ None → Among neighbour cost all bound nothing (rest n (placed place here₀)) best
+    unfolding rest
+    scan_over is = onto_ends neighbour cost all bound nothing (rest n (placed place here₀)) best (rw is at s.onto)
+
+-- what a pass comes to is what the definition takes
+module _ {P : Type 0} (place : P → Place) (which : Neighbourhood) (price : List ℕ → Float) (floor : Float) (xs : List ℕ) where
+  abbrev cost_of : Neighbour → Float
+  cost_of m = price (made xs m)
+
+  known_of : (best : Best P) → engine_best.Known (λ at. meant (place at)) cost_of all (price xs ⊖ floor) best → InsideAny (length xs) (placed place best.found)
+      → Known place cost_of (length xs) best
+  unfolding Known InsideAny found_as figure
+  known_of best known inside = go best.found known.figured inside
+    where
+      go : (found : Option P) → best.bound ≡ figure cost_of all (price xs ⊖ floor) (found_as (λ at. meant (place at)) found) → InsideAny (length xs) (placed place found)
+          → Known place cost_of (length xs) (record { bound = best.bound; found = found })
+      go None e inside = tt
+      go (Some at) e inside = (inside, e)
+
+  pub scan_ends : (cost : Float) (here₀ : Option P) (best : Best P) (here : Option P) → cost ≡ price xs
+      → rest (length xs) (placed place here₀) ≡ neighbours which (length xs)
+      → Scanning place cost_of (cost ⊖ floor) (length xs) here₀ best here → here ≡ None
+      → (soft.chosen place best.found ≡ taken (soft_search which) (soft_judge price floor) xs tt) × Known place cost_of (length xs) best
+  unfolding taken ok onward chosen found_as
+  scan_ends cost here₀ best here e whole s is =
+      let among = scan_over place cost_of (cost ⊖ floor) (length xs) here₀ best here s is in
+      let all_of = rw (e, whole) at among in
+      (all_of.chosen, known_of best all_of.known s.found)
+
+-- the one chosen is a place, and its cost is known
+pub known_at : {P : Type 0} (place : P → Place) (cost : Neighbour → Float) (n : ℕ) (best : Best P) (at : P) → Known place cost n best → best.found ≡ Some at
+    → Inside n (place at) × (best.bound ≡ cost (meant (place at)))
+unfolding Known
+known_at place cost n best at known e = rw e at known

@@ -4,8 +4,7 @@ use Rattle.std.specs.Prelude.{ℕ, true, List, [], ◌∷◌, length, Float}
 use Rattle.std.specs.Float.Ieee.{lt}
 use Rattle.numbers.specs.Floor.{counts_soft}
 use Rattle.descent.specs.Search.{begins_again, Search, Judge}
-use Rattle.neighbours.specs.declared.Neighbourhood.{Neighbourhood}
-use Rattle.neighbours.specs.Neighbours.{Neighbour, neighbours, made}
+use Rattle.neighbours.specs.Neighbours.{Neighbourhood, Neighbour, neighbours, made}
 
 -- one place, whose candidates are all neighbours; each may be taken, for one that fails costs infinity
 abbrev pub soft_search : Neighbourhood → Search (List ℕ) Unit Neighbour

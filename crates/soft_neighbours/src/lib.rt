@@ -3,6 +3,7 @@
 //
 // The Rust's closure over all neighbours is a loop over places here, each a layout of the list (neighbours) in one lent buffer. A
 // neighbour keeps the list's first visits: their head is driven once for all that share it. The best so far is kept by its numbers alone.
+// Each neighbourhood has a loop of its own.
 
 #![tactic(auto)]
 
@@ -15,37 +16,15 @@ ghost use Rattle.descent.specs.Search.{taken};
 ghost use Rattle.neighbours.specs.Neighbours.{made};
 ghost use Rattle.neighbours.specs.Places.{meant, Inside};
 ghost use Rattle.soft_neighbours.specs.SoftSearch.{soft_search, soft_judge};
-ghost use Rattle.soft_neighbours.specs.Chosen.{chosen, better, Known};
+ghost use Rattle.soft_neighbours.specs.Chosen.{chosen, Known};
 
 use day::vehicle::RouteLimits;
+use engine::best::Best;
 use head_prices::price_from;
 use heads::{Head, at_depot, reach};
 use labels::columns::Columns;
 use layouts::lay_out;
-use neighbours::layout::layout_of;
-use neighbours::{Neighbourhood, Place, after, first_place};
-
-// The best neighbour so far, and the cost that a better one must be below.
-#[derive(Clone, Copy)]
-pub struct Best {
-    pub bound: f64,
-    pub found: Option<Place>,
-}
-
-impl Best {
-    // Of equal costs the first stays.
-    fn or(self, price: f64, place: Place) -> Best
-        ensures { result ≡ better self price place }
-    {
-        if price < self.bound {
-            return Best {
-                bound: price,
-                found: Some(place),
-            };
-        }
-        self
-    }
-}
+use neighbours::Neighbourhood;
 
 // The price of a neighbour, and the head of the list that it shares.
 #[derive(Clone, Copy)]
@@ -55,68 +34,60 @@ pub struct Priced {
 }
 
 // What the neighbour at a place costs, priced from the end of the head that it shares with the list.
-fn price_of(
+fn price_of<N: Neighbourhood>(
     columns: &Columns,
     limits: RouteLimits,
     depot: usize,
     list: &[u16],
     buffer: &mut [u16],
     last: Head,
-    place: Place,
+    at: N::Place,
 ) -> Priced
     requires depot_lt_l { (depot < columns.now.locations) × Visits columns.now.locations list.now }
-    requires list_in_bounds { (length list.now ≤ length buffer.old) × Inside (length list.now) place }
+    requires list_in_bounds { (length list.now ≤ length buffer.old) × Inside (length list.now) (N.place at) }
     requires driven { Driven (lent columns.now) limits.rest depot list.now last }
     ensures { let c = lent columns.now in
-        (result.price ≡ effective_cost c limits depot (made list.now (meant place)))
+        (result.price ≡ effective_cost c limits depot (made list.now (meant (N.place at))))
         × Driven c limits.rest depot list.now result.head }
 {
     let n = list.len();
-    let p = layout_of(n, place);
+    let p = N::layout(n, at);
     let rest = limits.rest;
     let head = reach(columns, rest, depot, list, last, p.b);
     let from = head.visits;
     lay_out(buffer, list, p, from);
     let count = n - from;
     let price = price_from(columns, limits, depot, head, &buffer[0..count]);
-    Priced {
-        price: price,
-        head: head,
-    }
+    Priced { price, head }
 }
 
 // One pass: the first least of the neighbours that beat the list's cost by more than the floor.
-pub fn best_neighbour(
+pub fn best_neighbour<N: Neighbourhood>(
     columns: &Columns,
     limits: RouteLimits,
     depot: usize,
-    which: Neighbourhood,
     list: &[u16],
     buffer: &mut [u16],
     cost: f64,
     floor: f64,
-) -> Best
+) -> Best<N::Place>
     requires depot_lt_l { (depot < columns.now.locations) × Visits columns.now.locations list.now }
     requires list_in_bounds { length list.now ≤ length buffer.old }
     requires cost_value { cost ≡ effective_cost (lent columns.now) limits depot list.now }
     ensures { let price = effective_cost (lent columns.now) limits depot in
         let xs = list.now in
-        (chosen result.found ≡ taken (soft_search which) (soft_judge price floor) xs tt) × Known (λ m. price (made xs m)) (length xs) result }
+        (chosen N.place result.found ≡ taken (soft_search N.which) (soft_judge price floor) xs tt)
+        × Known N.place (λ m. price (made xs m)) (length xs) result }
 {
     let n = list.len();
-    let mut best = Best {
-        bound: cost - floor,
-        found: None,
-    };
+    let mut best = Best::below(cost - floor);
     let mut head = at_depot(depot);
-    let mut here = first_place(which, n);
-    loop {
-        let Some(place) = here else {
-            return best;
-        };
-        let priced = price_of(columns, limits, depot, list, buffer, head, place);
+    let mut here = N::first(n);
+    while let Some(at) = here {
+        let priced = price_of::<N>(columns, limits, depot, list, buffer, head, at);
         head = priced.head;
-        best = best.or(priced.price, place);
-        here = after(n, place);
+        best = best.or(priced.price, at);
+        here = N::after(n, at);
     }
+    best
 }

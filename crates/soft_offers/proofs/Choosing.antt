@@ -3,40 +3,39 @@
 use mathlib.Core.Path.{◌≡◌, refl, sym, ap, ◌∙◌}
 use mathlib.Core.Logic.{◌≢◌}
 use mathlib.Core.Bool.{Bool, true, false, cond, ◌&&◌}
-use mathlib.Core.Option.{Option, none, some}
-use mathlib.Core.List.{List, [], ◌∷◌, ◌++◌, map}
-use Prim.Native.Nat.{ℕ, zero, suc, ◌+◌, ◌-◌}
-use native.Mathlib.Nat.{sub-zero}
-use lib.Dec.{leb}
+use mathlib.Core.List.{List, [], ◌∷◌, map}
+use Prim.Native.Nat.{ℕ, suc, ◌+◌, ◌-◌}
+use lib.Dec.{leb, eqb}
 use lib.IntN.{ℤ}
 use lib.ListN.{length, get_or}
-use lib.Ieee.{Float, lt}
+use lib.Ieee.{Float}
+use Rattle.numbers.specs.Operations.{◌⊕◌, ◌⊖◌}
+use Rattle.deltas.specs.Changes.{fixed_if}
 use lib.Ieee.Scale.{finite}
 use Rattle.tests.specs.All.{and_right}
 use Rattle.edits.specs.Total.{total}
-use Rattle.lists.specs.Table.{sum, lists, list_of}
-use Rattle.lists.proofs.Tables.{at_lists, length_list}
+use Rattle.lists.specs.Table.{lists, list_of}
+use Rattle.lists.proofs.Tables.{at_lists}
 use Rattle.labels.specs.Columns.{Columns}
-use Rattle.descent.specs.Order.{◌∈◌, from_on, range, each}
+use Rattle.descent.specs.Order.{◌∈◌, range}
 use Rattle.descent.specs.Permitted.{room}
 use Rattle.descent.specs.Across.{at, Relocation}
 use Rattle.descent.proofs.Members.{map_in, each_in, and_parts}
-use Rattle.descent.specs.Scan.{figure, Counted}
 use Rattle.pairs.specs.Pairs.{across, move_of, nothing, IsBest}
 use Rattle.pairs.specs.declared.Choice.{Choice}
 use Rattle.pairs.proofs.Taken.{best-across, best_refused}
-use Rattle.descent.proofs.Scanning.{onward_better, counted_better, onward_stays, onward_end, onward_append, onward-none}
 use Rattle.loads.specs.Loads.{boxes_of, measure_of}
 use Rattle.edits.specs.Edits.{inserted}
 use Rattle.soft_places.specs.Prices.{receiving_delta, soft_delta, priced}
-use Rattle.soft_places.specs.Places.{price_of, taken_at, offer_delta, better, best_among}
+use Rattle.soft_places.specs.Places.{price_of, best_among}
 use Rattle.soft_places.specs.declared.Setup.{Setup}
-use Rattle.soft_places.specs.declared.Offer.{Offer}
+use Rattle.relocations.specs.declared.offer.Offer.{Offer}
 use Rattle.edits.proofs.Kept.{total-inserted}
 use Rattle.soft_visit_offers.specs.Offer.{Known, offer_of, may_go, best_offer}
 use Rattle.soft_visit_offers.specs.declared.Pair.{Pair}
-use Rattle.soft_offers.specs.Offers.{search_of, judge_of, bound, into_list}
-use Rattle.soft_offers.specs.Offers.{best_offers, pair_of, best_priced, scan, Best, Scanned}
+use Rattle.soft_offers.specs.Offers.{search_of, judge_of, bound, terms_of, best_offers, pair_of, best_priced}
+use Rattle.relocations.specs.Offers.{better, best_after}
+use Rattle.relocations.proofs.Scanning.{into_list, Best, Scanned, none_yet, scanned-refused, scanned_places, scanned_visits}
 
 module _ (c : Columns) (demand : List ℤ) (s : Setup) (visits lengths : List ℕ) where
   abbrev ls : List (List ℕ)
@@ -50,20 +49,6 @@ module _ (c : Columns) (demand : List ℤ) (s : Setup) (visits lengths : List �
   pass_of = (search_of c demand s).passes (lists visits lengths)
 
   -- ---- a pair of lists
-
-  none-best : Best c demand s visits lengths (nothing (bound s))
-  unfolding move_of figure Counted
-  none-best = record { figured = refl; counted = tt }
-
-  -- an empty list has none
-  pub pair_empty : (add-up : sum lengths ≡ length visits) (from to n : ℕ) → n ≡ get_or lengths from 0 → n ≡ 0 → from ≢ to
-      → IsBest delta_of pass_of (bound s) ls from to (nothing (bound s))
-  unfolding move_of figure
-  pair_empty add-up from to n e empty apart =
-      let short : length (at ls from) ≡ 0 = rw (at_lists visits lengths from) (length_list visits lengths add-up from ∙ sym e ∙ empty) in
-      let none-there : across ls from to ≡ [] = rw short in
-      best-across delta_of pass_of (bound s) ls from to (nothing (bound s)) apart
-      (sym (onward_end delta_of pass_of (bound s) none) ∙ ap (scan c demand s visits lengths none) (sym none-there)) refl
 
   -- a list that has no price
   unpriced : (X Y : List ℕ) (position : ℕ) → (finite (price_of c s X) && finite (price_of c s Y)) ≡ false → priced (price_of c s) s.fixed X Y position ≡ false
@@ -90,30 +75,6 @@ module _ (c : Columns) (demand : List ℤ) (s : Setup) (visits lengths : List �
           ap (λ (m : Relocation). pass_of m) (sym one.2) ∙ no_price_at from to row.0 one.0 e
 
   -- ---- an offer to a list
-
-  -- some candidates, and some more
-  scanned_on : (cs ds : List Relocation) (best next last : Choice) → Scanned c demand s visits lengths cs best next
-      → Scanned c demand s visits lengths ds next last → Scanned c demand s visits lengths (cs ++ ds) best last
-  scanned_on cs ds best next last one more = record {
-    scanned = more.scanned ∙ ap (λ (o : Option Relocation). scan c demand s visits lengths o ds) one.scanned
-        ∙ onward_append _ _ _ (move_of best) cs ds;
-    still = more.still;
-  }
-
-  -- a candidate that is better is the best now
-  taken-there : (from position to place : ℕ) (delta : Float) (best : Choice) → Counted delta_of pass_of (bound s) (move_of best)
-      → (lt (delta_of (record { from = from; position = position; to = to; place = place })) (figure delta_of pass_of (bound s) (move_of best))
-      && pass_of (record { from = from; position = position; to = to; place = place })) ≡ true
-      → delta ≡ delta_of (record { from = from; position = position; to = to; place = place })
-      → Scanned c demand s visits lengths (record { from = from; position = position; to = to; place = place } ∷ []) best
-      (record { found = 1; from = from; position = position; to = to; place = place; delta = delta })
-  unfolding move_of figure
-  taken-there from position to place delta best counted tested is-delta =
-      let m : Relocation = record { from = from; position = position; to = to; place = place } in
-      record {
-        scanned = sym (onward_better _ _ _ (move_of best) m [] counted tested ∙ onward_end _ _ _ (some m));
-        still = record { figured = is-delta; counted = counted_better _ _ _ (move_of best) m counted tested };
-      }
 
   module _ (pair : Pair) where
     abbrev X : List ℕ
@@ -160,80 +121,35 @@ module _ (c : Columns) (demand : List ℤ) (s : Setup) (visits lengths : List �
             alone true b = refl
             alone false b = refl
 
-        none_passes : (best : Choice) → Best c demand s visits lengths best → may_go c demand s X Y pair position ≡ false
-            → Scanned c demand s visits lengths (into_list ls pair.from pair.to position) best best
-        unfolding into_list
-        none_passes best b e = record {
-          scanned = sym (onward-none _ _ _ (move_of best) _ (λ m i.
-              let p = map_in move (range 0 (suc (length (at ls pair.to)))) m i in
-              ap (λ (m : Relocation). pass_of m) (sym p.2) ∙ passes_is p.0 ∙ e));
-          still = b;
-        }
-
-        delta_is : (place : ℕ) → offer_delta offer (price_of c s (inserted Y visit place)) ≡ delta_of (move place)
-        unfolding offer_delta judge_of soft_delta receiving_delta
+        delta_is : (place : ℕ) → offer.removal ⊕ (price_of c s (inserted Y visit place) ⊖ pair.old_to ⊕ fixed_if (eqb (length Y) 0) s.fixed) ≡ delta_of (move place)
+        unfolding judge_of soft_delta receiving_delta
         delta_is place = rw (at_lists visits lengths pair.from, at_lists visits lengths pair.to, known.price_to)
 
-        module _ (may : may_go c demand s X Y pair position ≡ true) where
-          one_place : (place : ℕ) (best : Choice) → Best c demand s visits lengths best
-              → Scanned c demand s visits lengths (move place ∷ []) best (better offer (price_of c s (inserted Y visit place)) best place)
-          unfolding better
-          one_place place best b = go (lt (offer_delta offer (price_of c s (inserted Y visit place))) best.delta) refl
-            where
-              alone : (a b : Bool) → b ≡ true → (a && b) ≡ a
-              alone true b e = e
-              alone false b e = refl
-
-              tested : (lt (delta_of (move place)) (figure delta_of pass_of (bound s) (move_of best)) && pass_of (move place))
-                  ≡ lt (offer_delta offer (price_of c s (inserted Y visit place))) best.delta
-              tested = rw (← b.figured, ← delta_is place) (alone _ _ (passes_is place ∙ may))
-
-              go : (t : Bool) → lt (offer_delta offer (price_of c s (inserted Y visit place))) best.delta ≡ t
-                  → Scanned c demand s visits lengths (move place ∷ []) best
-                  (cond t (taken_at offer place (offer_delta offer (price_of c s (inserted Y visit place)))) best)
-              go true e = taken-there pair.from position pair.to place _ best b.counted (tested ∙ e) (delta_is place)
-              go false e = record {
-                scanned = sym (onward_stays _ _ _ (move_of best) (move place) [] (tested ∙ e) ∙ onward_end _ _ _ (move_of best));
-                still = b;
-              }
-
-          all_places : (a n : ℕ) (best : Choice) → Best c demand s visits lengths best
-              → Scanned c demand s visits lengths (map move (from_on a n)) best (best_among (price_of c s) Y offer (from_on a n) best)
-          unfolding best_among
-          all_places a zero best b = record { scanned = sym (onward_end _ _ _ (move_of best)); still = b }
-          all_places a (suc n) best b =
-              let one = one_place a best b in
-              scanned_on (move a ∷ []) (map move (from_on (suc a) n)) best _ _ one (all_places (suc a) n _ one.still)
-
         -- an offer at all places
-        offered : (best : Choice) → Best c demand s visits lengths best
-            → Scanned c demand s visits lengths (into_list ls pair.from pair.to position) best (best_offer c demand s X Y pair position best)
-        unfolding into_list best_offer
+        offered : (best : Choice) → Best (terms_of c demand s) (lists visits lengths) best
+            → Scanned (terms_of c demand s) (lists visits lengths) (into_list ls pair.from position pair.to) best (best_offer c demand s X Y pair position best)
+        unfolding best_offer best_among
         offered best b = go (may_go c demand s X Y pair position) refl
           where
+            step : Choice → ℕ → Choice
+            step best place = better offer (price_of c s (inserted Y visit place) ⊖ pair.old_to ⊕ fixed_if (eqb (length Y) 0) s.fixed) true best place
+
             go : (t : Bool) → may_go c demand s X Y pair position ≡ t
-                → Scanned c demand s visits lengths (into_list ls pair.from pair.to position) best
-                (cond t (best_among (price_of c s) Y offer (range 0 (suc (length Y))) best) best)
-            go true e = rw (at_lists visits lengths pair.to, sub-zero (suc (length Y))) (all_places e 0 (suc (length Y)) best b)
-            go false e = none_passes best b e
+                → Scanned (terms_of c demand s) (lists visits lengths) (into_list ls pair.from position pair.to) best
+                (cond t (best_after step (range 0 (suc (length Y))) best) best)
+            go true e =
+                rw (at_lists visits lengths pair.to) at
+                (scanned_places (terms_of c demand s) (lists visits lengths) offer (λ place. price_of c s (inserted Y visit place) ⊖ pair.old_to ⊕ fixed_if (eqb (length Y) 0) s.fixed)
+                (λ place. true) delta_is (λ place. sym (passes_is place ∙ e)) best b)
+            go false e = scanned-refused (terms_of c demand s) (lists visits lengths) pair.from position pair.to best b (λ place. passes_is place ∙ e)
 
-      -- the offers of all visits
-      all_offers : (a n : ℕ) (best : Choice) → Best c demand s visits lengths best
-          → Scanned c demand s visits lengths (each (from_on a n) (into_list ls pair.from pair.to)) best
-          (best_offers c demand s X Y pair (from_on a n) best)
-      unfolding best_offers
-      all_offers a zero best b = record { scanned = sym (onward_end _ _ _ (move_of best)); still = b }
-      all_offers a (suc n) best b =
-          let one = offered a best b in
-          scanned_on (into_list ls pair.from pair.to a) (each (from_on (suc a) n) (into_list ls pair.from pair.to)) best _ _ one
-          (all_offers (suc a) n _ one.still)
-
-      -- from nothing on, they come to the best of the pair
+      -- from nothing on, the offers of all visits come to the best of the pair
       offers_best : pair.from ≢ pair.to → IsBest delta_of pass_of (bound s) ls pair.from pair.to
           (best_offers c demand s X Y pair (range 0 (length X)) (nothing (bound s)))
-      unfolding move_of into_list
+      unfolding move_of into_list best_offers
       offers_best apart =
-          let all = all_offers 0 (length X - 0) (nothing (bound s)) none-best in
+          let all = scanned_visits (terms_of c demand s) (lists visits lengths) (λ position. into_list ls pair.from position pair.to)
+          (λ best position. best_offer c demand s X Y pair position best) offered 0 (length X - 0) (nothing (bound s)) (none_yet (terms_of c demand s) (lists visits lengths)) in
           best-across delta_of pass_of (bound s) ls pair.from pair.to _ apart (rw (at_lists visits lengths pair.from) all.scanned)
           all.still.figured
 

@@ -3,7 +3,6 @@ use mathlib.Core.Path.{◌≡◌, sym, ◌∙◌}
 use mathlib.Core.Bool.{Bool, true, false, ◌&&◌}
 use mathlib.Core.List.{List}
 use Prim.Native.Nat.{ℕ, ◌+◌, ◌≤◌, ◌<◌}
-use native.Mathlib.Numerals.{add-one}
 use lib.IntN.{ℤ}
 use lib.ListN.{length}
 use lib.Ieee.{Float}
@@ -12,7 +11,7 @@ use Rattle.tests.specs.Pick.{picked, other}
 use Rattle.edits.specs.Total.{total}
 use Rattle.labels.specs.Columns.{Columns}
 use Rattle.descent.specs.Order.{range}
-use Rattle.descent.proofs.Loops.{range_step, range_done}
+use Rattle.relocations.proofs.Scanning.{after_turn, after_end}
 use Rattle.loads.specs.Loads.{boxes_of}
 use Rattle.soft_places.specs.Places.{price_of}
 use Rattle.soft_places.specs.declared.Setup.{Setup}
@@ -27,11 +26,11 @@ module _ (c : Columns) (demand : List ℤ) (s : Setup) (X Y : List ℕ) (pair : 
   pub offers_turn : position < length X → best_offers c demand s X Y pair (range (position + 1) (length X)) (best_offer c demand s X Y pair position best)
       ≡ best_offers c demand s X Y pair (range position (length X)) best
   unfolding best_offers
-  offers_turn h = rw (add-one position, range_step position (length X) h)
+  offers_turn h = after_turn _ position (length X) best h
 
   pub offers_end : length X ≤ position → best_offers c demand s X Y pair (range position (length X)) best ≡ best
   unfolding best_offers
-  offers_end h = rw (range_done position (length X) h)
+  offers_end h = after_end _ position (length X) best h
 
 -- two lists as they were priced and counted: one has no price, or both have one
 module _ (c : Columns) (demand : List ℤ) (s : Setup) (X Y : List ℕ) (from to : ℕ) (x y : Float) (is_x : x ≡ price_of c s X) (is_y : y ≡ price_of c s Y)

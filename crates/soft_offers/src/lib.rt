@@ -4,37 +4,25 @@
 
 #![tactic(auto)]
 
-ghost use Rattle.std.specs.Prelude.{◌≡◌, ◌<◌, ◌≤◌, length};
+ghost use Rattle.std.specs.Prelude.{◌≡◌, ◌≢◌, ◌<◌, ◌≤◌, length, get_or};
 ghost use Rattle.descent.specs.Order.{range};
+ghost use Rattle.lists.specs.Table.{lists};
 ghost use Rattle.loads.specs.Loads.{Loaded, Held};
 ghost use Rattle.pairs.specs.Pairs.{nothing};
-ghost use Rattle.soft_places.specs.Places.{Prepared, DrivenBy};
+ghost use Rattle.relocations.specs.Relocations.{BestOf};
+ghost use Rattle.soft_places.specs.Places.{Prepared};
 ghost use Rattle.soft_visit_offers.specs.Offer.{TwoOf, Known};
-ghost use Rattle.soft_offers.specs.Offers.{bound, best_offers, best_priced, BestOf};
+ghost use Rattle.soft_offers.specs.Offers.{bound, terms_of, best_offers, best_priced};
 ghost use Rattle.labels.specs.Lent.{lent};
 
-use heads::{Head, at_depot, reach};
+use heads::{at_depot, reach};
 use labels::columns::Columns;
-use lists::{length_of, list_of};
+use lists::list_of;
 use loads::load_of;
 use numbers::is_finite;
 use pairs::Choice;
 use soft_places::{Setup, price_of};
 use soft_visit_offers::{Pair, offer_visit};
-
-// No move.
-fn nothing_below(bound: f64) -> Choice
-    ensures { result ≡ nothing bound }
-{
-    Choice {
-        found: 0,
-        from: 0,
-        position: 0,
-        to: 0,
-        place: 0,
-        delta: bound,
-    }
-}
 
 // The best move of a pair of lists that have a price.
 fn best_of_pair(
@@ -56,7 +44,7 @@ fn best_of_pair(
 {
     let limits = setup.limits;
     let rest = limits.rest;
-    let mut best = nothing_below(-setup.floor);
+    let mut best = Choice::none_below(-setup.floor);
     let mut head = at_depot(setup.depot);
     for position in 0..giver.len() {
         head = reach(columns, rest, setup.depot, giver, head, position);
@@ -86,7 +74,7 @@ fn best_priced(
     let old_from = price_of(setup, columns, giver);
     let old_to = price_of(setup, columns, receiver);
     if !is_finite(old_from) || !is_finite(old_to) {
-        return nothing_below(-setup.floor);
+        return Choice::none_below(-setup.floor);
     }
     let load = load_of(columns.locations, demand, receiver);
     let pair = Pair {
@@ -99,8 +87,8 @@ fn best_priced(
     best_of_pair(setup, columns, demand, giver, receiver, buffer, pair)
 }
 
-// The best move out of one list into another: none where they are one, or where the giver is empty.
-pub fn best_between(
+// The best move out of a list that has a visit into another.
+pub fn best_across(
     setup: Setup,
     columns: &Columns,
     demand: &[i32],
@@ -112,16 +100,10 @@ pub fn best_between(
 ) -> Choice
     requires prepared { Prepared setup (lent columns.now) }
     requires loaded { Loaded columns.now.locations demand.now × Held columns.now.locations visits.now lengths.now }
-    requires in_bounds { 64 ≤ length buffer.old }
-    requires from_in_bounds { (from < length lengths.now) × (to < length lengths.now) }
-    ensures { BestOf (lent columns.now) demand.now setup visits.now lengths.now from to result }
+    requires in_bounds { (64 ≤ length buffer.old) × (from < length lengths.now) × (to < length lengths.now) }
+    requires apart { (from ≢ to) × (get_or lengths.now from 0 ≢ 0) }
+    ensures { BestOf (terms_of (lent columns.now) demand.now setup) (lists visits.now lengths.now) from to result }
 {
-    if from == to {
-        return nothing_below(-setup.floor);
-    }
-    if length_of(lengths, from) == 0 {
-        return nothing_below(-setup.floor);
-    }
     let giver = list_of(visits, lengths, from);
     let receiver = list_of(visits, lengths, to);
     best_priced(setup, columns, demand, giver, receiver, buffer, from, to)

@@ -10,7 +10,7 @@ ghost use Rattle.labels.specs.Columns.{Visits};
 ghost use Rattle.labels.specs.Lent.{lent};
 ghost use Rattle.descent.specs.Order.{range};
 ghost use Rattle.soft_places.specs.Prices.{giving_delta};
-ghost use Rattle.soft_places.specs.Places.{Prepared, DrivenBy, price_of, better, best_among};
+ghost use Rattle.soft_places.specs.Places.{Prepared, DrivenBy, price_of, best_among};
 
 use buffers::{append, append_one, append_stretch};
 use day::vehicle::RouteLimits;
@@ -20,6 +20,7 @@ use head_prices::price_from;
 use heads::{Head, at_depot, reach};
 use labels::columns::Columns;
 use pairs::Choice;
+use relocations::offer::{Offer, better_of};
 
 // What is worked out once before the first move.
 #[derive(Clone, Copy)]
@@ -32,19 +33,6 @@ pub struct Setup {
     pub fixed: f64,
     // The least gain that counts.
     pub floor: f64,
-}
-
-// The visit at `position` of list `from`, offered to list `to`. `giving` is what taking it out changes, `old` the receiver's price, and `paid` the fixed
-// cost where the receiver is empty.
-#[derive(Clone, Copy)]
-pub struct Offer {
-    pub from: usize,
-    pub position: usize,
-    pub to: usize,
-    pub visit: u16,
-    pub giving: f64,
-    pub old: f64,
-    pub paid: f64,
 }
 
 // ---- the two lists of a move
@@ -143,37 +131,22 @@ pub fn giving_delta(
 
 // ---- an offer to a list
 
-// The better of the best so far and an offer at a place, which makes a list of this price.
-fn better_of(offer: Offer, new: f64, best: Choice, place: usize) -> Choice
-    ensures { result ≡ better offer new best place }
-{
-    let delta = offer.giving + (new - offer.old + offer.paid);
-    if delta < best.delta {
-        return Choice {
-            found: 1,
-            from: offer.from,
-            position: offer.position,
-            to: offer.to,
-            place,
-            delta,
-        };
-    }
-    best
-}
-
-// The best after an offer at every place of a list: the visit is put in before all others, and goes on place by place; the list's head goes on with it.
+// The best after an offer at every place of a list, which is priced at `old`; `paid` is the fixed cost where it is empty. The visit is put in before all
+// others, and goes on place by place; the list's head goes on with it.
 pub fn best_place(
     setup: Setup,
     columns: &Columns,
     list: &[u16],
     buffer: &mut [u16],
     offer: Offer,
+    old: f64,
+    paid: f64,
     best: Choice,
 ) -> Choice
     requires prepared { Prepared setup (lent columns.now) }
     requires in_bounds { 64 ≤ length buffer.old }
     requires visits { Visits columns.now.locations list.now × (length list.now < 63) × (offer.visit < columns.now.locations) }
-    ensures { result ≡ best_among (price_of (lent columns.now) setup) list.now offer (range 0 (suc (length list.now))) best }
+    ensures { result ≡ best_among (price_of (lent columns.now) setup) old paid list.now offer (range 0 (suc (length list.now))) best }
 {
     let limits = setup.limits;
     let rest = limits.rest;
@@ -186,7 +159,8 @@ pub fn best_place(
         head = reach(columns, rest, setup.depot, list, head, place);
         let from = head.visits;
         let new = price_from(columns, limits, setup.depot, head, &buffer[from..end]);
-        after = better_of(offer, new, after, place);
+        let insertion = new - old + paid;
+        after = better_of(offer, insertion, || true, after, place);
         if place == list.len() {
             return after;
         }

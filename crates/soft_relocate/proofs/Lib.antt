@@ -1,3 +1,2 @@
--- `Running`: a run under way. `Offices`: what every run keeps.
-pub mod Running
+-- `Offices`: what every run keeps.
 pub mod Offices

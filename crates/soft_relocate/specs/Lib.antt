@@ -1,2 +1,2 @@
 pub mod SoftRelocate
-pub mod Running
+pub mod PriceSearch

@@ -1,12 +1,12 @@
 // Inter-route relocation where a day has a soft window (Or 1976), ports local_search/relocate.rs where `has_soft_windows`: one visit goes to any place of
 // another list, the least delta first, until none gains. Every move is priced whole, on both lists (crate `soft_offers`).
 //
-// The best move of each ordered pair of lists is kept in a table (crate `soft_relocations`), of which the least entry is the next move: the one that a scan in
-// the order (from list, position, to list, place) takes. After a move only the pairs with one of its two lists are searched again.
+// The best move of each ordered pair of lists is kept in a table (crates `relocations` and `relocation_runs`, of both relocate engines), of which the least
+// entry is the next move: the one that a scan in the order (from list, position, to list, place) takes.
 
 #![tactic(auto)]
 
-ghost use Rattle.std.specs.Prelude.{◌≡◌, true, ◌+◌, ◌<◌, ◌≤◌, length};
+ghost use Rattle.std.specs.Prelude.{◌≡◌, true, ◌<◌};
 ghost use Rattle.numbers.specs.Floor.{gain_floor};
 ghost use Rattle.day.specs.Matrix.{scale_of};
 ghost use Rattle.day.specs.Refusal.{capacity_ok};
@@ -14,11 +14,9 @@ ghost use Rattle.lists.specs.Table.{lists};
 ghost use Rattle.list_changes.specs.Edits.{Edited};
 ghost use Rattle.engine.specs.Engine.{ended_as};
 ghost use Rattle.loads.specs.Loads.{Loaded, Held};
-ghost use Rattle.pairs.specs.Pairs.{table, Sized};
 ghost use Rattle.soft_relocate.specs.SoftRelocate.{soft_relocate_run};
-ghost use Rattle.soft_places.specs.Places.{Prepared};
-ghost use Rattle.soft_relocations.specs.Relocations.{AllRight};
-ghost use Rattle.soft_relocate.specs.Running.{run_from};
+ghost use Rattle.soft_offers.specs.Offers.{terms_of};
+ghost use Rattle.soft_relocate.specs.PriceSearch.{Ready, sound};
 ghost use Rattle.labels.specs.Lent.{lent};
 
 use day::vehicle::RouteLimits;
@@ -27,57 +25,57 @@ use engine::Ended;
 use labels::columns::Columns;
 use list_changes::move_visit;
 use numbers::gain_floor;
-use pairs::best_pair;
+use pairs::Choice;
+use relocation_runs::descend;
+use relocations::PairSearch;
+use soft_offers::best_across;
 use soft_places::Setup;
-use soft_relocations::{search_again, search_all};
 
-// Makes move after move, the least of the table, until none is left or the limit is used up.
-fn descend(
+// The engine that prices both lists of a move whole.
+#[derive(Drop)]
+pub struct PriceSearch<'a> {
     setup: Setup,
-    columns: &Columns,
-    demand: &[i32],
-    visits: &mut [u16],
-    lengths: &mut [u16],
-    buffer: &mut [u16],
-    deltas: &mut [f64],
-    positions: &mut [u16],
-    places: &mut [u16],
-    limit: u32,
-) -> Ended
-    requires prepared { Prepared setup (lent columns.now) }
-    requires loaded { Loaded columns.now.locations demand.now × Held columns.now.locations visits.old lengths.old }
-    requires in_bounds { (64 ≤ length buffer.old) × Sized (table deltas.old positions.old places.old) }
-    ensures { let c = lent columns.now in
-        let run = run_from c demand.now setup limit (lists visits.old lengths.old)
-        in Edited visits.old lengths.old visits.new lengths.new run.last.now
-        × (result ≡ ended_as run.word run.moves) }
-{
-    search_all(
-        setup, columns, demand, visits, lengths, buffer, deltas, positions, places,
-    );
-    let mut moves = 0;
-    loop {
-        let best = best_pair(lengths.len(), -setup.floor, deltas, positions, places);
-        if best.found == 0 {
-            return Ended::Settled(moves);
-        }
-        if limit <= moves {
-            return Ended::Stopped(moves);
-        }
+    columns: &'a Columns<'a>,
+    demand: &'a [i32],
+    buffer: [u16; 64],
+}
+
+impl<'a> PairSearch for PriceSearch<'a> {
+    ghost terms = { λ s. terms_of (lent s.columns.now) s.demand.now s.setup };
+
+    ghost ready = { λ s. Ready (lent s.columns.now) s.demand.now s.setup };
+
+    fn bound(&self) -> f64 {
+        -self.setup.floor
+    }
+
+    fn best_across(&mut self, visits: &[u16], lengths: &[u16], from: usize, to: usize) -> Choice {
+        best_across(
+            self.setup,
+            self.columns,
+            self.demand,
+            visits,
+            lengths,
+            &mut self.buffer,
+            from,
+            to,
+        )
+    }
+
+    fn make_move(&mut self, visits: &mut [u16], lengths: &mut [u16], choice: Choice) {
         move_visit(
             visits,
             lengths,
-            best.from,
-            best.position,
-            best.to,
-            best.place,
+            choice.from,
+            choice.position,
+            choice.to,
+            choice.place,
         );
-        search_again(
-            setup, columns, demand, visits, lengths, buffer, deltas, positions, places, best.from,
-            best.to,
-        );
-        moves += 1;
     }
+
+    ghost laid = { λ s visits lengths ready. ready.held.laid };
+
+    ghost sound = { λ s visits lengths ready. sound (lent s.columns.now) s.demand.now s.setup };
 }
 
 // Relocate of all lists, priced whole, changed in place under their numbers, with at most `limit` moves. `fixed` is the van's fixed cost as a distance.
@@ -108,20 +106,11 @@ pub fn improve(
         fixed,
         floor,
     };
-    let mut buffer = [0u16; 64];
-    let mut deltas = [0.0; 256];
-    let mut positions = [0u16; 256];
-    let mut places = [0u16; 256];
-    descend(
+    let mut engine = PriceSearch {
         setup,
         columns,
         demand,
-        visits,
-        lengths,
-        &mut buffer,
-        &mut deltas,
-        &mut positions,
-        &mut places,
-        limit,
-    )
+        buffer: [0; 64],
+    };
+    descend(&mut engine, visits, lengths, limit)
 }

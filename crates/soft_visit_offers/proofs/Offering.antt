@@ -43,8 +43,8 @@ module _ (c : Columns) (demand : List ℤ) (s : Setup) (X Y : List ℕ) (pair : 
           other _ _ _ _ (and_right (leb (pair.load + boxes_of demand (get_or X position 0)) s.capacity) _ (ap finite (sym is-giving) ∙ sym asked ∙ e)) refl
 
       pub offered_as : told ≡ true → pair.load + more ≤ s.capacity → (paid : Float) (after : Choice) → paid ≡ fixed_if (eqb (length Y) 0) s.fixed
-          → after ≡ best_among (price_of c s) Y
-          (record { from = pair.from; position = position; to = pair.to; visit = get_or X position 0; giving = giving; old = pair.old_to; paid = paid })
+          → after ≡ best_among (price_of c s) pair.old_to paid Y
+          (record { from = pair.from; position = position; to = pair.to; visit = get_or X position 0; removal = giving })
           (range 0 (suc (length Y))) best
           → after ≡ best_offer c demand s X Y pair position best
       unfolding best_offer

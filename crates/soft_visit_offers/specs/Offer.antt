@@ -11,7 +11,7 @@ use Rattle.loads.specs.Loads.{boxes_of}
 use Rattle.soft_places.specs.Prices.{giving_delta}
 use Rattle.soft_places.specs.Places.{price_of, best_among}
 use Rattle.soft_places.specs.declared.Setup.{Setup}
-use Rattle.soft_places.specs.declared.Offer.{Offer}
+use Rattle.relocations.specs.declared.offer.Offer.{Offer}
 use Rattle.soft_visit_offers.specs.declared.Pair.{Pair}
 
 -- two lists of the tables, the second with room for one visit more
@@ -36,9 +36,7 @@ module _ (c : Columns) (demand : List ℤ) (s : Setup) (X Y : List ℕ) (pair : 
     position = position;
     to = pair.to;
     visit = get_or X position 0;
-    giving = giving_delta (price_of c s) s.fixed X position;
-    old = pair.old_to;
-    paid = fixed_if (eqb (length Y) 0) s.fixed;
+    removal = giving_delta (price_of c s) s.fixed X position;
   }
 
   -- whether the receiver has room for it, and the giver a price without it
@@ -49,4 +47,5 @@ module _ (c : Columns) (demand : List ℤ) (s : Setup) (X Y : List ℕ) (pair : 
   -- the best after an offer of one visit
   unfoldable pub best_offer : ℕ → Choice → Choice
   best_offer position best =
-      cond (may_go position) (best_among (price_of c s) Y (offer_of position) (range 0 (suc (length Y))) best) best
+      cond (may_go position)
+      (best_among (price_of c s) pair.old_to (fixed_if (eqb (length Y) 0) s.fixed) Y (offer_of position) (range 0 (suc (length Y))) best) best

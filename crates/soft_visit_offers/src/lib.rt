@@ -15,7 +15,8 @@ use labels::columns::Columns;
 use loads::boxes_of;
 use numbers::is_finite;
 use pairs::Choice;
-use soft_places::{Offer, Setup, best_place, giving_delta};
+use relocations::offer::Offer;
+use soft_places::{Setup, best_place, giving_delta};
 
 // Two lists, what they are priced at, and the boxes of the one that is to receive a visit.
 #[derive(Clone, Copy)]
@@ -64,9 +65,16 @@ pub fn offer_visit(
         position,
         to: pair.to,
         visit,
-        giving,
-        old: pair.old_to,
-        paid,
+        removal: giving,
     };
-    best_place(setup, columns, receiver, buffer, offer, best)
+    best_place(
+        setup,
+        columns,
+        receiver,
+        buffer,
+        offer,
+        pair.old_to,
+        paid,
+        best,
+    )
 }

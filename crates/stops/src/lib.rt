@@ -3,11 +3,11 @@
 #![tactic(auto)]
 
 ghost use Rattle.std.specs.Prelude.{◌≡◌, ◌<◌, ◌≤◌, length, get_or};
-ghost use Rattle.day.specs.Matrix.{leg, Square};
+ghost use Rattle.day.specs.Legs.{leg_of};
 ghost use Rattle.deltas.specs.Changes.{Placed, detour};
 ghost use Rattle.deltas.specs.Deltas.{stop_at, stop_before, around, ends_of};
 
-use day::matrix::get;
+use day::matrix::Matrix;
 use deltas::Ends;
 use edits::wide;
 
@@ -61,10 +61,10 @@ pub fn ends_of(depot: usize, list: &[u16], first: usize, end: usize) -> Ends
 }
 
 // From a stop to a stop by way of a piece, less the direct leg.
-pub fn detour(l: usize, distances: &[f64], around: Ends, piece: Ends) -> f64
-    requires { Square l distances.now × Placed l around × Placed l piece }
-    ensures { result ≡ detour (leg l distances.now) around piece }
+pub fn detour(matrix: &Matrix, around: Ends, piece: Ends) -> f64
+    requires { Placed matrix.now.size around × Placed matrix.now.size piece }
+    ensures { result ≡ detour (leg_of matrix.now) around piece }
 {
-    get(l, distances, around.from, piece.from) + get(l, distances, piece.to, around.to)
-        - get(l, distances, around.from, around.to)
+    matrix.get(around.from, piece.from) + matrix.get(piece.to, around.to)
+        - matrix.get(around.from, around.to)
 }

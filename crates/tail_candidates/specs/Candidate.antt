@@ -1,18 +1,19 @@
--- One tail exchange of two lists as the functions state it: what stays the same over a run, and the better of an exchange and the best so far. For src/,
--- `tails`, `soft_tails` and `exchange`; the engine's own definition is `tail-exchange` of descent. Assumes nothing.
-use Rattle.std.specs.Prelude.{◌≡◌, Bool, cond, ◌&&◌, List, [], ◌∷◌, ℕ, ◌<◌, ℤ, Float}
-use Rattle.std.specs.Float.Ieee.{lt}
+-- An exchange judged where no window is soft: by its change in distance, and whether both new lists pass. For src/, `tails` and `exchange`; the engine's own
+-- definition is `tail-exchange` of descent. Assumes nothing.
+use Rattle.std.specs.Prelude.{◌≡◌, Bool, true, ◌&&◌, List, [], ◌∷◌, ℕ, ◌≤◌, ◌<◌, leb, ℤ, Float}
+use borrow.Author.Tests.{leb-true}
 use Rattle.numbers.specs.Floor.{gain_floor}
 use Rattle.day.specs.Matrix.{leg, scale_of}
 use Rattle.labels.specs.Columns.{Columns, Formed}
 use Rattle.evaluation.specs.Route.{checks_needed}
+use Rattle.edits.specs.Total.{total}
 use Rattle.list_changes.specs.Edits.{joined}
-use Rattle.descent.specs.Permitted.{Checks, fits}
+use Rattle.descent.specs.Permitted.{Checks, room, fits}
+use Rattle.descent.proofs.Members.{and_parts}
 use Rattle.deltas.specs.Deltas.{exchange_delta}
 use Rattle.engine.specs.Engine.{checks_of}
-use Rattle.loads.specs.Loads.{measure_of, Loaded}
+use Rattle.loads.specs.Loads.{boxes_of, measure_of, Loaded}
 use Rattle.tail_candidates.specs.declared.Terms.{Terms}
-use Rattle.tail_candidates.specs.declared.Choice.{Choice}
 
 -- what both new lists must meet: 'both loads and both lists pass'
 abbrev pub checks_for : Columns → List ℤ → Terms → Checks
@@ -26,10 +27,11 @@ pub record Asked (c : Columns) (demand : List ℤ) (t : Terms) : Type 0 where
   pub needed : t.needed ≡ checks_needed c.flags t.limits
   pub floor : t.floor ≡ gain_floor (scale_of c.distances)
 
--- one candidate more, by what an exchange changes and whether it passes: 'below the best so far' is 'counts' too, since the best starts at minus the floor
-unfoldable pub better_by : (ℕ → ℕ → Float) → (ℕ → ℕ → Bool) → ℕ → ℕ → Choice → Choice
-better_by delta pass cut1 cut2 best =
-    cond (lt (delta cut1 cut2) best.delta && pass cut1 cut2) (record { cut1 = cut1; cut2 = cut2; delta = delta cut1 cut2 }) best
+-- a list that meets them has room
+has_room : (c : Columns) (demand : List ℤ) (t : Terms) (list : List ℕ) → fits (checks_for c demand t) list ≡ true → total (boxes_of demand) list ≤ t.capacity
+has_room c demand t list e =
+    let fit = and_parts (room (measure_of demand t.capacity ∷ []) list) ((checks_for c demand t).passes list) e in
+    leb-true (total (boxes_of demand) list) t.capacity (and_parts (leb (total (boxes_of demand) list) t.capacity) true fit.0).0
 
 -- the exchanges of this engine
 module _ (c : Columns) (demand : List ℤ) (t : Terms) (X Y : List ℕ) where
@@ -39,5 +41,11 @@ module _ (c : Columns) (demand : List ℤ) (t : Terms) (X Y : List ℕ) where
   abbrev pub pass_by : ℕ → ℕ → Bool
   pass_by cut1 cut2 = fits (checks_for c demand t) (joined X cut1 Y cut2) && fits (checks_for c demand t) (joined Y cut2 X cut1)
 
-  abbrev pub better : ℕ → ℕ → Choice → Choice
-  better = better_by delta_by pass_by
+  -- ---- laws
+
+  -- where an exchange passes both new lists have room
+  pub both_have_room : (cut1 cut2 : ℕ) → pass_by cut1 cut2 ≡ true
+      → (total (boxes_of demand) (joined X cut1 Y cut2) ≤ t.capacity) × (total (boxes_of demand) (joined Y cut2 X cut1) ≤ t.capacity)
+  both_have_room cut1 cut2 e =
+      let lists = and_parts (fits (checks_for c demand t) (joined X cut1 Y cut2)) (fits (checks_for c demand t) (joined Y cut2 X cut1)) e in
+      (has_room c demand t (joined X cut1 Y cut2) lists.0, has_room c demand t (joined Y cut2 X cut1) lists.1)

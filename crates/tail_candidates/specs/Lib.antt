@@ -1,1 +1,3 @@
+pub mod Choice
+pub mod TwoLists
 pub mod Candidate

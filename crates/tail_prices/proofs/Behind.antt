@@ -19,8 +19,8 @@ use Rattle.head_prices.proofs.Prices.{from_head}
 use Rattle.list_changes.specs.Edits.{joined}
 use Rattle.loads.specs.Loads.{Two}
 use Rattle.tail_prices.specs.Tails.{change}
-use Rattle.tail_prices.specs.Changes.{cost_in, Priced}
-use Rattle.tail_prices.specs.declared.Terms.{Terms}
+use Rattle.tail_prices.specs.Changes.{cost_by, Priced}
+use Rattle.tail_candidates.specs.declared.two_lists.TwoLists.{TwoLists}
 use Rattle.tail_prices.specs.declared.Figures.{Figures}
 
 module _ (l : ℕ) (X Y : List ℕ) (two : Two l X Y) where
@@ -58,6 +58,6 @@ price_behind c limits depot X Y cut1 cut2 head driven at_cut within =
     ∙ from_head c limits depot X (joined X cut1 Y cut2) head driven (shares X Y cut1 cut2 head.visits within.0 at_cut)
 
 -- what the code computes is the definition's change
-pub same-change : (c : Columns) (t : Terms) (X Y newX newY : List ℕ) (f : Figures) → Priced c t X Y f → (x new1 new2 : Float) → new1 ≡ cost_in c t newX
-    → new2 ≡ cost_in c t newY → x ≡ new1 ⊕ new2 ⊖ f.cost1 ⊖ f.cost2 → x ≡ change (cost_in c t) X Y newX newY
-same-change c t X Y newX newY f costs x new1 new2 e1 e2 e = rw (e, e1, e2, costs.first_cost, costs.second_cost)
+pub same-change : (two : TwoLists) (f : Figures) (newX newY : List ℕ) → Priced two f → (x new1 new2 : Float) → new1 ≡ cost_by two newX
+    → new2 ≡ cost_by two newY → x ≡ new1 ⊕ new2 ⊖ f.one.cost ⊖ f.other.cost → x ≡ change (cost_by two) two.one.now two.other.now newX newY
+same-change two f newX newY costs x new1 new2 e1 e2 e = rw (e, e1, e2, costs.first_cost, costs.second_cost)

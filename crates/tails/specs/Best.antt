@@ -1,13 +1,10 @@
--- The best tail exchange of two lists as the functions state it: the loops over their cuts, by any delta. For src/, `exchange_sweeps` and `soft_tails`; the
+-- The best tail exchange of two lists as the functions state it: the loops over their cuts, by any delta. For src/ and the engines; the
 -- engine's own definition is `tail-exchange` of descent. Assumes nothing.
-use Rattle.std.specs.Prelude.{Bool, List, ℕ, suc, ℤ, length, set, Float}
-use Rattle.std.specs.Float.Ieee.{neg}
-use Rattle.labels.specs.Columns.{Columns}
+use Rattle.std.specs.Prelude.{Bool, List, ℕ, suc, length, set, Float}
 use Rattle.descent.specs.Order.{range, scan}
 use Rattle.descent.specs.Search.{goes_on, Search}
 use Rattle.descent.specs.Across.{Pair, Tails, pairs, tail_cuts, new1, new2}
-use Rattle.tail_candidates.specs.Candidate.{better_by, delta_by, pass_by}
-use Rattle.tail_candidates.specs.declared.Terms.{Terms}
+use Rattle.tail_candidates.specs.Choice.{nothing, better_by}
 use Rattle.tail_candidates.specs.declared.Choice.{Choice}
 
 -- tail exchange, by which exchanges pass: the pairs of lists, their cuts, and the lists with the tails exchanged
@@ -20,10 +17,6 @@ exchanging passes = record {
   after = goes_on;
 }
 
--- nothing so far: no head has 0 visits, and a delta has to be below minus the floor
-abbrev pub nothing : Float → Choice
-nothing floor = record { cut1 = 0; cut2 = 0; delta = neg floor }
-
 -- two lists of n1 and n2 visits, by what an exchange changes and whether it passes
 module _ (delta : ℕ → ℕ → Float) (pass : ℕ → ℕ → Bool) where
   -- `for cut2 in 1..=n2`
@@ -33,11 +26,3 @@ module _ (delta : ℕ → ℕ → Float) (pass : ℕ → ℕ → Bool) where
   -- `for cut1 in 1..=n1`, from nothing on
   unfoldable pub best_by : ℕ → ℕ → Float → Choice
   best_by n1 n2 floor = scan (row_by n2) (range 1 (suc n1)) (nothing floor)
-
--- the exchanges of this engine
-module _ (c : Columns) (demand : List ℤ) (t : Terms) (X Y : List ℕ) where
-  abbrev pub best_row : ℕ → Choice → Choice
-  best_row = row_by (delta_by c demand t X Y) (pass_by c demand t X Y) (length Y)
-
-  abbrev pub best_of : Choice
-  best_of = best_by (delta_by c demand t X Y) (pass_by c demand t X Y) (length X) (length Y) t.floor

@@ -1,25 +1,3 @@
-// Tests joined: each function is one connective of a definition, so that a chain of tests reads, and is proved, like the definition it equals.
+// The laws of tests that hold of all: of every number below a bound, of every entry of a slice, and of a test that picks one of two. Definitions and laws alone.
 
 #![tactic(auto)]
-
-ghost use Rattle.std.specs.Prelude.{◌≡◌, ◌&&◌, ◌||◌};
-
-// Whether both hold.
-pub fn both(a: bool, b: bool) -> bool
-    ensures { result ≡ (a && b) }
-{
-    if a {
-        return b;
-    }
-    false
-}
-
-// Whether one of them holds.
-pub fn either(a: bool, b: bool) -> bool
-    ensures { result ≡ (a || b) }
-{
-    if a {
-        return true;
-    }
-    b
-}

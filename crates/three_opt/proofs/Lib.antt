@@ -1,3 +1,3 @@
 pub mod Places
-pub mod Going
+pub mod Sweeping
 pub mod Claimed

@@ -1,27 +1,31 @@
 // Intra-route 3-opt (Lin 1965), ports local_search/three_opt.rs. Places are triples i < j < k, a list being cut behind its visits i, j and k; at a
-// place the pieces B and C between the cuts take the least of the seven patterns that counts and passes, ties to the lower pattern; after a move the
-// search starts again.
+// place the pieces B and C between the cuts take the least of the seven ways that counts and passes, ties to the lower one; after a move the search starts
+// again.
 
 #![tactic(auto)]
 
-ghost use Rattle.std.specs.Prelude.{◌≡◌, true, [], ◌<◌, ◌≤◌, length};
+ghost use Rattle.std.specs.Prelude.{◌≡◌, true, List, [], ℕ, ◌<◌, ◌≤◌, length};
 ghost use Rattle.numbers.specs.Operations.{zero64};
 ghost use Rattle.day.specs.Refusal.{all_plain};
 ghost use Rattle.labels.specs.Columns.{Visits};
 ghost use Rattle.labels.specs.Lent.{lent};
 ghost use Rattle.descent.specs.Permitted.{three_opt};
+ghost use Rattle.descent.specs.Search.{Sweep, next};
+ghost use Rattle.descent.specs.Within.{Cut};
 ghost use Rattle.descent.specs.Engines.{run_of};
 ghost use Rattle.deltas.specs.Judged.{float_judge};
-ghost use Rattle.engine.specs.Engine.{checks_of, map_of, ended_as};
+ghost use Rattle.engine.specs.Engine.{checks_of, map_of, ended_as, OneList, Leads};
 ghost use Rattle.reconnections.specs.Reconnections.{Inside};
-ghost use Rattle.patterns.specs.Patterns.{Prepared};
-ghost use Rattle.three_opt.specs.ThreeOpt.{place_after};
+ghost use Rattle.patterns.specs.Patterns.{search_of, judge_of};
+ghost use Rattle.patterns.specs.declared.Setup.{Setup};
+ghost use Rattle.three_opt.specs.ThreeOpt.{place_after, at, Ready, Apt, after};
 
 use day::vehicle::RouteLimits;
 use day_scans::matrix::{is_symmetric, scale};
-use engine::Ended;
+use engine::{Ended, Engine, run};
 use evaluation::route::route_checks_needed;
 use labels::columns::Columns;
+use layouts::Way;
 use numbers::gain_floor;
 use patterns::{Setup, best_pattern};
 use reconnections::{Place, make_move};
@@ -52,38 +56,79 @@ fn place_after(n: usize, place: Place) -> Place
     }
 }
 
-// Passes from place to place and makes move after move, until a sweep has found none or the limit is used up. A sweep starts again after a move, so
-// what is left of the limit falls, or else the places ahead do.
-fn descend(
+// A move that was found.
+#[derive(Clone, Copy)]
+struct Reconnection {
+    place: Place,
+    way: Way,
+}
+
+// The first move of a sweep: at the first place that has one.
+fn first_move(
     setup: Setup,
     columns: &Columns,
-    list: &mut [u16],
+    list: &[u16],
     buffer: &mut [u16],
-    limit: u32,
-) -> Ended
-    requires prepared { Prepared setup (lent columns.now) }
-    requires visits { Visits columns.now.locations list.old × (length list.old ≤ length buffer.old) × (4 ≤ length list.old) }
+) -> Option<Reconnection>
+    requires { Ready (lent columns.now) setup list.now buffer.old }
     ensures { let c = lent columns.now in
-        let run = run_of three_opt (checks_of [] c setup.limits setup.depot)
-        (float_judge three_opt (map_of columns.now.locations columns.now.distances.now setup.depot zero64)) limit list.old
-        in (list.new ≡ run.last.now) × (result ≡ ended_as run.word run.moves) }
+        Leads (next (search_of c setup.limits setup.depot) (judge_of c setup.depot) (at list.now))
+        (at list.now) (at list.now) (Apt c setup list.now buffer.new) (λ m. at list.now) (after list.now) result }
 {
-    let mut moves = 0;
     let mut place = Place { i: 0, j: 1, k: 2 };
     while place.k < list.len() {
-        let pattern = best_pattern(setup, columns, list, buffer, place);
-        if pattern == 0 {
-            place = place_after(list.len(), place);
-            continue;
+        let found = best_pattern(setup, columns, list, buffer, place);
+        if let Some(way) = found {
+            return Some(Reconnection { place, way });
         }
-        if limit <= moves {
-            return Ended::Stopped(moves);
-        }
-        make_move(list, buffer, place, pattern);
-        moves += 1;
-        place = Place { i: 0, j: 1, k: 2 }; // starts again
+        place = place_after(list.len(), place);
     }
-    Ended::Settled(moves)
+    None
+}
+
+// A run of 3-opt on one list. A sweep starts again after each move.
+#[derive(Drop)]
+struct ThreeOpt<'c, 'a> {
+    columns: &'c Columns<'c>,
+    setup: Setup,
+    list: &'a mut [u16],
+    buffer: &'a mut [u16],
+}
+
+impl<'c, 'a> Engine for ThreeOpt<'c, 'a> {
+    type Move = Reconnection;
+
+    ghost Frame = { OneList Setup };
+
+    ghost frame = { λ s. record { columns = lent s.columns.now; terms = s.setup; list = s.list.ghost_name; visits = length s.list.now } };
+
+    ghost State = { Sweep (List ℕ) Cut };
+
+    ghost state = { λ s. at s.list.now };
+
+    ghost next = { λ f. next (search_of f.columns f.terms.limits f.terms.depot) (judge_of f.columns f.terms.depot) };
+
+    ghost Ready = { λ s. Ready (lent s.columns.now) s.setup s.list.now s.buffer.now };
+
+    ghost Apt = { λ s. Apt (lent s.columns.now) s.setup s.list.now s.buffer.now };
+
+    ghost before = { λ s m. at s.list.now };
+
+    ghost after = { λ s. after s.list.now };
+
+    fn next_move(&mut self) -> Option<Reconnection> {
+        let setup = self.setup;
+        let columns = self.columns;
+        let list = &mut *self.list;
+        let buffer = &mut *self.buffer;
+        first_move(setup, columns, list, buffer)
+    }
+
+    fn make(&mut self, found: Reconnection) {
+        make_move(self.list, self.buffer, found.place, found.way);
+    }
+
+    fn forgo(&mut self, found: Reconnection) {}
 }
 
 // 3-opt of one list, changed in place, with at most `limit` moves.
@@ -105,7 +150,7 @@ pub fn three_opt_improve(
         return Ended::Settled(0);
     }
     let floor = gain_floor(scale(columns.distances));
-    let symmetric = is_symmetric(columns.locations, columns.distances);
+    let symmetric = is_symmetric(&columns.matrix());
     let needed = route_checks_needed(columns.flags, limits);
     let setup = Setup {
         depot,
@@ -115,5 +160,11 @@ pub fn three_opt_improve(
         needed,
     };
     let mut buffer = [0u16; 64];
-    descend(setup, columns, list, &mut buffer, limit)
+    let mut three_opt = ThreeOpt {
+        columns,
+        setup,
+        list,
+        buffer: &mut buffer,
+    };
+    run(&mut three_opt, limit)
 }

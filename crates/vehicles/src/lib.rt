@@ -1,6 +1,6 @@
 // The van of a list, by its id (`fleet_vehicle` of constructive/nearest_neighbor.rs).
 
-#![tactic(auto, unfolding(fleet::specs::Fleet::van_at))]
+#![tactic(auto, using(fleet::proofs::Numbered::number_below), unfolding(fleet::specs::Fleet::van_at))]
 
 ghost use Rattle.std.specs.Prelude.{◌≡◌, ◌≤◌, ◌<◌, length};
 ghost use Rattle.fleet.specs.Fleet.{van_at, number_from, fleet_vehicle, Fitted};

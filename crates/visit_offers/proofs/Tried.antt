@@ -8,7 +8,7 @@ use native.Mathlib.Omega.{arith}
 use borrow.Author.Tests.{lt-ltb, le-ltb}
 use lib.Dec.{ltb}
 use lib.IntN.{ℤ}
-use lib.ListN.{length, get_or, set}
+use lib.ListN.{length, get_or}
 use lib.Ieee.{Float}
 use Rattle.tests.specs.Pick.{picked, other}
 use Rattle.day.specs.Matrix.{leg}
@@ -17,39 +17,40 @@ use Rattle.descent.specs.Order.{range}
 use Rattle.deltas.specs.Deltas.{removal_delta}
 use Rattle.loads.specs.Loads.{boxes_of}
 use Rattle.pairs.specs.declared.Choice.{Choice}
-use Rattle.insertions.specs.Cache.{cell, known_at, least_below}
+use Rattle.insertions.specs.Cache.{known_at, Noted, least_below}
 use Rattle.insertions.specs.declared.Least.{Least}
+use Rattle.insertions.specs.declared.Insertions.{Insertions}
 use Rattle.places.specs.Places.{ruled_out, best_among}
 use Rattle.places.specs.declared.Setup.{Setup}
 use Rattle.places.specs.declared.Tried.{Tried}
 use Rattle.visit_offers.specs.Tried.{cost_of, offer_of, tried}
 
-module _ (c : Columns) (demand : List ℤ) (s : Setup) (pruning : Bool) (X Y : List ℕ) (load from position to : ℕ) (best : Choice) (known : Least)
+module _ (c : Columns) (demand : List ℤ) (s : Setup) (X Y : List ℕ) (load from position to : ℕ) (best : Choice) (known : Least)
     (visit more : ℕ) (is-visit : visit ≡ get_or X position 0) (is-more : more ≡ boxes_of demand visit) where
   the_load : load + more ≡ load + boxes_of demand (get_or X position 0)
   the_load = rw (is-more, is-visit)
 
-  pub tried_full : s.capacity < load + more → record { best = best; least = known } ≡ tried c demand s pruning X Y load from position to best known
+  pub tried_full : s.capacity < load + more → record { best = best; least = known } ≡ tried c demand s X Y load from position to best known
   unfolding tried
   tried_full h = picked _ _ _ _ (lt-ltb s.capacity (load + boxes_of demand (get_or X position 0)) (omega (arith, the_load))) refl
 
   module _ (roomy : load + more ≤ s.capacity) (removal : Float) (ruled : Bool)
       (is-removal : removal ≡ removal_delta (leg c.l c.distances) s.depot s.fixed X position)
-      (is-ruled : ruled ≡ ruled_out pruning s.floor removal known.figure) where
+      (is-ruled : ruled ≡ ruled_out s.pruning s.floor removal known.figure) where
     room : ltb s.capacity (load + boxes_of demand (get_or X position 0)) ≡ false
     room = le-ltb s.capacity (load + boxes_of demand (get_or X position 0)) (omega (arith, the_load))
 
-    the_rule : ruled_out pruning s.floor (removal_delta (leg c.l c.distances) s.depot s.fixed X position) known.figure ≡ ruled
+    the_rule : ruled_out s.pruning s.floor (removal_delta (leg c.l c.distances) s.depot s.fixed X position) known.figure ≡ ruled
     the_rule = rw (is-ruled, is-removal)
 
-    pub tried_ruled : ruled ≡ true → record { best = best; least = known } ≡ tried c demand s pruning X Y load from position to best known
+    pub tried_ruled : ruled ≡ true → record { best = best; least = known } ≡ tried c demand s X Y load from position to best known
     unfolding tried
     tried_ruled e = other _ _ _ _ room (picked _ _ _ _ (the_rule ∙ e) refl)
 
     pub tried_places : ruled ≡ false → (t : Tried)
         → t.best ≡ best_among c s Y (record { from = from; position = position; to = to; visit = get_or X position 0; removal = removal })
         (range 0 (suc (length Y))) best
-        → t.least ≡ least_below (cost_of c s Y (get_or X position 0)) (suc (length Y)) → t ≡ tried c demand s pruning X Y load from position to best known
+        → t.least ≡ least_below (cost_of c s Y (get_or X position 0)) (suc (length Y)) → t ≡ tried c demand s X Y load from position to best known
     unfolding tried
     tried_places e t is-best is-least = other _ _ _ _ room (other _ _ _ _ (the_rule ∙ e) whole)
       where
@@ -61,10 +62,8 @@ module _ (c : Columns) (demand : List ℤ) (s : Setup) (pruning : Bool) (X Y : L
             let one : t.best ≡ best_among c s Y (offer_of c s X from position to) (range 0 (suc (length Y))) best = is-best ∙ rw is-removal in
             ap₂ (λ (b : Choice) (l : Least). record { best = b; least = l }) one is-least
 
--- what is known is read at a cell, and what is known then is written there
-pub stored_as : (f : Least → Tried) (figures : List Float) (places : List ℕ) (read visit to : ℕ) (t : Tried) → read ≡ visit
-    → t ≡ f (known_at figures places read to)
-    → let new = f (known_at figures places visit to) in
-    (t.best ≡ new.best) × (set figures (cell read to) t.least.figure ≡ set figures (cell visit to) new.least.figure)
-    × (set places (cell read to) t.least.place ≡ set places (cell visit to) new.least.place)
-stored_as f figures places read visit to t e h = rw (h, e) (refl, refl, refl)
+-- what is known is read, and what is known then is noted
+pub noted_as : (f : Least → Tried) (old new : Insertions) (read visit to : ℕ) (known : Least) (t : Tried) → read ≡ visit → known ≡ known_at old read to
+    → t ≡ f known → Noted read to t.least old new
+    → let after = f (known_at old visit to) in (t.best ≡ after.best) × Noted visit to after.least old new
+noted_as f old new read visit to known t e k h w = (rw (h, k, e), rw (h, k, e) at w)

@@ -1,5 +1,5 @@
 -- What is tried of one visit of which something is known, offered to one list. For the contracts of src/ and of `offers`. Assumes nothing.
-use Rattle.std.specs.Prelude.{Bool, cond, List, ℕ, suc, ◌+◌, ltb, ℤ, length, get_or, Float}
+use Rattle.std.specs.Prelude.{cond, List, ℕ, suc, ◌+◌, ltb, ℤ, length, get_or, Float}
 use Rattle.day.specs.Matrix.{leg}
 use Rattle.labels.specs.Columns.{Columns}
 use Rattle.descent.specs.Order.{range}
@@ -9,7 +9,7 @@ use Rattle.pairs.specs.declared.Choice.{Choice}
 use Rattle.insertions.specs.declared.Least.{Least}
 use Rattle.insertions.specs.Cache.{least_below}
 use Rattle.places.specs.declared.Setup.{Setup}
-use Rattle.places.specs.declared.Offer.{Offer}
+use Rattle.relocations.specs.declared.offer.Offer.{Offer}
 use Rattle.places.specs.declared.Tried.{Tried}
 use Rattle.places.specs.Places.{best_among, ruled_out}
 
@@ -28,12 +28,12 @@ offer_of c s X from position to = record {
 }
 
 -- offered to Y: nothing where that has no room for it, nothing where no place gains, or else every place
-unfoldable pub tried : Columns → List ℤ → Setup → Bool → List ℕ → List ℕ → ℕ → ℕ → ℕ → ℕ → Choice → Least → Tried
-tried c demand s pruning X Y load from position to best known =
+unfoldable pub tried : Columns → List ℤ → Setup → List ℕ → List ℕ → ℕ → ℕ → ℕ → ℕ → Choice → Least → Tried
+tried c demand s X Y load from position to best known =
     let offer = offer_of c s X from position to in
     let untouched : Tried = record { best = best; least = known } in
     cond (ltb s.capacity (load + boxes_of demand offer.visit)) untouched
-    (cond (ruled_out pruning s.floor offer.removal known.figure) untouched
+    (cond (ruled_out s.pruning s.floor offer.removal known.figure) untouched
     (record {
       best = best_among c s Y offer (range 0 (suc (length Y))) best;
       least = least_below (cost_of c s Y offer.visit) (suc (length Y));

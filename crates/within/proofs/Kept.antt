@@ -19,8 +19,7 @@ use Rattle.descent.proofs.Always.{kept_by}
 use Rattle.deltas.specs.Judged.{float_judge}
 use Rattle.engine.specs.Engine.{checks_of}
 use Rattle.soft.proofs.Offices.{soft_same}
-use Rattle.neighbours.specs.declared.Neighbourhood.{Neighbourhood}
-use Rattle.neighbours.specs.declared.Neighbourhood.TheVariants.{Reverse, Relocate, Reconnect}
+use Rattle.neighbours.specs.Neighbours.{Neighbourhood, Reverse, Relocate, Reconnect}
 use Rattle.within.specs.Within.{Ran, list_map, hard_ran, ran_by}
 
 one_less : (a b : ℕ) → a + 0 ≡ b + 0 → a ≡ b

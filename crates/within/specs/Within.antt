@@ -12,8 +12,7 @@ use Rattle.descent.specs.Engines.{run_of}
 use Rattle.deltas.specs.Judged.{Map, float_judge}
 use Rattle.engine.specs.Engine.{checks_of, map_of}
 use Rattle.soft.specs.Soft.{soft_run}
-use Rattle.neighbours.specs.declared.Neighbourhood.{Neighbourhood}
-use Rattle.neighbours.specs.declared.Neighbourhood.TheVariants.{Reverse, Relocate, Reconnect}
+use Rattle.neighbours.specs.Neighbours.{Neighbourhood, Reverse, Relocate, Reconnect}
 
 -- what a run leaves: the list, its end word and the moves made
 pub record Ran : Type 0 where

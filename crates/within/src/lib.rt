@@ -14,49 +14,82 @@ use day_scans::customer::has_soft_windows;
 use engine::Ended;
 use labels::columns::Columns;
 use neighbours::Neighbourhood;
+use neighbours::reconnect::Reconnect;
+use neighbours::relocate::Relocate;
+use neighbours::reverse::Reverse;
 use or_opt::or_opt_improve;
 use three_opt::three_opt_improve;
 use two_opt::two_opt_improve;
 
-// The engine that has this neighbourhood, without soft windows.
-fn improve_hard(
-    columns: &Columns,
-    limits: RouteLimits,
-    depot: usize,
-    which: Neighbourhood,
-    list: &mut [u16],
-    limit: u32,
-) -> Ended
-    requires depot_lt_l { (depot < columns.now.locations) × Visits columns.now.locations list.old }
-    requires distances_value { all_plain columns.now.distances.now ≡ true }
-    ensures { let c = lent columns.now in
-        let ran = hard_ran which c limits depot limit list.old
-        in (list.new ≡ ran.list) × (result ≡ ended_as ran.word ran.moves) }
-{
-    match which {
-        Neighbourhood::Reverse => two_opt_improve(columns, limits, depot, list, limit),
-        Neighbourhood::Relocate => or_opt_improve(columns, limits, depot, list, limit),
-        Neighbourhood::Reconnect => three_opt_improve(columns, limits, depot, list, limit),
+// A neighbourhood that an engine searches where no window is soft.
+pub trait Searched: Neighbourhood {
+    // The engine's run.
+    fn improve_hard(
+        columns: &Columns,
+        limits: RouteLimits,
+        depot: usize,
+        list: &mut [u16],
+        limit: u32,
+    ) -> Ended
+        requires depot_lt_l { (depot < columns.now.locations) × Visits columns.now.locations list.old }
+        requires distances_value { all_plain columns.now.distances.now ≡ true }
+        ensures { let c = lent columns.now in
+            let ran = hard_ran Self.which c limits depot limit list.old
+            in (list.new ≡ ran.list) × (result ≡ ended_as ran.word ran.moves) };
+}
+
+impl Searched for Reverse {
+    fn improve_hard(
+        columns: &Columns,
+        limits: RouteLimits,
+        depot: usize,
+        list: &mut [u16],
+        limit: u32,
+    ) -> Ended {
+        two_opt_improve(columns, limits, depot, list, limit)
+    }
+}
+
+impl Searched for Relocate {
+    fn improve_hard(
+        columns: &Columns,
+        limits: RouteLimits,
+        depot: usize,
+        list: &mut [u16],
+        limit: u32,
+    ) -> Ended {
+        or_opt_improve(columns, limits, depot, list, limit)
+    }
+}
+
+impl Searched for Reconnect {
+    fn improve_hard(
+        columns: &Columns,
+        limits: RouteLimits,
+        depot: usize,
+        list: &mut [u16],
+        limit: u32,
+    ) -> Ended {
+        three_opt_improve(columns, limits, depot, list, limit)
     }
 }
 
 // The list changed in place by at most `limit` moves of one neighbourhood.
-pub fn improve(
+pub fn improve<N: Searched>(
     columns: &Columns,
     limits: RouteLimits,
     depot: usize,
-    which: Neighbourhood,
     list: &mut [u16],
     limit: u32,
 ) -> Ended
     requires depot_lt_l { (depot < columns.now.locations) × Visits columns.now.locations list.old }
     requires distances_value { all_plain columns.now.distances.now ≡ true }
     ensures { let c = lent columns.now in
-        let ran = ran_by which c limits depot limit list.old
+        let ran = ran_by N.which c limits depot limit list.old
         in (list.new ≡ ran.list) × (result ≡ ended_as ran.word ran.moves) }
 {
     if has_soft_windows(columns.flags) {
-        return soft::improve(columns, limits, depot, which, list, limit);
+        return soft::improve::<N>(columns, limits, depot, list, limit);
     }
-    improve_hard(columns, limits, depot, which, list, limit)
+    N::improve_hard(columns, limits, depot, list, limit)
 }

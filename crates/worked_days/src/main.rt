@@ -13,11 +13,11 @@ mod rearrange; // relocate, tail exchange
 mod refused; // refusals 1 to 10
 mod depots; // cross-depot, refusals 11 and 12
 
-use day::day::Day;
+use line::Line;
 use std::io;
 
 // The days, then the refusals.
-fn days(rt: &impl Print, line: &Day) -> io::Result<()> {
+fn days(rt: &impl Print, line: Line) -> io::Result<()> {
     table::table(rt, line)?;
     check::days(rt, line)?;
     asked::both_lists(rt, line)?;
@@ -29,5 +29,8 @@ fn days(rt: &impl Print, line: &Day) -> io::Result<()> {
 }
 
 fn main(rt: HostRuntime) -> io::Result<()> {
-    days(&rt, &line::day())
+    let distances = line::distances([0, 10, 20, 30, 40]);
+    let day = line::day(&distances);
+    let van = line::van();
+    days(&rt, Line { day: &day, van })
 }

@@ -131,10 +131,7 @@ pub fn write_taken(rest: Option<Taken>, taken: &mut u8, position: &mut usize, st
 pub fn bit_of(b: bool) -> u8
     ensures { result ≡ bit_of b }
 {
-    if b {
-        return 1;
-    }
-    0
+    u8::from(b)
 }
 
 // The distance of a list.

@@ -14,22 +14,22 @@ loop-visit-init c =
 pub returns-then-not-any_left : goal.returns-then-not-any_left
 unfolding of_bits
 returns-then-not-any_left c =
-    schedule_stops _ _ _ _ _ _ _ _ _ c.loop-visit-test.true c.push-clock.ensures c.any_left.ensures (c.if-not-any_left.true)
+    schedule_stops _ _ _ _ _ _ _ _ _ c.loop-visit-test.true (rw c.from-visit.ensures at c.push-clock.ensures) c.any_left.ensures (c.if-not-any_left.true)
     ∙ schedule_is _ _ _ _ _ _ c.new-clock.ensures c.loop-visit.invariant.4
 
 pub loop-visit-preserved : goal.loop-visit-preserved
 unfolding pushed
 loop-visit-preserved c = (
   search rules,
-  c.requires.1.below c.loop-visit.visit-index c.loop-visit-test.true,
-  rw c.push-clock.ensures (c.requires.1.below c.loop-visit.visit-index c.loop-visit-test.true),
+  rw c.from-visit.ensures (c.requires.1.below c.loop-visit.visit-index c.loop-visit-test.true),
+  rw (c.push-clock.ensures, c.from-visit.ensures) (c.requires.1.below c.loop-visit.visit-index c.loop-visit-test.true),
   rw c.push-clock.ensures (ap (λ (n : ℕ). n + 1) c.loop-visit.invariant.3),
-  schedule_turns _ _ _ _ _ _ _ _ c.loop-visit-test.true c.distance-distance.ensures c.push-clock.ensures ∙ c.loop-visit.invariant.4,
+  rw c.from-visit.ensures (schedule_turns _ _ _ _ _ _ _ _ c.loop-visit-test.true (rw c.from-visit.ensures at c.distance-distance.ensures) (rw c.from-visit.ensures at c.push-clock.ensures) ∙ c.loop-visit.invariant.4),
 )
 
 pub returns : goal.returns
 unfolding of_bits
 returns c =
     c.finish.ensures
-    ∙ schedule_ends _ _ _ _ _ _ _ _ c.loop-visit-test.false c.distance-distance-2.ensures
+    ∙ rw c.travel_time-back.ensures (schedule_ends _ _ _ _ _ _ _ _ c.loop-visit-test.false c.distance-distance-2.ensures)
     ∙ schedule_is _ _ _ _ _ _ c.new-clock.ensures c.loop-visit.invariant.4

@@ -7,4 +7,4 @@ use Rattle.cross_blocks.proofs.block_costs.Given as goal
 
 abbrev pub invariant-loop-i : goal.invariant-loop-i
 invariant-loop-i l =
-    (length l.costs ≡ 64) × CostedBlock (lent l.columns) l.van l.list l.other l.kind l.turned l.k l.width l.i l.skip l.costs
+    (length l.costs ≡ 64) × CostedBlock (lent l.columns) l.side.van l.side.list.now l.other l.rows.kind l.turned l.rows.first l.rows.width l.i l.skip l.costs

@@ -6,4 +6,4 @@ use Rattle.cross_blocks.proofs.mark_block.Given as goal
 
 abbrev pub invariant-loop-i : goal.invariant-loop-i
 invariant-loop-i l =
-    (length l.marks ≡ 64) × MarkedBlock l.demand l.van1 l.van2 l.one l.other l.kind l.k l.width l.i l.marks
+    (length l.marks ≡ 64) × MarkedBlock l.demand l.one.van l.other.van l.one.list.now l.other.list.now l.rows.kind l.rows.first l.rows.width l.i l.marks

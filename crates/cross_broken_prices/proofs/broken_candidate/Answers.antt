@@ -21,14 +21,9 @@ unfolding of_bits
 returns-then-from-other_to-eq0-clause-cost_value c =
     cost_none _ _ _ _ _ _ c.requires.driven_le_from.1 c.requires.driven_le_from.2 c.requires.driven_le_from.4 _ _ c.if-from-other_to-eq0.true
 
-pub finish-outcome-requires-clause-tables : goal.finish-outcome-requires-clause-tables
+pub travel_time-back-requires : goal.travel_time-back-requires
 unfolding clock_of
-finish-outcome-requires-clause-tables c =
-    c.args.columns.now.formed.tables
-
-pub finish-outcome-requires-clause-prev_lt_l : goal.finish-outcome-requires-clause-prev_lt_l
-unfolding clock_of
-finish-outcome-requires-clause-prev_lt_l c =
+travel_time-back-requires c =
     (rw c.clock-clock.ensures c.drive_candidate-drive.ensures.to_end.placed, c.requires.driven.0.depot_there)
 
 pub returns-clause-head_of : goal.returns-clause-head_of
@@ -44,4 +39,4 @@ returns-clause-cost_value c =
     cost_on _ _ _ _ c.requires.broken.0 c.args.list.now c.args.other.now _ c.args.to c.args.other_from c.args.other_to _ _
     c.requires.broken.1 c.requires.driven_le_from.0 within _ _ _ _ _ (omega (arith, long, c.requires.driven_le_from.0))
     c.drive_candidate-drive.ensures.to_end
-    (λ e. c.if-from-other_to-eq0.false (sym long ∙ e)) c.distance.ensures c.clock-clock.ensures c.finish-outcome.ensures c.end_cost.ensures
+    (λ e. c.if-from-other_to-eq0.false (sym long ∙ e)) c.distance.ensures c.clock-clock.ensures (rw c.travel_time-back.ensures at c.finish-outcome.ensures) c.end_cost.ensures

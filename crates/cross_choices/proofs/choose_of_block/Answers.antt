@@ -12,17 +12,17 @@ unfolding chosen_by_block
 returns-then-at-count c =
     picked _ _ _ _ (eq-eqb _ _ c.if-at-count.true) refl
 
-pub overflow_add-k : goal.overflow_add-k
-overflow_add-k c =
-    omega (arith, c.requires.k_bound.0, c.requires.k_bound.1, c.requires.k_bound.2, div-le_self c.args.least.at c.args.width)
+pub overflow_add-rows : goal.overflow_add-rows
+overflow_add-rows c =
+    omega (arith, c.requires.0, c.requires.1, c.requires.2, div-le_self c.args.least.at c.args.rows.width)
 
-pub move_of-chosen-requires : goal.move_of-chosen-requires
-move_of-chosen-requires c = (
-  omega (arith, c.requires.k_bound.0, c.requires.k_bound.1, c.requires.k_bound.2, div-le_self c.args.least.at c.args.width),
-  omega (arith, c.requires.k_bound.1, c.requires.k_bound.2, c.if-at-count.false, mod-le c.args.least.at c.args.width),
+pub at-chosen-requires : goal.at-chosen-requires
+at-chosen-requires c = (
+  omega (arith, c.requires.0, c.requires.1, c.requires.2, div-le_self c.args.least.at c.args.rows.width),
+  omega (arith, c.requires.1, c.requires.2, c.if-at-count.false, mod-le c.args.least.at c.args.rows.width),
 )
 
 pub returns : goal.returns
 unfolding chosen_by_block
 returns c =
-    rw c.move_of-chosen.ensures (other _ _ _ _ (ne_eqb _ _ c.if-at-count.false) refl)
+    rw c.at-chosen.ensures (other _ _ _ _ (ne_eqb _ _ c.if-at-count.false) refl)

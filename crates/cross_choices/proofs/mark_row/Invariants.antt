@@ -8,5 +8,5 @@ use Rattle.cross_choices.proofs.mark_row.Given as goal
 
 abbrev pub invariant-loop-j : goal.invariant-loop-j
 invariant-loop-j l =
-    Filled (λ i. mark_of l.tested (holds l.demand l.van1 (changed l.one l.own l.other l.others i)) (holds l.demand l.van2 (changed l.other l.others l.one l.own i)))
+    Filled (λ i. mark_of l.tested (holds l.demand l.one.van (changed l.one.list.now l.own l.other.list.now l.others i)) (holds l.demand l.other.van (changed l.other.list.now l.others l.one.list.now l.own i)))
     (length l.initial.marks) l.marks l.j

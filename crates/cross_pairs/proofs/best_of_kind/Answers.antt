@@ -6,40 +6,35 @@ use Rattle.cross_kinds.specs.Kinds.{rows_in}
 use Rattle.cross_choices.specs.Rows.{best_of_kind}
 use Rattle.cross_kinds.proofs.Along.{rows_few}
 use Rattle.cross_blocks.proofs.Blocks.{scan_on, width_few}
-use Rattle.cross_pairs.proofs.Between.{roomy_kept}
 use Rattle.descent.proofs.Loops.{scan_done}
 use Rattle.cross_pairs.proofs.best_of_kind.Goals as goal
 
 pub loop-k-init : goal.loop-k-init
 unfolding best_of_kind
 loop-k-init c =
-    (c.requires.roomy, refl)
+    refl
 
 pub rows_at_once-some-requires : goal.rows_at_once-some-requires
 rows_at_once-some-requires c =
-    let rows = rows_few c.args.kind (length c.args.one.now) in (
-      omega (arith, c.width_of-width.ensures, width_few c.args.kind (length c.args.other.now), c.requires.ready.two.few),
+    let rows = rows_few c.args.kind (length c.args.one.now.list.now) in (
+      omega (arith, c.width-width.ensures, width_few c.args.kind (length c.args.other.now.list.now), c.requires.ready.two.few),
       omega (arith, c.loop-k-test.true),
-      omega (arith, c.rows_of-rows.ensures, rows, c.requires.ready.two.few),
+      omega (arith, c.rows-all.ensures, rows, c.requires.ready.two.few),
     )
 
-pub best_of_block-found-requires-clause-roomy : goal.best_of_block-found-requires-clause-roomy
-best_of_block-found-requires-clause-roomy c = (
-  c.loop-k.invariant.0,
-  record {
-    within = omega (arith, c.rows_of-rows.ensures, c.rows_at_once-some.ensures.1, c.loop-k-test.true);
-    some = c.rows_at_once-some.ensures.0;
-    room = c.rows_at_once-some.ensures.2;
-    is_width = c.width_of-width.ensures;
-  },
-  refl,
-  refl,
-)
+pub best_of_block-found-requires-clause-block : goal.best_of_block-found-requires-clause-block
+best_of_block-found-requires-clause-block c =
+    record {
+      within = omega (arith, c.rows-all.ensures, c.rows_at_once-some.ensures.1, c.loop-k-test.true);
+      some = c.rows_at_once-some.ensures.0;
+      room = c.rows_at_once-some.ensures.2;
+      is_width = c.width-width.ensures;
+    }
 
 pub overflow_add-k : goal.overflow_add-k
 overflow_add-k c =
-    let rows = rows_few c.args.kind (length c.args.one.now) in
-    omega (arith, c.loop-k-test.true, c.rows_at_once-some.ensures.1, c.rows_of-rows.ensures, rows, c.requires.ready.two.few)
+    let rows = rows_few c.args.kind (length c.args.one.now.list.now) in
+    omega (arith, c.loop-k-test.true, c.rows_at_once-some.ensures.1, c.rows-all.ensures, rows, c.requires.ready.two.few)
 
 pub loop-k-smaller : goal.loop-k-smaller
 loop-k-smaller c =
@@ -47,13 +42,11 @@ loop-k-smaller c =
 
 pub loop-k-preserved : goal.loop-k-preserved
 loop-k-preserved c =
-    let all = rows_in c.args.kind (length c.args.one.now) in (
-      roomy_kept c.loop-k.invariant.0 c.best_of_block-found.auto.costs1 c.best_of_block-found.auto.costs2,
-      scan_on _ _ _ all _ _ c.best_of_block-found.ensures
-          (omega (arith, c.rows_of-rows.ensures, c.rows_at_once-some.ensures.1, c.loop-k-test.true)) ∙ c.loop-k.invariant.1,
-    )
+    let all = rows_in c.args.kind (length c.args.one.now.list.now) in
+    scan_on _ _ _ all _ _ c.best_of_block-found.ensures (omega (arith, c.rows-all.ensures, c.rows_at_once-some.ensures.1, c.loop-k-test.true))
+    ∙ c.loop-k.invariant
 
 pub returns : goal.returns
 returns c =
-    let all = rows_in c.args.kind (length c.args.one.now) in
-    sym (scan_done _ _ all _ (omega (arith, c.rows_of-rows.ensures, c.loop-k-test.false))) ∙ c.loop-k.invariant.1
+    let all = rows_in c.args.kind (length c.args.one.now.list.now) in
+    sym (scan_done _ _ all _ (omega (arith, c.rows-all.ensures, c.loop-k-test.false))) ∙ c.loop-k.invariant

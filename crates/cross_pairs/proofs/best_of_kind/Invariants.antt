@@ -4,17 +4,15 @@ use Prim.Native.Nat.{◌-◌}
 use lib.ListN.{length}
 use Rattle.descent.specs.Order.{range, scan}
 use Rattle.cross_kinds.specs.Kinds.{rows_in}
-use Rattle.cross_choices.specs.Scan.{Roomy}
 use Rattle.cross_choices.specs.Rows.{best_of_row, best_of_kind}
 use Rattle.labels.specs.Lent.{lent}
 use Rattle.cross_pairs.proofs.best_of_kind.Given as goal
 
 abbrev pub invariant-loop-k : goal.invariant-loop-k
 invariant-loop-k l =
-    Roomy l.costs1 l.costs2
-    × (scan (best_of_row (lent l.columns) l.demand l.pair l.one l.other l.kind) (range l.k (rows_in l.kind (length l.one))) l.found
-    ≡ best_of_kind (lent l.columns) l.demand l.pair l.one l.other l.kind l.initial.found)
+    scan (best_of_row (lent l.columns) l.demand l.pair l.one.list.now l.other.list.now l.kind) (range l.k (rows_in l.kind (length l.one.list.now))) l.found
+    ≡ best_of_kind (lent l.columns) l.demand l.pair l.one.list.now l.other.list.now l.kind l.initial.found
 
 abbrev pub decreases-loop-k : goal.decreases-loop-k
 decreases-loop-k l =
-    l.rows - l.k
+    l.all - l.k

@@ -10,5 +10,5 @@ use Rattle.cross_rows.proofs.broken_row.Given as goal
 abbrev pub invariant-loop-j : goal.invariant-loop-j
 invariant-loop-j l =
     let c = lent l.columns in
-    (l.j ≤ l.count) × (l.driven ≤ from_at l.own l.j) × HeadOf c l.rest l.van.depot l.list l.driven l.head
-    × Costing c l.van l.list l.own l.other l.others l.skip (length l.initial.costs) l.costs l.j
+    (l.j ≤ l.count) × (l.driven ≤ from_at l.own l.j) × HeadOf c l.rest l.side.van.depot l.side.list.now l.driven l.head
+    × Costing c l.side.van l.side.list.now l.own l.other l.others l.skip (length l.initial.costs) l.costs l.j

@@ -7,4 +7,4 @@ use Rattle.cross_rows.proofs.unbroken_row.Given as goal
 
 abbrev pub invariant-loop-j : goal.invariant-loop-j
 invariant-loop-j l =
-    (l.j ≤ l.count) × Costing (lent l.columns) l.van l.list l.own l.other l.others l.skip (length l.initial.costs) l.costs l.j
+    (l.j ≤ l.count) × Costing (lent l.columns) l.side.van l.side.list.now l.own l.other l.others l.skip (length l.initial.costs) l.costs l.j

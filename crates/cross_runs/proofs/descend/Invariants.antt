@@ -5,26 +5,21 @@ use Prim.Native.Nat.{◌-◌}
 use lib.ListN.{length}
 use Rattle.edits.specs.Total.{SameVisits}
 use Rattle.cross_moves.specs.CrossDepot.{plan_of}
-use Rattle.cross_deltas.specs.Deltas.{Kept}
+use Rattle.cross_deltas.specs.Deltas.{KeptIn}
 use Rattle.cross_steps.specs.Tables.{plan_in, Live}
 use Rattle.cross_runs.proofs.Going.{Running}
 use Rattle.labels.specs.Lent.{lent}
 use Rattle.cross_runs.proofs.descend.Given as goal
 
-abbrev pub invariant-loop-turn : goal.invariant-loop-turn
-invariant-loop-turn l =
-    Running (lent l.columns) l.demand
-    l.fleet
-    l.limit (plan_of l.initial.visits l.initial.lengths l.initial.ids l.initial.costs) l.moves (plan_in l.turn.left l.visits l.lengths l.ids l.costs)
-    × Live l.columns.locations l.visits l.lengths l.ids l.costs l.turn.left
+abbrev pub invariant-loop-n : goal.invariant-loop-n
+invariant-loop-n l =
+    Running (lent l.terms.columns.now) l.terms.demand.now l.terms.fleet.now
+    l.limit (plan_of l.initial.visits l.initial.lengths l.initial.ids l.initial.costs) l.moves (plan_in l.left l.visits l.lengths l.ids l.costs)
+    × Live l.terms.columns.now.locations l.visits l.lengths l.ids l.costs l.left
     × (length l.lengths ≡ length l.initial.lengths)
     × SameVisits l.initial.visits l.visits
-    × Kept (lent l.columns) l.demand
-    l.fleet
-    (plan_in l.turn.left l.visits l.lengths l.ids l.costs) l.floor l.turn.kept l.turn.one l.turn.other 0 l.deltas
-    × (length l.deltas ≡ 256)
-    × ((length l.sums ≡ 128) × (length l.heads ≡ 512) × (length l.tried_costs ≡ 64))
+    × KeptIn (lent l.terms.columns.now) l.terms.demand.now l.terms.fleet.now (plan_in l.left l.visits l.lengths l.ids l.costs) l.terms.floor 0 l.deltas
 
-abbrev pub decreases-loop-turn : goal.decreases-loop-turn
-decreases-loop-turn l =
+abbrev pub decreases-loop-n : goal.decreases-loop-n
+decreases-loop-n l =
     l.limit - l.moves

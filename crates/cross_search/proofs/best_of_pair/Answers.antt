@@ -7,13 +7,16 @@ pub returns-then-is_same_depot : goal.returns-then-is_same_depot
 returns-then-is_same_depot c =
     pair_same _ _ _ _ _ _ _ _ _ _ _ c.pair_at-pair.ensures _ c.is_same_depot.ensures c.if-is_same_depot.true
 
-pub between_lists-requires-clause-asked : goal.between_lists-requires-clause-asked
-between_lists-requires-clause-asked c =
-    let apart = pair_apart _ _ _ _ _ _ c.pair_at-pair.ensures _ c.is_same_depot.ensures c.if-is_same_depot.false in (
-      c.requires.asked,
-      rw c.pair_at-pair.ensures (pair_driven _ _ _ _ _ _ c.requires.manned),
-      rw (c.list_of-one.ensures, c.list_of-other.ensures) (two_of _ _ _ c.requires.held.0 _ _ apart),
-    )
+pub between_lists-requires : goal.between_lists-requires
+between_lists-requires c =
+    let apart = pair_apart _ _ _ _ _ _ c.pair_at-pair.ensures _ c.is_same_depot.ensures c.if-is_same_depot.false in
+    record {
+      asked = (
+        c.args.terms.now.asked,
+        rw c.pair_at-pair.ensures (pair_driven _ _ _ _ _ _ c.args.terms.now.manned),
+        rw (c.list_of-one.ensures, c.list_of-other.ensures) (two_of _ _ _ c.requires.held _ _ apart),
+      );
+    }
 
 pub returns : goal.returns
 returns c =

@@ -4,20 +4,18 @@ use Rattle.cross_steps.proofs.take_turn.Goals as goal
 
 pub best_move-best-requires-clause-held : goal.best_move-best-requires-clause-held
 best_move-best-requires-clause-held c =
-    asks_part _ _ _ _ _ _ c.requires.live
+    (asks_part _ _ _ _ _ _ c.requires.live).0
 
 pub best_move-best-requires-clause-kept : goal.best_move-best-requires-clause-kept
 best_move-best-requires-clause-kept c =
-    kept_part _ _ _ _ _ _ _ _ c.args.last.left _ _ _ _ _ c.requires.kept
+    kept_part _ _ _ _ _ _ _ _ c.args.n _ _ c.requires.kept
 
 pub make_found-requires-clause-makes : goal.make_found-requires-clause-makes
 make_found-requires-clause-makes c =
-    let chosen = chosen_in _ _ _ _ _ _ _ _ _ c.requires.live _ c.requires.asked.1 _ c.best_move-best.ensures.value in
+    let chosen = chosen_in _ _ _ _ _ _ _ _ _ c.requires.live _ c.requires.floor _ c.best_move-best.ensures.value in
     (chosen.makes, c.requires.live.few)
 
 pub returns : goal.returns
 returns c =
-    turned _ _ _ _ _ _ _ _ _ _ _ c.requires.live c.requires.asked.1 _ c.best_move-best.ensures.value _ _ _ _ _ _ _ _
-    c.best_move-best.ensures.kept_2 _
-    c.make_found.ensures
-    c.make_found.auto.lengths c.make_found.auto.ids c.make_found.auto.costs
+    turned _ _ _ _ _ _ _ _ _ _ _ c.requires.live c.requires.floor _ c.best_move-best.ensures.value _ _ _ _ _ _
+    c.best_move-best.ensures.kept_2 c.make_found.auto.lengths c.make_found.auto.ids c.make_found.auto.costs _ c.make_found.ensures

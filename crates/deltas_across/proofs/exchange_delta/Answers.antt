@@ -5,11 +5,10 @@ use Rattle.deltas_across.proofs.exchange_delta.Goals as goal
 
 pub tails_change-requires : goal.tails_change-requires
 tails_change-requires c = (
-  c.requires.square.0,
   rw c.around-edge1.ensures
-      (around_placed _ _ _ c.requires.square.1 _ _),
+      (around_placed _ _ _ c.requires.listed.0 _ _),
   rw c.around-edge2.ensures
-      (around_placed _ _ _ c.requires.square.2 _ _),
+      (around_placed _ _ _ c.requires.listed.1 _ _),
 )
 
 pub returns : goal.returns

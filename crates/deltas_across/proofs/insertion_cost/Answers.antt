@@ -5,11 +5,10 @@ use Rattle.deltas_across.proofs.insertion_cost.Goals as goal
 
 pub detour-requires : goal.detour-requires
 detour-requires c = (
-  c.requires.0,
   rw c.around-stops.ensures
-      (around_placed _ _ _ c.requires.1 _ _),
+      (around_placed _ _ _ c.requires.0 _ _),
   record
-      { from_there = c.requires.2; to_there = c.requires.2 },
+      { from_there = c.requires.1; to_there = c.requires.1 },
 )
 
 pub returns : goal.returns

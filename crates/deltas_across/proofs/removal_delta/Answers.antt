@@ -5,11 +5,10 @@ use Rattle.deltas_across.proofs.removal_delta.Goals as goal
 
 pub removal_cost-requires : goal.removal_cost-requires
 removal_cost-requires c = (
-  c.requires.0,
   rw c.around-stops.ensures
-      (around_placed _ _ _ c.requires.1 _ _),
+      (around_placed _ _ _ c.requires.0 _ _),
   rw c.stop_at-visit.ensures
-      (stop_there _ _ _ c.requires.1 _),
+      (stop_there _ _ _ c.requires.0 _),
 )
 
 pub returns : goal.returns

@@ -6,11 +6,10 @@ use Rattle.deltas_three_opt.proofs.pattern_change.Goals as goal
 pub through_if-legs-requires : goal.through_if-legs-requires
 through_if-legs-requires c = (
   c.requires.0,
-  c.requires.1,
   rw
-      c.turned_if-new_b.ensures (turned_placed _ _ _ c.requires.2),
+      c.turned_if-new_b.ensures (turned_placed _ _ _ c.requires.1),
   rw c.turned_if-new_c.ensures
-      (turned_placed _ _ _ c.requires.3),
+      (turned_placed _ _ _ c.requires.2),
 )
 
 pub returns : goal.returns

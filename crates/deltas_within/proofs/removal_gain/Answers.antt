@@ -5,11 +5,10 @@ use Rattle.deltas_within.proofs.removal_gain.Goals as goal
 
 pub detour-requires : goal.detour-requires
 detour-requires c = (
-  c.requires.square.0,
   rw c.around-stops.ensures
-      (around_placed _ _ _ c.requires.square.1 _ _),
+      (around_placed _ _ _ c.requires.listed _ _),
   rw c.ends_of-piece.ensures
-      (ends_placed _ _ _ c.requires.square.1 _ _),
+      (ends_placed _ _ _ c.requires.listed _ _),
 )
 
 pub returns : goal.returns

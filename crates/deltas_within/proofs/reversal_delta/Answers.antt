@@ -8,7 +8,7 @@ use Rattle.deltas_within.proofs.reversal_delta.Goals as goal
 pub returns-then-symmetric : goal.returns-then-symmetric
 unfolding of_bits
 returns-then-symmetric c =
-    sym (marked_nothing c.args.l c.args.distances.now c.args.symmetric c.requires.square.0 c.requires.square.1 c.if-symmetric.true c.args.list.now c.requires.square.2 c.args.first (c.args.last + 1))
+    sym (marked_nothing c.args.matrix.now.size c.args.matrix.now.entries.now c.args.symmetric c.args.matrix.now.square c.requires.listed.0 c.if-symmetric.true c.args.list.now c.requires.listed.1 c.args.first (c.args.last + 1))
 
 pub returns : goal.returns
 returns c =

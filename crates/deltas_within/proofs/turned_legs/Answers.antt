@@ -15,9 +15,8 @@ loop-k-init c =
 
 pub turned_leg-sum-requires : goal.turned_leg-sum-requires
 turned_leg-sum-requires c = (
-  c.requires.square.0,
-  rw c.visit_at-x.ensures (c.requires.square.1 c.loop-k.k (omega arith)),
-  rw c.visit_at-y.ensures (c.requires.square.1 (c.loop-k.k + 1) (omega arith)),
+  rw c.visit_at-x.ensures (c.requires.listed c.loop-k.k (omega arith)),
+  rw c.visit_at-y.ensures (c.requires.listed (c.loop-k.k + 1) (omega arith)),
 )
 
 pub loop-k-preserved : goal.loop-k-preserved

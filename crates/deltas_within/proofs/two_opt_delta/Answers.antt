@@ -5,11 +5,10 @@ use Rattle.deltas_within.proofs.two_opt_delta.Goals as goal
 
 pub turn_change-requires : goal.turn_change-requires
 turn_change-requires c = (
-  c.requires.square.0,
   rw c.around-stops.ensures
-      (around_placed _ _ _ c.requires.square.2 _ _),
+      (around_placed _ _ _ c.requires.listed.1 _ _),
   rw c.ends_of-piece.ensures
-      (ends_placed _ _ _ c.requires.square.2 _ _),
+      (ends_placed _ _ _ c.requires.listed.1 _ _),
 )
 
 pub returns : goal.returns

@@ -19,7 +19,7 @@ returns-in_default c =
       within = c.loop-i.invariant.1;
       placed = c.loop-i.invariant.2;
       same = c.loop-i.invariant.3;
-      lost = λ h. tick_is _ _ _ _ _ _ _ _ c.travel_time-travel.ensures c.stop-stop.ensures c.serve-reached.ensures c.in_default.is;
+      lost = λ h. tick_is _ _ _ _ _ _ _ _ (rw c.from-visit.ensures at c.travel_time-travel.ensures) (rw c.from-visit.ensures at c.stop-stop.ensures) c.serve-reached.ensures c.in_default.is;
     }
 
 pub loop-i-preserved : goal.loop-i-preserved
@@ -27,9 +27,9 @@ loop-i-preserved c =
     let here : c.loop-i.i < length c.args.list.now = omega (arith, c.loop-i-test.true, c.requires.3) in (
       omega (arith, c.loop-i.invariant.0),
       omega (arith, c.loop-i-test.true),
-      c.requires.1.below c.loop-i.i here,
-      drive_turn _ _ _ _ _ _ _ _ _ _ c.loop-i.invariant.0 here c.loop-i.invariant.3 c.distance-leg.ensures
-          (tick_is _ _ _ _ _ _ _ _ c.travel_time-travel.ensures c.stop-stop.ensures c.serve-reached.ensures c.in-Some.is),
+      rw c.from-visit.ensures (c.requires.1.below c.loop-i.i here),
+      rw c.from-visit.ensures (drive_turn _ _ _ _ _ _ _ _ _ _ c.loop-i.invariant.0 here c.loop-i.invariant.3 (rw c.from-visit.ensures at c.distance-leg.ensures)
+          (tick_is _ _ _ _ _ _ _ _ (rw c.from-visit.ensures at c.travel_time-travel.ensures) (rw c.from-visit.ensures at c.stop-stop.ensures) c.serve-reached.ensures c.in-Some.is)),
     )
 
 pub returns : goal.returns

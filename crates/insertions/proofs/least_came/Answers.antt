@@ -1,11 +1,9 @@
 -- `least_came`: each arm is the definition's case.
 use mathlib.Core.Path.{refl}
-use native.Mathlib.Omega.{arith}
 use borrow.Author.Tests.{eq-eqb, ne_eqb}
 use Rattle.tests.specs.Pick.{picked, other}
 use Rattle.tests.specs.Pick.{no, yes}
-use Rattle.descent.proofs.Members.{true-T}
-use Rattle.day.specs.Matrix.{leg}
+use Rattle.day.specs.Legs.{leg_of}
 use Rattle.deltas.specs.Deltas.{insertion_delta}
 use Rattle.insertions.specs.Cache.{least_came}
 use Rattle.insertions.proofs.Reached.{came_tried}
@@ -24,24 +22,12 @@ returns-then-known-position c =
     picked _ _ _ _ (yes _ _ c.is_finite.ensures.answer (ap not c.if-not-is_finite.false))
     (picked _ _ _ _ (eq-eqb _ _ c.if-known-position.true) c.forget.ensures)
 
-pub insertion_delta-before-requires : goal.insertion_delta-before-requires
-insertion_delta-before-requires c =
-    (c.requires.square.0, c.requires.square.1, c.requires.square.2, omega (arith, c.from-at.ensures, c.requires.position_in_bounds.0))
-
-pub insertion_delta-behind-requires : goal.insertion_delta-behind-requires
-insertion_delta-behind-requires c =
-    (c.requires.square.0, c.requires.square.1, c.requires.square.2, omega (arith, c.from-at.ensures, c.requires.position_in_bounds.0))
-
-pub moved_up-requires : goal.moved_up-requires
-moved_up-requires c =
-    c.requires.position_in_bounds.2 (true-T _ (yes _ _ c.is_finite.ensures.answer (ap not c.if-not-is_finite.false)))
-
 pub returns : goal.returns
 unfolding least_came
 returns c =
     picked _ _ _ _ (yes _ _ c.is_finite.ensures.answer (ap not c.if-not-is_finite.false))
     (other _ _ _ _ (ne_eqb _ _ c.if-known-position.false)
     (came_tried c.args.known c.args.position _ c.from-at.ensures _
-    (insertion_delta (leg c.args.l c.args.distances.now) c.args.depot c.args.fixed
+    (insertion_delta (leg_of c.args.matrix.now) c.args.depot c.args.fixed
     c.args.list.now c.args.visit) _ _ _ _ c.insertion_delta-before.ensures c.insertion_delta-behind.ensures
     c.moved_up.ensures c.first_of-one.ensures c.first_of.ensures))

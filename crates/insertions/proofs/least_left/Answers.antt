@@ -1,9 +1,8 @@
 -- `least_left`: each arm is the definition's case.
 use mathlib.Core.Path.{refl, sym, ◌∙◌}
-use native.Mathlib.Omega.{arith}
 use Rattle.tests.specs.Pick.{picked, other}
 use Rattle.tests.specs.Pick.{no, yes}
-use Rattle.day.specs.Matrix.{leg}
+use Rattle.day.specs.Legs.{leg_of}
 use Rattle.deltas.specs.Deltas.{insertion_delta}
 use Rattle.insertions.specs.Cache.{least_left}
 use Rattle.insertions.proofs.Reached.{left_tried}
@@ -22,16 +21,12 @@ returns-then-is_vanished c =
     picked _ _ _ _ (yes _ _ c.is_finite.ensures.answer (ap not c.if-not-is_finite.false))
     (picked _ _ _ _ (sym c.is_vanished.ensures ∙ c.if-is_vanished.true) c.forget.ensures)
 
-pub insertion_delta-figure-requires : goal.insertion_delta-figure-requires
-insertion_delta-figure-requires c =
-    (c.requires.square.0, c.requires.square.1, c.requires.square.2, omega (arith, c.from.ensures, c.requires.position_in_bounds.0))
-
 pub returns : goal.returns
 unfolding least_left
 returns c =
     picked _ _ _ _ (yes _ _ c.is_finite.ensures.answer (ap not c.if-not-is_finite.false))
     (other _ _ _ _ (sym c.is_vanished.ensures ∙ c.if-is_vanished.false)
     (left_tried c.args.known c.args.position _ c.from.ensures _
-    (insertion_delta (leg c.args.l c.args.distances.now) c.args.depot c.args.fixed
+    (insertion_delta (leg_of c.args.matrix.now) c.args.depot c.args.fixed
     c.args.list.now c.args.visit) _ _ c.insertion_delta-figure.ensures c.moved_down.ensures
     c.first_of.ensures))

@@ -8,12 +8,13 @@ loop-visit-init c =
 
 pub returns-then-seen-office : goal.returns-then-seen-office
 returns-then-seen-office c =
-    seen_again _ _ _ c.loop-visit.invariant c.loop-visit-test.true c.if-seen-office.true
+    seen_again _ _ _ c.loop-visit.invariant c.loop-visit-test.true (rw c.from-office.ensures at c.if-seen-office.true)
 
 pub loop-visit-preserved : goal.loop-visit-preserved
 loop-visit-preserved c =
     let there = c.loop-visit-test.true in
-    seen_turns _ _ _ c.loop-visit.invariant there (c.requires c.loop-visit.visit-index there) c.if-seen-office.false
+    rw c.from-office.ensures (seen_turns _ _ _ c.loop-visit.invariant there (c.requires c.loop-visit.visit-index there)
+    (rw c.from-office.ensures at c.if-seen-office.false))
 
 pub returns : goal.returns
 returns c =

@@ -8,8 +8,8 @@ boxes_of-requires-clause-visit_in_bounds c =
 
 pub boxes_of-requires-clause-pos_value : goal.boxes_of-requires-clause-pos_value
 boxes_of-requires-clause-pos_value c =
-    c.requires.0.in_range _ c.requires.2
+    rw c.from-visit.ensures (c.requires.0.in_range _ c.requires.2)
 
 pub returns : goal.returns
 returns c =
-    c.boxes_of.ensures.0
+    rw c.from-visit.ensures at c.boxes_of.ensures.0

@@ -13,17 +13,17 @@ boxes_of-load-requires-clause-visit_in_bounds c =
 
 pub boxes_of-load-requires-clause-pos_value : goal.boxes_of-load-requires-clause-pos_value
 boxes_of-load-requires-clause-pos_value c =
-    c.requires.0.in_range _ (c.requires.1.below _ c.loop-visit-test.true)
+    rw c.from.ensures (c.requires.0.in_range _ (c.requires.1.below _ c.loop-visit-test.true))
 
 pub overflow_add-load : goal.overflow_add-load
 overflow_add-load c =
     let small = sum_small _ _ _ c.requires.0 c.requires.1.below c.requires.1.few _ _ _ c.loop-visit-test.true c.loop-visit.invariant
-    c.boxes_of-load.ensures.0 in
+    (rw c.from.ensures at c.boxes_of-load.ensures.0) in
     omega (arith, small.0, small.1)
 
 pub loop-visit-preserved : goal.loop-visit-preserved
 loop-visit-preserved c =
-    load_more _ _ _ _ _ c.loop-visit-test.true c.loop-visit.invariant c.boxes_of-load.ensures.0
+    load_more _ _ _ _ _ c.loop-visit-test.true c.loop-visit.invariant (rw c.from.ensures at c.boxes_of-load.ensures.0)
 
 pub returns : goal.returns
 returns c =

@@ -13,6 +13,6 @@ use Rattle.places.proofs.best_place.Given as goal
 abbrev pub invariant-loop-place : goal.invariant-loop-place
 invariant-loop-place l =
     let cost : ℕ → _ = insertion_delta (leg l.columns.locations l.columns.distances.now) l.setup.depot l.setup.fixed l.list l.offer.visit in
-    (best_among (lent l.columns) l.setup l.list l.offer (range l.place (suc (length l.list))) l.after
+    (best_among (lent l.columns) l.setup l.list l.offer (range l.place-counter (suc (length l.list))) l.after
     ≡ best_among (lent l.columns) l.setup l.list l.offer (range 0 (suc (length l.list))) l.initial.after)
-    × (l.least ≡ least_below cost l.place) × (l.place ≤ suc (length l.list)) × (length l.buffer ≡ length l.initial.buffer)
+    × (l.least ≡ least_below cost l.place-counter) × (l.place-counter ≤ suc (length l.list))

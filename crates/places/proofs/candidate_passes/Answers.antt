@@ -1,6 +1,4 @@
 -- `candidate_passes`: where no check is needed the definition doesn't ask; else the buffer's front is the candidate, and the callee answers.
-use mathlib.Core.Path.{ap, ◌∙◌}
-use native.Mathlib.Omega.{arith}
 use borrow.Author.Tests.{not-true}
 use Rattle.tests.specs.All.{off}
 use Rattle.engine.specs.Engine.{passing}
@@ -13,14 +11,6 @@ unfolding passing
 returns-then-not-setup c =
     off _ _ (not-true c.args.setup.needed c.if-not-setup.true)
 
-pub inserted_into-end-requires : goal.inserted_into-end-requires
-inserted_into-end-requires c =
-    (c.requires.visits.3, omega (arith, c.requires.in_bounds, c.requires.visits.1))
-
-pub slice_bounds-passes-end : goal.slice_bounds-passes-end
-slice_bounds-passes-end c =
-    omega (arith, c.inserted_into-end.ensures.value, c.inserted_into-end.auto.buffer, c.requires.in_bounds, c.requires.visits.1)
-
 pub passes-requires : goal.passes-requires
 passes-requires c = (
   c.requires.prepared.depot_there,
@@ -28,8 +18,3 @@ passes-requires c = (
       (visits_inserted _ c.args.list.now c.args.visit c.args.place c.requires.visits.0 c.requires.visits.1
       c.requires.visits.2),
 )
-
-pub returns : goal.returns
-returns c =
-    c.passes.ensures ∙ ap (passing _ _ _ _) (front c.inserted_into-end.result c.inserted_into-end.new.buffer _
-    c.inserted_into-end.ensures.buffer_after)

@@ -1,18 +1,12 @@
 -- `search_all`: before each row, the pairs of the rows before it are right.
 use mathlib.Core.Path.{◌≡◌}
-use Prim.Native.Nat.{◌≤◌}
 use lib.ListN.{length}
 use Rattle.lists.specs.Table.{lists}
-use Rattle.pairs.specs.Pairs.{table, Before}
-use Rattle.offers.specs.Offers.{Cached}
+use Rattle.pairs.specs.Pairs.{Before}
 use Rattle.relocations.specs.Relocations.{PairsRight}
-use Rattle.labels.specs.Lent.{lent}
 use Rattle.relocations.proofs.search_all.Given as goal
 
 abbrev pub invariant-loop-from : goal.invariant-loop-from
-invariant-loop-from l =
-    PairsRight (lent l.columns) l.demand l.setup (lists l.visits l.lengths) (length l.lengths)
-    (Before l.from 0) (table l.deltas l.positions l.to_places)
-    × Cached (lent l.columns) l.setup (lists l.visits l.lengths) l.figures l.places × (l.from ≤ length l.lengths)
-    × (length l.buffer ≡ length l.initial.buffer) × (length l.figures ≡ length l.initial.figures) × (length l.places ≡ length l.initial.places)
-    × (length l.deltas ≡ length l.initial.deltas) × (length l.positions ≡ length l.initial.positions) × (length l.to_places ≡ length l.initial.to_places)
+invariant-loop-from g l =
+    PairsRight (g.E.PairSearch.terms l.initial.engine) (lists l.visits l.lengths) (length l.lengths) (Before l.from 0) l.table
+    × (g.E.PairSearch.terms l.engine ≡ g.E.PairSearch.terms l.initial.engine) × g.E.PairSearch.ready l.engine l.visits l.lengths

@@ -8,7 +8,7 @@ use Rattle.soft_offers.proofs.best_of_pair.Goals as goal
 
 pub loop-position-init : goal.loop-position-init
 loop-position-init c =
-    (rw c.nothing_below-best.ensures, omega arith, refl, rw c.at_depot-head.ensures (depot_driven _ _ _ _ c.requires.prepared.depot_there))
+    (rw c.none_below-best.ensures, omega arith, refl, rw c.at_depot-head.ensures (depot_driven _ _ _ _ c.requires.prepared.depot_there))
 
 pub reach-head-requires-clause-depot_lt_l : goal.reach-head-requires-clause-depot_lt_l
 reach-head-requires-clause-depot_lt_l c =

@@ -9,11 +9,11 @@ returns-then-not-is_finite c =
     elim c.then-not-is_finite.branch [
       | then-not-is_finite-via-then-not-is_finite w ↦ unpriced_as _ c.args.demand.now c.args.setup c.args.giver.now c.args.receiver.now _ _ _ _
           c.price_of-old_from.ensures c.price_of-old_to.ensures _ _ _
-          c.is_finite.ensures.answer refl refl _ (rw w.if-not-is_finite.true) c.nothing_below.ensures
+          c.is_finite.ensures.answer refl refl _ (rw w.if-not-is_finite.true) c.none_below.ensures
       | then-not-is_finite-via-else-not-is_finite+then-not-is_finite-2 w ↦ unpriced_as _ c.args.demand.now c.args.setup c.args.giver.now
           c.args.receiver.now _ _ _ _ c.price_of-old_from.ensures c.price_of-old_to.ensures _ _ _
           c.is_finite.ensures.answer w.is_finite-else-not-is_finite.ensures.answer refl _
-          (rw (w.if-not-is_finite.false, w.if-not-is_finite-2.true)) c.nothing_below.ensures
+          (rw (w.if-not-is_finite.false, w.if-not-is_finite-2.true)) c.none_below.ensures
     ]
 
 pub load_of-load-requires : goal.load_of-load-requires

@@ -1,5 +1,6 @@
 -- `best_place`: before each place, the best among the places from here on is the best among all; the front of the buffer is the list with the visit at this
 -- place, and behind the list's head it is what is priced.
+use borrow.Author.Rules.{rules}
 use mathlib.Core.Path.{refl, sym, ap, ◌∙◌}
 use Prim.Native.Nat.{◌+◌, ◌-◌}
 use native.Mathlib.Omega.{arith}
@@ -63,8 +64,9 @@ returns-then-place-list c =
     let new = c.price_from-new.ensures ∙ price_inserted _ _ _ c.args.list.now c.reach-head.result c.reach-head.ensures.driven_2
     c.args.offer.visit c.loop-place.place c.inserted_first-end.result
     c.loop-place.buffer (c.reach-head.ensures.visits_le_to, c.loop-place.invariant.2) c.inserted_first-end.ensures.value c.loop-place.invariant.1 in
-    let turn = among_turn _ c.args.list.now c.args.offer c.loop-place.after c.loop-place.place _ _ c.loop-place.invariant.2 new c.better_of-after.ensures in
-    sym (among_end _ c.args.list.now c.args.offer _ (c.loop-place.place + 1) (omega (arith, c.if-place-list.true))) ∙ turn ∙ c.loop-place.invariant.0
+    let turn = among_turn _ _ _ c.args.list.now c.args.offer c.loop-place.after c.loop-place.place _ _ _ c.loop-place.invariant.2 new
+    (λ e. let told = c.better_of-after.ensures.1 e in search rules) c.better_of-after.ensures.2 in
+    sym (among_end _ _ _ c.args.list.now c.args.offer _ (c.loop-place.place + 1) (omega (arith, c.if-place-list.true))) ∙ turn ∙ c.loop-place.invariant.0
 
 pub step_on-requires : goal.step_on-requires
 step_on-requires c = (
@@ -93,7 +95,8 @@ loop-place-preserved c =
     let new = c.price_from-new.ensures ∙ price_inserted _ _ _ c.args.list.now c.reach-head.result c.reach-head.ensures.driven_2
     c.args.offer.visit c.loop-place.place c.inserted_first-end.result
     c.loop-place.buffer (c.reach-head.ensures.visits_le_to, c.loop-place.invariant.2) c.inserted_first-end.ensures.value c.loop-place.invariant.1 in
-    let turn = among_turn _ c.args.list.now c.args.offer c.loop-place.after c.loop-place.place _ _ c.loop-place.invariant.2 new c.better_of-after.ensures in
+    let turn = among_turn _ _ _ c.args.list.now c.args.offer c.loop-place.after c.loop-place.place _ _ _ c.loop-place.invariant.2 new
+    (λ e. let told = c.better_of-after.ensures.1 e in search rules) c.better_of-after.ensures.2 in
     let on = stepped c.args.list.now c.args.offer.visit c.loop-place.place c.inserted_first-end.result c.loop-place.buffer
     (omega (arith, c.if-place-list.false, c.loop-place.invariant.2))
     (omega (arith, c.inserted_first-end.ensures.value)) c.loop-place.invariant.1 in (

@@ -12,8 +12,8 @@ use Rattle.soft_places.proofs.best_place.Given as goal
 abbrev pub invariant-loop-place : goal.invariant-loop-place
 invariant-loop-place l =
     let day = lent l.columns in
-    (best_among (price_of day l.setup) l.list l.offer (range l.place (suc (length l.list))) l.after
-    ≡ best_among (price_of day l.setup) l.list l.offer (range 0 (suc (length l.list))) l.initial.after)
+    (best_among (price_of day l.setup) l.old l.paid l.list l.offer (range l.place (suc (length l.list))) l.after
+    ≡ best_among (price_of day l.setup) l.old l.paid l.list l.offer (range 0 (suc (length l.list))) l.initial.after)
     × (take l.end l.buffer ≡ inserted l.list l.offer.visit l.place) × (l.place ≤ length l.list) × (length l.buffer ≡ length l.initial.buffer) × DrivenBy day l.setup l.list l.head
 
 abbrev pub decreases-loop-place : goal.decreases-loop-place

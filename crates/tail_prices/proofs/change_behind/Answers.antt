@@ -6,18 +6,20 @@ use Rattle.tail_prices.proofs.change_behind.Goals as goal
 
 pub price_from-new1-requires : goal.price_from-new1-requires
 price_from-new1-requires c =
-    (c.requires.depot_lt_l, c.requires.driven_by.0.placed, tail_visits _ _ _ c.requires.two.0 _ c.requires.two.2)
+    let two = c.args.two.now in
+    (two.depot_there, c.requires.driven1.0.placed, tail_visits _ _ _ two.visits _ c.requires.within.other)
 
 pub price_from-new2-requires : goal.price_from-new2-requires
 price_from-new2-requires c =
-    (c.requires.depot_lt_l, c.requires.driven_by.1.placed, tail_visits _ _ _ (two_turned _ _ _ c.requires.two.0) _ c.requires.two.1)
+    let two = c.args.two.now in
+    (two.depot_there, c.requires.driven2.0.placed, tail_visits _ _ _ (two_turned _ _ _ two.visits) _ c.requires.within.one)
 
 pub returns : goal.returns
 returns c =
+    let two = c.args.two.now in
+    let within = c.requires.within in
     let new1 = c.price_from-new1.ensures
-    ∙ price_behind _ _ _ c.args.one.now c.args.other.now c.args.cut1 c.args.cut2 c.args.driven1 c.requires.driven_by.0 c.requires.visits_value.0
-    (c.requires.two.1, c.requires.two.2) in
+    ∙ price_behind _ _ _ two.one.now two.other.now c.args.cut1 c.args.cut2 c.args.driven1 c.requires.driven1.0 c.requires.driven1.1 (within.one, within.other) in
     let new2 = c.price_from-new2.ensures
-    ∙ price_behind _ _ _ c.args.other.now c.args.one.now c.args.cut2 c.args.cut1 c.args.driven2 c.requires.driven_by.1 c.requires.visits_value.1
-    (c.requires.two.2, c.requires.two.1) in
-    same-change _ c.args.terms _ _ _ _ c.args.figures c.requires.priced _ _ _ new1 new2 c.change_by.ensures
+    ∙ price_behind _ _ _ two.other.now two.one.now c.args.cut2 c.args.cut1 c.args.driven2 c.requires.driven2.0 c.requires.driven2.1 (within.other, within.one) in
+    same-change two c.args.figures _ _ c.requires.priced _ _ _ new1 new2 c.change_by.ensures

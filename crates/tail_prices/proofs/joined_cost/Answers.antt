@@ -1,20 +1,13 @@
 -- `joined_cost`: the buffer's front is the head and the tail, and the callee prices it.
 use mathlib.Core.Path.{ap, ◌∙◌}
 use Rattle.evaluation.specs.Route.{effective_cost}
-use Rattle.edits.proofs.Cuts.{front}
-use Rattle.tail_candidates.proofs.Joined.{visits_joined, built}
+use Rattle.tail_candidates.proofs.Joined.{visits_joined}
 use Rattle.tail_prices.proofs.joined_cost.Goals as goal
 
 pub effective_cost-requires : goal.effective_cost-requires
 effective_cost-requires c =
-    let whole = front c.append_stretch-end.result c.append_stretch-end.new.buffer _
-    (built c.args.one.now c.args.other.now c.args.cut1 c.args.cut2 c.append_stretch-head.ensures.appended.filled
-    c.append_stretch-end.ensures.appended.filled) in
-    (c.requires.depot_lt_l, rw whole (visits_joined _ _ _ c.requires.two c.args.cut1 c.args.cut2 c.requires.cut1_in_bounds.0))
+    (c.requires.depot_lt_l, rw c.join-end.ensures.joined (visits_joined _ _ _ c.requires.two c.args.cut1 c.args.cut2 c.requires.cut1_in_bounds.0))
 
 pub returns : goal.returns
 returns c =
-    let whole = front c.append_stretch-end.result c.append_stretch-end.new.buffer _
-    (built c.args.one.now c.args.other.now c.args.cut1 c.args.cut2 c.append_stretch-head.ensures.appended.filled
-    c.append_stretch-end.ensures.appended.filled) in
-    c.effective_cost.ensures ∙ ap (effective_cost _ _ _) whole
+    c.effective_cost.ensures ∙ ap (effective_cost _ _ _) c.join-end.ensures.joined

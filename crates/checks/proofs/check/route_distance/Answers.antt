@@ -18,10 +18,16 @@ pub list_of-requires : goal.list_of-requires
 list_of-requires c =
     listed _ _ _ _ _ (sym c.in_ok-refusal_of.ensures.answer)
 
+pub invariant_of-distances : goal.invariant_of-distances
+invariant_of-distances c = record {
+  square = rw (ap (λ (d : Day). d.l) c.day.view_is, ap (λ (d : Day). d.distances) c.day.view_is)
+      (drivable _ _ _ _ _ (sym c.in_ok-refusal_of.ensures.answer) _ refl).0;
+}
+
 pub route_distance-distance-requires : goal.route_distance-distance-requires
 route_distance-distance-requires c =
-    rw (ap (λ (d : Day). d.l) c.day.view_is, ap (λ (d : Day). d.distances) c.day.view_is)
-    (drivable _ _ _ _ _ (sym c.in_ok-refusal_of.ensures.answer) _ c.list_of.ensures)
+    let there = drivable _ _ _ _ _ (sym c.in_ok-refusal_of.ensures.answer) _ c.list_of.ensures in
+    rw (ap (λ (d : Day). d.l) c.day.view_is) (there.1, there.2)
 
 pub returns : goal.returns
 unfolding distance_answer

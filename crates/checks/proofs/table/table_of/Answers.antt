@@ -11,10 +11,11 @@ unfolding table_answer
 returns-in_err-day_and_van_refusal c =
     record { answer = handed_on _ _ _ _ c.from_residual.ensures.1 c.in_err-day_and_van_refusal.ensures.answer }
 
-pub is_symmetric-requires : goal.is_symmetric-requires
-is_symmetric-requires c =
-    rw (ap (λ (d : Day). d.l) c.day.view_is, ap (λ (d : Day). d.distances) c.day.view_is)
-    (square_fine _ _ (sym c.in_ok-day_and_van_refusal.ensures.answer))
+pub invariant_of-distances : goal.invariant_of-distances
+invariant_of-distances c = record {
+  square = rw (ap (λ (d : Day). d.l) c.day.view_is, ap (λ (d : Day). d.distances) c.day.view_is)
+      (square_fine _ _ (sym c.in_ok-day_and_van_refusal.ensures.answer));
+}
 
 pub returns : goal.returns
 unfolding table_answer

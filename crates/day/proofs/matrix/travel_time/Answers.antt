@@ -4,18 +4,14 @@ use Rattle.tests.specs.Pick.{picked, other}
 use Rattle.day.specs.Matrix.{travel}
 use Rattle.day.proofs.matrix.travel_time.Goals as goal
 
-pub get-requires : goal.get-requires
-get-requires c =
-    (c.requires.0.of_distances, c.requires.1, c.requires.2)
-
 pub returns-then-times-eq0 : goal.returns-then-times-eq0
 unfolding travel
 returns-then-times-eq0 c =
     picked _ _ _ _ (eq-eqb _ _ c.if-times-eq0.true) c.get.ensures
 
-pub get-requires-2 : goal.get-requires-2
-get-requires-2 c =
-    (c.requires.0.of_times c.if-times-eq0.false, c.requires.1, c.requires.2)
+pub invariant_of-table : goal.invariant_of-table
+invariant_of-table c =
+    record { square = c.requires.0.of_times c.if-times-eq0.false }
 
 pub returns : goal.returns
 unfolding travel

@@ -8,4 +8,4 @@ use Rattle.day_scans.proofs.matrix.is_symmetric.Given as goal
 
 abbrev pub invariant-loop-from : goal.invariant-loop-from
 invariant-loop-from l =
-    (l.from ≤ l.l) × (all_below (mirrored l.l l.distances) l.from ≡ true)
+    (l.from ≤ l.distances.size) × (all_below (mirrored l.distances.size l.distances.entries.now) l.from ≡ true)

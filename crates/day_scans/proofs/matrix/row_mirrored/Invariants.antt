@@ -4,9 +4,9 @@ use mathlib.Core.Path.{◌≡◌}
 use mathlib.Core.Bool.{true}
 use lib.Ieee.{eq}
 use Rattle.tests.specs.All.{all_below}
-use Rattle.day.specs.Matrix.{leg}
+use Rattle.day.specs.Legs.{leg_of}
 use Rattle.day_scans.proofs.matrix.row_mirrored.Given as goal
 
 abbrev pub invariant-loop-to : goal.invariant-loop-to
 invariant-loop-to l =
-    (l.to ≤ l.from) × (all_below (λ k. eq (leg l.l l.distances l.from k) (leg l.l l.distances k l.from)) l.to ≡ true)
+    (l.to ≤ l.from) × (all_below (λ k. eq (leg_of l.distances l.from k) (leg_of l.distances k l.from)) l.to ≡ true)

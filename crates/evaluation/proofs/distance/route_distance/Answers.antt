@@ -13,17 +13,17 @@ returns-in_default c =
 
 pub loop-visit-init : goal.loop-visit-init
 loop-visit-init c = (
-  c.requires.2.below 0 c.in-len1-up.len_at_least,
-  rw (others_are c.args.list.now) (distance_first _ _ _ _ _ (λ h. omega (arith, h, c.in-len1-up.len_at_least)) c.get-distance.ensures),
+  rw c.from-place.ensures (c.requires.1.below 0 c.in-len1-up.len_at_least),
+  rw (c.from-place.ensures, others_are c.args.list.now) (distance_first _ _ _ _ _ (λ h. omega (arith, h, c.in-len1-up.len_at_least)) (rw c.from-place.ensures at c.get-distance.ensures)),
 )
 
 pub get-distance-requires-in-loop-visit : goal.get-distance-requires-in-loop-visit
 get-distance-requires-in-loop-visit c =
-    (c.requires.0, c.loop-visit.invariant.0, other-below _ _ c.requires.2 c.loop-visit-test.true)
+    (c.loop-visit.invariant.0, rw c.from-visit.ensures (other-below _ _ c.requires.1 c.loop-visit-test.true))
 
 pub loop-visit-preserved : goal.loop-visit-preserved
 loop-visit-preserved c =
-    (other-below _ _ c.requires.2 c.loop-visit-test.true, distance_turn _ _ _ _ _ _ _ _ c.loop-visit-test.true c.get-distance-in-loop-visit.ensures ∙ c.loop-visit.invariant.1)
+    (rw c.from-visit.ensures (other-below _ _ c.requires.1 c.loop-visit-test.true), rw c.from-visit.ensures (distance_turn _ _ _ _ _ _ _ _ c.loop-visit-test.true (rw c.from-visit.ensures at c.get-distance-in-loop-visit.ensures) ∙ c.loop-visit.invariant.1))
 
 pub returns : goal.returns
 returns c =

@@ -7,4 +7,4 @@ use Rattle.evaluation.proofs.distance.route_distance.Given as goal
 
 abbrev pub invariant-loop-visit : goal.invariant-loop-visit
 invariant-loop-visit l =
-    (l.place < l.l) × (onward_distance l.l l.distances l.depot (drop l.visit-index l.others) l.distance l.place ≡ route_distance l.l l.distances l.depot l.fn.list)
+    (l.place < l.distances.size) × (onward_distance l.distances.size l.distances.entries.now l.depot (drop l.visit-index l.others) l.distance l.place ≡ route_distance l.distances.size l.distances.entries.now l.depot l.fn.list)

@@ -6,4 +6,4 @@ use Rattle.evaluation.proofs.route.effective_cost.Goals as goal
 pub returns : goal.returns
 unfolding effective_cost eval
 returns c =
-    c.cost_of.ensures ∙ ap cost_of (c.evaluate.ensures ∙ ap (evaluated _) c.outcome_of-outcome.ensures)
+    c.price.ensures ∙ ap (λ o. cost_of (evaluated c.args.limits o)) c.outcome_of-outcome.ensures

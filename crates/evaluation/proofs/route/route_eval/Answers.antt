@@ -1,15 +1,15 @@
 -- `route_eval`: one arm for each case of the break; the clock's end is evaluated.
 use mathlib.Core.Path.{ap, ◌∙◌}
 use Rattle.std.specs.Prelude.{None}
-use Rattle.evaluation.specs.Route.{outcome, evaluated, eval, eval_by}
+use Rattle.evaluation.specs.Route.{unbroken, outcome, evaluated, eval, eval_by}
 use Rattle.evaluation.proofs.route.route_eval.Goals as goal
 
 pub returns-in-None : goal.returns-in-None
-unfolding outcome
+unfolding outcome unbroken
 returns-in-None c =
-    c.unbroken_eval.ensures ∙ eval_by _ _ _ _ None c.in-None.is
+    c.evaluate.ensures ∙ rw (c.home-driven.ensures, c.begin.ensures) (eval_by _ _ _ _ None c.in-None.is)
 
 pub returns-in-Some : goal.returns-in-Some
 unfolding eval
 returns-in-Some c =
-    c.evaluate.ensures ∙ ap (evaluated _) c.outcome_of-outcome.ensures
+    c.evaluate-in-Some.ensures ∙ ap (evaluated _) c.outcome_of-outcome.ensures

@@ -8,4 +8,4 @@ pub returns-in-Some : goal.returns-in-Some
 unfolding of_bits
 returns-in-Some c =
     c.allow.ensures
-    ∙ feasible-unclocked _ _ _ _ _ (sym c.is_clockless.ensures ∙ c.if-is_clockless.true) (sym c.unclocked_distance-free.ensures ∙ c.in-Some.is)
+    ∙ feasible-unclocked _ _ _ _ _ (sym c.is_clockless.ensures ∙ c.if-is_clockless.true) (rw (← c.matrix.ensures.size, ← c.matrix.ensures.entries) (sym c.unclocked_distance-free.ensures ∙ c.in-Some.is))

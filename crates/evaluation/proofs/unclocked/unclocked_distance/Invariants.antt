@@ -7,5 +7,5 @@ use Rattle.evaluation.proofs.unclocked.unclocked_distance.Given as goal
 
 abbrev pub invariant-loop-visit : goal.invariant-loop-visit
 invariant-loop-visit l =
-    (l.visit-index ≤ length l.list) × (l.place < l.l)
-    × (onward_unclocked l.l l.flags l.distances l.depot (drop l.visit-index l.list) l.distance l.place ≡ unclocked l.l l.flags l.distances l.depot l.list)
+    (l.visit-index ≤ length l.list) × (l.place < l.distances.size)
+    × (onward_unclocked l.distances.size l.flags l.distances.entries.now l.depot (drop l.visit-index l.list) l.distance l.place ≡ unclocked l.distances.size l.flags l.distances.entries.now l.depot l.list)

@@ -9,7 +9,7 @@ use Rattle.labels.proofs.label.serve_rested.Goals as goal
 pub returns-then-start-rest : goal.returns-then-start-rest
 unfolding served_rested
 returns-then-start-rest c =
-    picked _ _ _ _ (rw c.later_of-start.ensures at c.if-start-rest.true) refl
+    picked _ _ _ _ (rw c.larger_of-start.ensures.answer at c.if-start-rest.true) refl
 
 pub serve_at-requires : goal.serve_at-requires
 serve_at-requires c =
@@ -18,4 +18,4 @@ serve_at-requires c =
 pub returns : goal.returns
 unfolding served_rested
 returns c =
-    other _ _ _ _ (rw c.later_of-start.ensures at c.if-start-rest.false) (rw (c.rest_here.ensures, c.later_of-start.ensures) at c.serve_at.ensures)
+    other _ _ _ _ (rw c.larger_of-start.ensures.answer at c.if-start-rest.false) (rw (c.rest_here.ensures, c.larger_of-start.ensures.answer) at c.serve_at.ensures)

@@ -1,8 +1,0 @@
--- `best_pair`: before each row the first of the best so far and the rows from here on is the first of all.
-use mathlib.Core.Path.{◌≡◌}
-use Rattle.pairs.specs.Pairs.{first_among, table, rows_from}
-use Rattle.pairs.proofs.best_pair.Given as goal
-
-abbrev pub invariant-loop-from : goal.invariant-loop-from
-invariant-loop-from l =
-    first_among (rows_from l.n l.bound (table l.deltas l.positions l.places) l.from) l.best ≡ first_among (rows_from l.n l.bound (table l.deltas l.positions l.places) 0) l.initial.best
