@@ -1,7 +1,7 @@
 # deepest.awk: reads a disassembly by objdump and prints of each function named planner_.. how many bytes below its return address the stack
 # can go, with all that it calls, whatever the day. The depth before each instruction follows from the one before it and from the jumps to
-# it; all ways have to agree, and a return has to find 0. Where the stack is moved otherwise than by push, pop, and sub and add of a number,
-# where a call isn't by name, or a function can call itself, the run ends with status 1. memcpy and memset are left out.
+# it; all ways have to agree, and a return has to find 0. Where the stack is moved otherwise than by push, pop, sub and add of a number, and a
+# loop that touches a large frame, where a call isn't by name, or a function can call itself, the run ends with status 1. memcpy and memset are left out.
 function max(a, b) { return a > b ? a : b }
 function fail(what) { print "deepest.awk: " what " in " name > "/dev/stderr"; failed = 1; exit 1 }
 
@@ -10,8 +10,24 @@ function whole(digits,    k, value) {
     return value
 }
 
+# A large frame is taken step by step, each step touched: r11 is set to where it ends, by `mov` and `sub` (LLVM) or by `lea` (gcc), and
+# `sub $STEP,%rsp`, a store, `cmp %r11,%rsp` and `jne` back go on until it is reached. Of such a `sub`, how many bytes all steps take, else 0.
+function touches(k,    end) {
+    if (word[k] != "sub" || operand[k] !~ /^\$0x[0-9a-f]+,%rsp$/ || !checks_end(k + 2)) return 0
+    end = operand[k - 1]
+    if (word[k - 1] == "lea" && sub(/^-0x/, "", end) && sub(/\(%rsp\),%r11$/, "", end)) return whole(end)
+    if (word[k - 2] != "mov" || operand[k - 2] != "%rsp,%r11") fail("steps to no end that is known")
+    if (word[k - 1] != "sub" || !sub(/^\$0x/, "", end) || !sub(/,%r11$/, "", end)) fail("steps to no end that is known")
+    return whole(end)
+}
+
+# The comparison and the jump that close such a loop.
+function checks_end(k) { return word[k] == "cmp" && operand[k] == "%r11,%rsp" && word[k + 1] == "jne" }
+
 # How many bytes deeper the stack is behind instruction k.
 function moved(k,    number) {
+    if (touches(k)) return touches(k)
+    if (checks_end(k)) return 0
     if (word[k] == "push") return 8
     if (word[k] == "pop") return -8
     if (word[k] == "leave" || word[k] == "enter") fail(word[k])
@@ -36,7 +52,7 @@ function follow(    k, bytes) {
         for (k = 1; k <= count; k++) {
             if (!(k in depth)) continue
             bytes = depth[k] + moved(k)
-            if (word[k] ~ /^j/ && operand[k] in place) arrive(place[operand[k]], bytes)
+            if (word[k] ~ /^j/ && operand[k] in place && !checks_end(k - 1)) arrive(place[operand[k]], bytes)
             if (word[k] == "jmp" && operand[k] ~ /^\*/) table = bytes
             if (word[k] != "jmp" && word[k] != "ret" && k < count) arrive(k + 1, bytes)
             if (word[k] == "ret" && depth[k] != 0) fail("a return at depth " depth[k])

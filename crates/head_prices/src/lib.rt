@@ -13,7 +13,8 @@ use evaluation::route::{effective_cost, price};
 use heads::Head;
 use labels::columns::Columns;
 
-// What a list costs, the visits behind its head given.
+// What a list costs, the visits behind its head given. Compiled into the searches: called, it takes tail exchange 1.3 times the instructions.
+#[inline(always)]
 pub fn price_from(
     columns: &Columns,
     limits: RouteLimits,

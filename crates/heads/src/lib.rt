@@ -89,7 +89,8 @@ pub fn drive(columns: &Columns, start: Head, list: &[u16], from: usize, to: usiz
     }
 }
 
-// The head of at most so many visits. It ends before a visit that can't be served.
+// The head of at most so many visits. It ends before a visit that can't be served. Compiled into the searches, as `drive` is.
+#[inline(always)]
 pub fn reach(
     columns: &Columns,
     rest: Option<VehicleBreak>,

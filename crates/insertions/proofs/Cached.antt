@@ -1,8 +1,8 @@
 -- The cache: something noted, or what is known of one list changed, and the rest stays; so what is known of the other lists stays right, and what is known
 -- of a list that lost or got a visit is right again after it was brought up to date. Assumes nothing.
-use mathlib.Core.Path.{◌≡◌, refl}
+use mathlib.Core.Path.{◌≡◌, refl, ◌∙◌}
 use mathlib.Core.Logic.{◌≢◌}
-use mathlib.Core.List.{List, []}
+use mathlib.Core.List.{List, [], ◌∷◌}
 use Prim.Native.Nat.{ℕ, zero, suc, ◌+◌, ◌≤◌, ◌<◌}
 use native.Mathlib.Omega.{arith}
 use native.Mathlib.Decide.{ℕ_discrete}
@@ -24,6 +24,20 @@ pub nan_anywhere : (x : Float) → x ≡ nan → (n k : ℕ) → get_or (replica
 nan_anywhere x e zero k = refl
 nan_anywhere x e (suc n) zero = e
 nan_anywhere x e (suc n) (suc k) = nan_anywhere x e n k
+
+-- a table that is cleared: one figure more, and all of them
+pub nan_more : (xs : List Float) (i : ℕ) (x : Float) → x ≡ nan → i < length xs → ((k : ℕ) → k < i → get_or xs k nan ≡ nan)
+    → (k : ℕ) → k < i + 1 → get_or (set xs i x) k nan ≡ nan
+nan_more xs i x e h before k below = go (ℕ_discrete k i)
+  where
+    go : Dec (k ≡ i) → get_or (set xs i x) k nan ≡ nan
+    go (yes same) = rw same (get_or-set_same xs i x nan h ∙ e)
+    go (no other) = get_or-set_other xs i k x nan other ∙ before k (omega (arith, below, other))
+
+pub nan_all : (xs : List Float) → ((k : ℕ) → k < length xs → get_or xs k nan ≡ nan) → (k : ℕ) → get_or xs k nan ≡ nan
+nan_all [] h k = refl
+nan_all (x ∷ xs) h zero = h 0 (omega arith)
+nan_all (x ∷ xs) h (suc k) = nan_all xs (λ j below. h (suc j) (omega arith)) k
 
 -- two cells are one where visit and list are
 pub apart : (v s u r : ℕ) → s < 16 → r < 16 → (v ≡ u → s ≡ r → ⊥) → cell v s ≢ cell u r

@@ -6,7 +6,8 @@
 
 #![tactic(auto)]
 
-ghost use Rattle.std.specs.Prelude.{◌≡◌, ℕ, ◌+◌, ◌≤◌, ◌<◌, T, length};
+ghost use Rattle.std.specs.Prelude.{◌≡◌, ℕ, ◌+◌, ◌≤◌, ◌<◌, T, length, replicate};
+ghost use Rattle.numbers.specs.Operations.{zero64};
 ghost use Rattle.std.specs.Float.{nan};
 ghost use Rattle.std.specs.Float.Ieee.Scale.{finite};
 ghost use Rattle.day.specs.Legs.{leg_of};
@@ -181,9 +182,29 @@ impl Insertions {
     pub fn new() -> Insertions
         ensures { (visit list : ℕ) → (known_at result visit list).figure ≡ nan }
     {
+        let mut cache = Insertions::zeros();
+        cache.forget_all();
+        cache
+    }
+
+    // Tables of zeros, in which `forget_all` comes before anything is read. In two steps where the tables are large for the stack: made by value, a table of
+    // NaN, which is no row of equal bytes, is copied on its way to the caller.
+    pub fn zeros() -> Insertions
+        ensures { (result.figures ≡ replicate 1024 zero64) × (result.places ≡ replicate 1024 0) }
+    {
         Insertions {
-            figures: [unknown(); 1024],
+            figures: [0.0; 1024],
             places: [0; 1024],
+        }
+    }
+
+    // Forgets what is known.
+    pub fn forget_all(&mut self)
+        requires { length self.old.figures ≡ 1024 }
+        ensures { (visit list : ℕ) → (known_at self.new visit list).figure ≡ nan }
+    {
+        for i in 0..1024 {
+            self.figures[i] = unknown();
         }
     }
 

@@ -117,7 +117,8 @@ pub fn relocate_improve(
         needed,
         pruning,
     };
-    let mut cache = Insertions::new();
+    let mut cache = Insertions::zeros();
+    cache.forget_all();
     let mut engine = DeltaSearch {
         setup,
         columns,

@@ -20,6 +20,8 @@ use sample_day::SampleDay;
 use std::io;
 use std::io::Read;
 
+// Called and not compiled into its callers, so that the stack has the tables of one kind at a time.
+#[inline(never)]
 fn line<F: Fn(Run, &SampleDay) -> Option<bool>>(
     rt: &impl Print,
     data: &[u8],

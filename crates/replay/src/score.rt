@@ -63,7 +63,8 @@ fn of_day<F: Fn(Run, &SampleDay) -> Option<bool>>(
 {
     let day = day_bytes(bytes)?;
     let words = day.words;
-    let columns = DayColumns::of(words, &day.locations)?;
+    let mut columns = DayColumns::unread(&day.locations);
+    columns.read(words, &day.locations)?;
     let visits = columns::places(day.visits)?;
     let lengths = columns::places(day.lengths)?;
     let sample = SampleDay {

@@ -1,6 +1,6 @@
 -- One place: what a reversal keeps, and that the code's two tests, of the delta and of the list turned round, are the definition's one. Assumes nothing.
-use mathlib.Core.Path.{◌≡◌, sym, ap, ◌∙◌}
-use mathlib.Core.Bool.{Bool, true, false}
+use mathlib.Core.Path.{◌≡◌, refl, sym, ap, ◌∙◌}
+use mathlib.Core.Bool.{Bool, true, false, ◌&&◌, ◌||◌}
 use mathlib.Core.List.{List}
 use Prim.Native.Nat.{ℕ, ◌+◌, ◌<◌}
 use native.Mathlib.Omega.{arith}
@@ -9,13 +9,18 @@ use lib.ListN.{length}
 use lib.Dec.{ltb}
 use lib.Ieee.{Float}
 use borrow.Author.Tests.{lt-ltb, ltb-true}
+use Rattle.std.specs.Prelude.{Some}
 use Rattle.numbers.specs.Floor.{counts}
 use Rattle.tests.specs.All.{stop, go}
-use Rattle.day.specs.Matrix.{leg, Square}
+use Rattle.day.specs.Matrix.{leg}
+use Rattle.day.specs.Customer.{has_time_windows}
+use Rattle.day.specs.Vehicle.{is_unlimited}
+use Rattle.day.specs.declared.vehicle.VehicleBreak.{VehicleBreak}
 use Rattle.edits.specs.Edits.{reversed}
 use Rattle.edits.proofs.Kept.{same_reversed, same_each, length-reversed}
 use Rattle.edits.proofs.Turns.{reversed_twice}
 use Rattle.labels.specs.Columns.{Columns, Visits}
+use Rattle.evaluation.specs.Route.{checks_needed}
 use Rattle.descent.specs.Search.{ok}
 use Rattle.descent.specs.Within.{turned}
 use Rattle.deltas.specs.Deltas.{Marked, Listed, two_opt_delta}
@@ -43,6 +48,20 @@ turned-visits l xs p h v = record {
 pub turned_back : (xs ys zs : List ℕ) (p : Place) → p.first < p.last → p.last < length xs → ys ≡ turned_at xs p → zs ≡ turned_at ys p → zs ≡ xs
 turned_back xs ys zs p h k once twice =
     twice ∙ ap (λ (l : List ℕ). turned_at l p) once ∙ reversed_twice p.first (p.last + 1) xs (omega arith) (omega arith)
+
+-- a van with a break has its lists checked
+none_set : (a b : Bool) → a && (b && false) ≡ false
+none_set true true = refl
+none_set true false = refl
+none_set false b = refl
+
+or_so : (a : Bool) → a || true ≡ true
+or_so true = refl
+or_so false = refl
+
+pub break_checked : (c : Columns) (t : Terms) (pause : VehicleBreak) → Worked c t → t.limits.rest ≡ Some pause → t.needed ≡ true
+unfolding checks_needed is_unlimited
+break_checked c t pause w e = w.needed ∙ rw (e, none_set) (or_so (has_time_windows c.flags))
 
 -- what the delta asks
 pub delta_asks : (c : Columns) (t : Terms) (xs : List ℕ) → Worked c t → Visits c.l xs
