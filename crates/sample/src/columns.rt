@@ -1,5 +1,5 @@
 // The parts of a day and of a fleet as tables to lend: each has an entry a byte.
-ghost use Rattle.std.specs.Prelude.{◌≡◌, ◌<◌, length, MatchOption};
+ghost use Rattle.std.specs.Prelude.{◌≡◌, ◌+◌, ◌<◌, length, MatchOption, IfSome};
 ghost use Rattle.arrayvec.specs.ArrayVec.{array_vec_len};
 
 use crate::layout::{DayBytes, LocationBytes};
@@ -7,6 +7,22 @@ use arrayvec::ArrayVec;
 use day::day::Day;
 use day::vehicle::Van;
 use sample_bytes::Words;
+
+// Puts an entry for each byte behind those of a column; nothing where it has no room for them all.
+fn read_into<T: Default + Drop, const N: usize, F: Fn(u8) -> T>(
+    column: &mut ArrayVec<T, N>,
+    bytes: &[u8],
+    entry: F,
+) -> Option<()>
+    requires { F.IsAlwaysCallable entry }
+    ensures { let all = array_vec_len column.old + length bytes.now
+        in MatchOption result (N < all) (λ done. array_vec_len column.new ≡ all) }
+{
+    for &byte in bytes {
+        column.try_push(entry(byte)).ok()?;
+    }
+    Some(())
+}
 
 // An entry for each byte, nothing where there are more than `N`.
 fn column<T: Default + Drop, const N: usize, F: Fn(u8) -> T>(
@@ -17,9 +33,7 @@ fn column<T: Default + Drop, const N: usize, F: Fn(u8) -> T>(
     ensures { MatchOption result (N < length bytes.now) (λ column. array_vec_len column ≡ length bytes.now) }
 {
     let mut column = ArrayVec::new();
-    for &byte in bytes {
-        column.try_push(entry(byte)).ok()?;
-    }
+    read_into(&mut column, bytes, entry)?;
     Some(column)
 }
 
@@ -116,18 +130,51 @@ pub struct DayColumns<'a> {
 }
 
 impl<'a> DayColumns<'a> {
+    ghost use Rattle.sample.specs.Columns.{Unread, Read};
+
     pub fn of(words: Words, bytes: &LocationBytes<'a>) -> Option<DayColumns<'a>> {
-        Some(DayColumns {
+        let mut columns = DayColumns::unread(bytes);
+        columns.read(words, bytes)?;
+        Some(columns)
+    }
+
+    // The size and the flags; the other columns have no entry yet. With `read` this is `of` in the caller's own place, where an Option of the columns, 67 KB,
+    // would be copied on the stack.
+    pub fn unread(bytes: &LocationBytes<'a>) -> DayColumns<'a>
+        ensures { Unread bytes.now result }
+    {
+        DayColumns {
             locations: bytes.count,
             flags: bytes.flags,
-            demand: demands(words, bytes.demand)?,
-            service: numbers(words, bytes.service)?,
-            ready: numbers(words, bytes.ready)?,
-            due: numbers(words, bytes.due)?,
-            penalty: numbers(words, bytes.penalty)?,
-            distances: numbers(words, bytes.distances)?,
-            times: numbers(words, bytes.times)?,
-        })
+            demand: ArrayVec::new(),
+            service: ArrayVec::new(),
+            ready: ArrayVec::new(),
+            due: ArrayVec::new(),
+            penalty: ArrayVec::new(),
+            distances: ArrayVec::new(),
+            times: ArrayVec::new(),
+        }
+    }
+
+    // Reads the columns that have no entry yet.
+    pub fn read(&mut self, words: Words, bytes: &LocationBytes) -> Option<()>
+        ensures { IfSome result (λ done. Read bytes.now self.old self.new) }
+    {
+        read_into(
+            &mut self.demand,
+            bytes.demand,
+            |byte| signed(words.value(byte)),
+        )?;
+        read_into(&mut self.service, bytes.service, |byte| words.number(byte))?;
+        read_into(&mut self.ready, bytes.ready, |byte| words.number(byte))?;
+        read_into(&mut self.due, bytes.due, |byte| words.number(byte))?;
+        read_into(&mut self.penalty, bytes.penalty, |byte| words.number(byte))?;
+        read_into(
+            &mut self.distances,
+            bytes.distances,
+            |byte| words.number(byte),
+        )?;
+        read_into(&mut self.times, bytes.times, |byte| words.number(byte))
     }
 
     // The day as it is lent.

@@ -8,3 +8,4 @@ pub mod layout; // the parts of a day, and its runs
 pub mod columns; // the parts of a day and of a fleet as tables to lend
 pub mod whole; // whether the file has the stored form
 pub mod stored; // what a run has stored
+pub mod padded; // the same with zeros behind the bytes, so that nothing fails

@@ -2,6 +2,8 @@
 
 #![tactic(auto)]
 
+pub mod padded; // the bytes by position, zeros behind them
+
 ghost use Rattle.std.specs.Prelude.{◌≡◌, ◌≤◌, ◌<◌, ◌++◌, ◌∷◌, ◌==◌, ◌/◌, length, take, drop, not, MatchOption, IfSome};
 ghost use Rattle.sample_bytes.specs.Words.{is_known, is_number, value, float, number};
 ghost use Rattle.std.specs.Float.{binary64};
