@@ -9,6 +9,7 @@ ghost use Rattle.neighbours.specs.Numbers.{reconnected};
 use crate::Neighbourhood;
 use layouts::{Layout, nth_way, reconnection};
 
+#[derive(Clone, Copy)]
 pub struct Reconnect;
 
 // Cut behind the visits i, j and k, and reconnected in one of the seven ways, 0 to 6.

@@ -10,6 +10,7 @@ ghost use Rattle.neighbours.specs.Numbers.{moved};
 use crate::Neighbourhood;
 use layouts::{EXCHANGED, Layout};
 
+#[derive(Clone, Copy)]
 pub struct Relocate;
 
 // So many visits, from which place on, and before the visit at which place of the original list they go.

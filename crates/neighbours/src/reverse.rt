@@ -9,6 +9,7 @@ ghost use Rattle.neighbours.specs.Numbers.{turned};
 use crate::Neighbourhood;
 use layouts::{Layout, reversal};
 
+#[derive(Clone, Copy)]
 pub struct Reverse;
 
 // The visits from the first to the last turned round.
