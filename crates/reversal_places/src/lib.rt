@@ -3,7 +3,7 @@
 
 #![tactic(auto)]
 
-ghost use Rattle.std.specs.Prelude.{◌≡◌, true, cond, ◌<◌, length};
+ghost use Rattle.std.specs.Prelude.{◌≡◌, cond, ◌<◌, length};
 ghost use Rattle.labels.specs.Columns.{Visits};
 ghost use Rattle.labels.specs.Lent.{lent};
 ghost use Rattle.reversal_places.specs.Places.{Worked, Shared, place_after, turned_passes, gains, turned_at};
@@ -11,8 +11,6 @@ ghost use Rattle.reversal_places.specs.Places.{Worked, Shared, place_after, turn
 use day::vehicle::RouteLimits;
 use deltas_within::two_opt_delta;
 use edits::reverse;
-use evaluation::clocked::is_allowed;
-use evaluation::route::outcome_of;
 use heads::Head;
 use labels::columns::Columns;
 use layouts::{laid_passes, reversal};
@@ -73,29 +71,6 @@ fn turn(terms: Terms, columns: &Columns, list: &mut [u16], head: Head, place: Pl
     laid
 }
 
-// The same with a break to take, which leaves no head to share: the list is turned round, checked, and turned back where it doesn't pass.
-// One function for both, which builds the candidate (`turn`), took 1.2 of the Rust's time with a break; this one takes .7 to .9.
-fn turn_broken(terms: Terms, columns: &Columns, list: &mut [u16], place: Place) -> bool
-    requires worked { Worked (lent columns.now) terms × Visits columns.now.locations list.old }
-    requires first_lt_last { (place.first < place.last) × (place.last < length list.old) }
-    requires needed_value { terms.needed ≡ true }
-    ensures value { result ≡ turned_passes (lent columns.now) terms list.old place }
-    ensures list_after { list.new ≡ cond result (turned_at list.old place) list.old }
-{
-    let depot = terms.depot;
-    let limits = terms.limits;
-    let first = place.first;
-    let end = place.last + 1;
-    reverse(list, first, end);
-    let rest = limits.rest;
-    let outcome = outcome_of(columns, rest, depot, list);
-    let passed = is_allowed(limits, outcome);
-    if !passed {
-        reverse(list, first, end);
-    }
-    passed
-}
-
 // Reverses the visits of a place where that gains and the result passes, and says whether it did.
 pub fn try_reversal(
     terms: Terms,
@@ -118,9 +93,5 @@ pub fn try_reversal(
     if !gains {
         return false;
     }
-    let limits = terms.limits;
-    match limits.rest {
-        None => turn(terms, columns, list, head, place),
-        Some(_) => turn_broken(terms, columns, list, place),
-    }
+    turn(terms, columns, list, head, place)
 }

@@ -25,18 +25,12 @@ fn first_move(terms: Terms, columns: &Columns, list: &mut [u16], start: Place) -
     let n = list.len();
     let limits = terms.limits;
     let rest = limits.rest;
+    // With a break to take no head is shared, and none is driven.
+    let shares = terms.needed && rest.is_none();
     let mut head = at_depot(terms.depot);
     let mut place = start;
     while place.last < n {
-        head = head_up_to(
-            terms.needed,
-            columns,
-            rest,
-            terms.depot,
-            list,
-            head,
-            place.first,
-        );
+        head = head_up_to(shares, columns, rest, terms.depot, list, head, place.first);
         if try_reversal(terms, columns, list, head, place) {
             return Some(place);
         }

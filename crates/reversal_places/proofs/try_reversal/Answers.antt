@@ -1,7 +1,7 @@
 -- `try_reversal`: the delta is tested first; where it counts, the check of the list turned round decides.
 use native.Mathlib.Omega.{arith}
 use mathlib.Core.Path.{refl}
-use Rattle.reversal_places.proofs.Tried.{delta_asks, no_gain, checked, break_checked}
+use Rattle.reversal_places.proofs.Tried.{delta_asks, no_gain, checked}
 use Rattle.reversal_places.proofs.try_reversal.Goals as goal
 
 pub two_opt_delta-delta-requires-clause-listed : goal.two_opt_delta-delta-requires-clause-listed
@@ -21,16 +21,7 @@ pub returns-then-not-gains-clause-list_after : goal.returns-then-not-gains-claus
 returns-then-not-gains-clause-list_after c =
     refl
 
-pub turn_broken-requires-clause-needed_value : goal.turn_broken-requires-clause-needed_value
-turn_broken-requires-clause-needed_value c =
-    break_checked _ _ _ c.requires.worked.0 c.in-Some.is
-
-pub returns-in-None-clause-value : goal.returns-in-None-clause-value
-returns-in-None-clause-value c =
+pub returns-clause-value : goal.returns-clause-value
+returns-clause-value c =
     checked _ _ c.requires.worked.0 _ c.args.place _ (rw (← c.matrix.ensures.size, ← c.matrix.ensures.entries) c.two_opt_delta-delta.ensures) _ c.counts_as_gain-gains.ensures.answer
     (c.if-not-gains.false) _ c.turn.ensures.value
-
-pub returns-in-Some-clause-value : goal.returns-in-Some-clause-value
-returns-in-Some-clause-value c =
-    checked _ _ c.requires.worked.0 _ c.args.place _ (rw (← c.matrix.ensures.size, ← c.matrix.ensures.entries) c.two_opt_delta-delta.ensures) _ c.counts_as_gain-gains.ensures.answer
-    (c.if-not-gains.false) _ c.turn_broken.ensures.value
