@@ -82,7 +82,7 @@ pub fn depots(words: Words, bytes: &[u8]) -> Option<ArrayVec<usize, 64>>
     column(bytes, |byte| words.value(byte) as usize)
 }
 
-// The van of a day, none where it has fewer bytes.
+// The van of a day, none unless it has eleven bytes.
 pub fn van(words: Words, bytes: &[u8]) -> Option<Van> {
     let &[
         id,
